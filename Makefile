@@ -1,0 +1,11 @@
+# make run: the reader on a shipped example. make test: the gate.
+.PHONY: run test
+
+run: target/bin/inspect
+	target/bin/inspect < examples/supplier.blocks
+
+target/bin/inspect: crates.txt $(shell find crates/base crates/blocks crates/inspect -type f)
+	rt check inspect
+
+test:
+	bash .ci/run

@@ -1,0 +1,5 @@
+pub mod Tests
+pub mod Range
+pub mod Stores
+pub mod Lists
+pub mod Split

@@ -1,0 +1,63 @@
+-- The frame of a block: where its entries stand, and which rows of the table of refusals it breaks.
+-- Assumes nothing.
+use Prim.Native.Nat.{ℕ, suc, _+_, _*_, _-_, _/_, _%_}
+use mathlib.Core.Bool.{Bool, true, false, not, cond, _&&_, _||_}
+use mathlib.Core.List.{List}
+use lib.ListN.{length, getD}
+use lib.Dec.{eqb, leb, ltb}
+use Rattle.base.specs.Range.{all}
+use Rattle.blocks.specs.Words.{wordAt, checkOf}
+
+-- What block formats may differ in: the bytes of an entry, the entries that a block has room for, the word due in bytes
+-- 508-509 of the block at an offset, and the row of the table that another word there breaks.
+pub record Frame : Type 0 where
+  pub width : ℕ
+  pub room : ℕ
+  pub second : List ℕ → ℕ → ℕ
+  pub secondRow : ℕ
+
+-- "Bytes 4-507: 63 entries of 8 bytes. Bytes 508-509: zero."
+abbrev pub plain : Frame
+plain = record { width = 8; room = 63; second = λ s at. 0; secondRow = 3 }
+
+-- whole blocks of 512 bytes
+unfoldable pub blocksIn : List ℕ → ℕ
+blocksIn s = length s / 512
+
+-- "Bytes 2-3: entries used", of block i, counted from 0
+unfoldable pub usedIn : List ℕ → ℕ → ℕ
+usedIn s i = wordAt s (512 * i + 2)
+
+-- the byte at an index is zero
+unfoldable pub zeroAt : List ℕ → ℕ → Bool
+zeroAt s k = eqb (getD s k 0) 0
+
+module _ (F : Frame) where
+  -- "Entries count from 1 over all blocks": the offset of entry n
+  unfoldable pub entryPos : ℕ → ℕ
+  entryPos n = 512 * ((n - 1) / F .room) + 4 + F .width * ((n - 1) % F .room)
+
+  -- the entries of an input: every block but the last is full
+  unfoldable pub totalIn : List ℕ → ℕ
+  totalIn s = F .room * (blocksIn s - 1) + usedIn s (blocksIn s - 1)
+
+  -- "Each block but the last uses 63 entries; the last uses 1 to 63, or 0 if it is the only block": of block i of n
+  unfoldable pub usedOk : ℕ → ℕ → ℕ → Bool
+  usedOk n i used = cond (ltb (suc i) n) (eqb used (F .room)) (leb used (F .room) && (ltb 0 used || eqb n 1))
+
+  -- "Unused entry bytes are zero", of block i
+  unfoldable pub restZero : List ℕ → ℕ → Bool
+  restZero s i = all (zeroAt s) (512 * i + 4 + F .width * usedIn s i) (F .width * F .room - F .width * usedIn s i)
+
+  -- the word in bytes 508-509 is the one due
+  unfoldable pub secondOk : List ℕ → ℕ → Bool
+  secondOk s i = eqb (wordAt s (512 * i + 508)) (F .second s (512 * i))
+
+  -- row 2, "a check is wrong": block i
+  unfoldable pub checkWrong : List ℕ → ℕ → Bool
+  checkWrong s i = not (eqb (wordAt s (512 * i + 510)) (checkOf s (512 * i))) || (eqb (F .secondRow) 2 && not (secondOk s i))
+
+  -- row 3, "block number, used count or a byte due to be zero in frame or unused entries is wrong": block i of n
+  unfoldable pub frameWrong : List ℕ → ℕ → ℕ → Bool
+  frameWrong s n i =
+      not (eqb (wordAt s (512 * i)) (suc i)) || (not (usedOk n i (usedIn s i)) || ((eqb (F .secondRow) 3 && not (secondOk s i)) || not (restZero s i)))

@@ -1,0 +1,43 @@
+-- The steps of the passes over blocks and entries, as the code takes them. No public promise names them: proofs/ ties them to
+-- the table of refusals and to the encoding.
+-- Assumes nothing.
+use Prim.Native.Nat.{_*_, _+_, _-_, _/_, min, suc, zero, ℕ}
+use lib.Dec.{eqb, ltb}
+use lib.ListN.{getD, length}
+use mathlib.Core.Bool.{cond}
+use mathlib.Core.List.{List}
+use Rattle.blocks.specs.Entries.{formOk, nth, owningKind}
+use Rattle.blocks.specs.Faults.{lengthWrong}
+use Rattle.blocks.specs.Frame.{checkWrong, frameWrong, plain}
+use Rattle.blocks.specs.Owners.{depthOf}
+use Rattle.blocks.specs.declared.Entry.{Entry}
+use Rattle.blocks.specs.declared.Schema.{Schema}
+
+-- the row that block i of n breaks, 2 before 3, or 0
+unfoldable pub blockRow : List ℕ → ℕ → ℕ → ℕ
+blockRow s n i = cond (checkWrong plain s i) 2 (cond (frameWrong plain s n i) 3 0)
+
+-- the entries that block i uses, of `count`
+unfoldable pub usedFor : ℕ → ℕ → ℕ
+usedFor count i = min 63 (count - 63 * i)
+
+-- the blocks of an input whose length row 1 allows, or 0
+unfoldable pub blocksRead : Schema → List ℕ → ℕ
+blocksRead σ s = cond (lengthWrong σ s) 0 (length s / 512)
+
+-- The level of an owner: 0 where it may own nothing, else one more than the depth of what it owns. The top's is 1.
+unfoldable pub levelOf : Schema → List Entry → ℕ → ℕ
+levelOf σ es zero = 1
+levelOf σ es (suc k) = cond (eqb (nth es (suc k) .kind) (owningKind σ)) (2 + depthOf es (suc k)) 0
+
+-- the level of owner o of entry n, from a table of the levels of the entries before n
+unfoldable pub levelBy : List ℕ → ℕ → ℕ → ℕ
+levelBy t n o = cond (ltb o n) (getD t o 0) 0
+
+-- the row that an entry breaks whose owner has level l, 4 before 5 before 6, or 0
+unfoldable pub entryRow : Schema → Entry → ℕ → ℕ
+entryRow σ e l = cond (formOk σ e) (cond (eqb l 0) 5 (cond (ltb 33 l) 6 0)) 4
+
+-- the level of an entry of this kind whose owner has level l
+unfoldable pub levelUnder : Schema → ℕ → ℕ → ℕ
+levelUnder σ kind l = cond (eqb kind (owningKind σ)) (l + 1) 0

@@ -1,0 +1,55 @@
+// Blocks: the laboratory's own format. Bytes are read as entries, by number and straight from the lent blocks, or refused by
+// the first row of the table of refusals that applies; and entries are written as blocks. Nothing here knows what an entry
+// says of an item.
+//
+// The contracts cite specs/: Words, Frame, Entries, Owners, Faults, Reading and Encoding. What those definitions mean together,
+// as that reading undoes writing, is proved in proofs/.
+mod entries;
+mod frame;
+mod reader;
+mod rules;
+mod words;
+mod writer;
+
+pub use entries::nth_entry;
+pub use entries::pack;
+pub use reader::read;
+pub use reader::read_description;
+pub use reader::read_specimen;
+pub use words::byte;
+pub use words::word;
+pub use writer::blocks_for;
+pub use writer::write_entries;
+
+// A property's number. Properties and links are numbered apart, so each has a type of its own.
+pub struct Property(pub u16);
+
+// A link's number: a role of the description logic.
+pub struct Link(pub u16);
+
+// An entry as it stands in a block; `reserved` is the byte that is always zero in an accepted input.
+pub struct Entry {
+    pub kind: u8,
+    pub reserved: u8,
+    pub owner: u16,
+    pub name: u16,
+    pub number: u16,
+}
+
+// Which table of kinds, and which limit of length, an input is read by.
+pub enum Schema {
+    Description,
+    Specimen,
+}
+
+// What a search for faults finds: none, or the refusal's number and the place, a block or an entry counted from 1.
+pub enum Finding {
+    Clean,
+    Faulty(u8, u16),
+}
+
+// What reading an input answers: its number of entries, or the refusal's number, the input and the place.
+pub enum Reading {
+    Accepted(u16),
+    Refused(u8, u16, u16),
+}

@@ -1,0 +1,166 @@
+//! Finite records and fitting, straight from the section "Records and
+//! fitting". Records here may be of any size and shape.
+
+use std::collections::{BTreeMap, BTreeSet};
+
+use crate::blocks::Entry;
+use crate::reading::MOST_DEPTH;
+use crate::tree::{Link, Property};
+
+/// "A finite record is a finite set of items, for each property the set of
+/// items that have it, for each link a set of ordered pairs."
+///
+/// The items are the numbers from 0 up to but not including `items`.
+#[derive(Clone, Debug, Default, PartialEq, Eq)]
+pub struct Record {
+    /// The number of items.
+    pub items: usize,
+    /// For each property the set of items that have it.
+    pub properties: BTreeMap<Property, BTreeSet<usize>>,
+    /// For each link a set of ordered pairs.
+    pub links: BTreeMap<Link, BTreeSet<(usize, usize)>>,
+}
+
+impl Record {
+    /// A record of this many items without properties and links.
+    pub fn of_items(items: usize) -> Record {
+        Record {
+            items,
+            ..Record::default()
+        }
+    }
+
+    /// Gives an item a property; an item that is not in the record is passed
+    /// over.
+    pub fn add_property(&mut self, property: Property, item: usize) {
+        if item < self.items {
+            self.properties.entry(property).or_default().insert(item);
+        }
+    }
+
+    /// Links an item to an item; items that are not in the record are passed
+    /// over.
+    pub fn add_link(&mut self, link: Link, from: usize, to: usize) {
+        if from < self.items && to < self.items {
+            self.links.entry(link).or_default().insert((from, to));
+        }
+    }
+
+    /// Whether the item has the property.
+    pub fn has(&self, item: usize, property: Property) -> bool {
+        self.properties
+            .get(&property)
+            .is_some_and(|items| items.contains(&item))
+    }
+
+    /// The different items that the item is linked to by the link.
+    pub fn linked(&self, item: usize, link: Link) -> impl Iterator<Item = usize> + '_ {
+        self.links
+            .get(&link)
+            .into_iter()
+            .flat_map(move |pairs| pairs.range((item, 0)..=(item, usize::MAX)))
+            .map(|&(_, to)| to)
+    }
+}
+
+/// Whether the item fits the place of this owner in the description that has
+/// these entries.
+///
+/// "An item fits a place of a description if it meets each entry there".
+///
+/// The entries are those of an accepted description. Entries whose owner is
+/// not earlier, and entries deeper than 32 below the given owner, are not
+/// looked at; an accepted description has none.
+pub fn fits(record: &Record, item: usize, entries: &[Entry], owner: u16) -> bool {
+    fits_within(record, item, entries, owner, MOST_DEPTH.saturating_add(1))
+}
+
+/// As `fits`, for this many further depths.
+fn fits_within(record: &Record, item: usize, entries: &[Entry], owner: u16, depths: usize) -> bool {
+    let Some(depths) = depths.checked_sub(1) else {
+        return true;
+    };
+    (1..=u16::MAX)
+        .zip(entries)
+        .filter(|&(number, entry)| entry.owner == owner && number > owner)
+        .all(|(number, entry)| meets(record, item, entries, number, entry, depths))
+}
+
+/// Whether the item meets the entry with this number.
+fn meets(
+    record: &Record,
+    item: usize,
+    entries: &[Entry],
+    number: u16,
+    entry: &Entry,
+    depths: usize,
+) -> bool {
+    let property = Property(entry.name);
+    let link = Link(entry.name);
+    // "At least and at most count different items linked to."
+    let count = || record.linked(item, link).count();
+    match entry.kind {
+        1 => record.has(item, property),
+        2 => !record.has(item, property),
+        3 => count() >= usize::from(entry.number),
+        4 => count() <= usize::from(entry.number),
+        // "it meets an 'every' entry if each item linked by that link fits
+        // the place this entry owns"
+        5 => record
+            .linked(item, link)
+            .all(|to| fits_within(record, to, entries, number, depths)),
+        _ => false,
+    }
+}
+
+/// The record of an accepted specimen, item by item; the top item is item 0.
+///
+/// "A specimen is a record: one top item, and for each group that many
+/// different items. Each item of the owner is linked to each item of the
+/// group. An item has the properties owned by its group (top: owner 0) and no
+/// others."
+///
+/// The record has one pair for each two linked items, so this is for
+/// specimens with small counts. Entries whose owner is not earlier or not a
+/// group add nothing.
+pub fn specimen_record(entries: &[Entry]) -> Record {
+    let groups = items_of_groups(entries);
+    let total = groups.iter().map(Vec::len).fold(0, usize::saturating_add);
+    let mut record = Record::of_items(total);
+    for (number, entry) in (1..).zip(entries) {
+        let none = Vec::new();
+        let owner = usize::from(entry.owner);
+        let owner_items = if owner < number {
+            groups.get(owner)
+        } else {
+            None
+        };
+        for &item in owner_items.unwrap_or(&none) {
+            if entry.kind == 1 {
+                record.add_property(Property(entry.name), item);
+            }
+            for &to in groups.get(number).unwrap_or(&none) {
+                record.add_link(Link(entry.name), item, to);
+            }
+        }
+    }
+    record
+}
+
+/// The items of the top, then of each entry; entries other than groups have
+/// none.
+fn items_of_groups(entries: &[Entry]) -> Vec<Vec<usize>> {
+    let mut groups = vec![vec![0]];
+    let mut next: usize = 1;
+    for entry in entries {
+        let count = if entry.kind == 7 {
+            usize::from(entry.number).saturating_add(1)
+        } else {
+            0
+        };
+        let end = next.saturating_add(count);
+        groups.push((next..end).collect());
+        next = end;
+    }
+    groups
+}

@@ -1,0 +1,49 @@
+//! Refusals.
+
+/// What a refused call returns.
+///
+/// "A place counts blocks or entries of that input from 1 by position, not
+/// by a stored number. A refusal also returns the input (1 or 2; 0 for
+/// number 7)."
+#[derive(Clone, Copy, Debug, PartialEq, Eq)]
+pub struct Refusal {
+    /// The number in the first column of the table of refusals, 1 to 7.
+    pub number: u8,
+    /// The input that is refused: 1 or 2, or 0 for number 7.
+    pub input: u16,
+    /// The block or entry that decides, or 0 for numbers 1 and 7.
+    pub place: u32,
+}
+
+/// "input length 0, no multiple of 512, or over the limit"
+pub(crate) const LENGTH: u8 = 1;
+/// "a check is wrong"
+pub(crate) const CHECK: u8 = 2;
+/// "block number, used count or a byte due to be zero in frame or unused
+/// entries is wrong"
+pub(crate) const FRAME: u8 = 3;
+/// "kind not allowed, byte 1 not zero, or name or number outside the table"
+pub(crate) const ENTRY: u8 = 4;
+/// "owner not earlier or not of kind 5 (7)"
+pub(crate) const OWNER: u8 = 5;
+/// "depth over 32"
+pub(crate) const DEPTH: u8 = 6;
+/// "output too short"
+pub(crate) const OUTPUT: u8 = 7;
+
+impl Refusal {
+    /// The refusal with this number at this place of this input.
+    pub(crate) fn at(number: u8, input: u16, place: usize) -> Refusal {
+        let place = u32::try_from(place).unwrap_or(u32::MAX);
+        Refusal {
+            number,
+            input,
+            place,
+        }
+    }
+
+    /// "output too short": input 0, place 0.
+    pub(crate) fn output_too_short() -> Refusal {
+        Refusal::at(OUTPUT, 0, 0)
+    }
+}

@@ -1,0 +1,145 @@
+//! The notation of the desk examples.
+//!
+//! "Written kind, name, number (zeros at the end left off), owned entries in
+//! brackets, numbered as written."
+
+use reference::{compare, encode, normal_form, Comparison, Entry, Refusal};
+
+/// The value that fills outputs before a call.
+pub const FILL: u8 = 0xA5;
+
+/// The entries written in this text.
+pub fn entries(text: &str) -> Vec<Entry> {
+    let mut entries = Vec::new();
+    let mut owners: Vec<u16> = vec![0];
+    let mut written = String::new();
+    for sign in text.chars().chain([';']) {
+        match sign {
+            '[' => {
+                take(&mut entries, &owners, &mut written);
+                owners.push(entries.len() as u16);
+            }
+            ']' => {
+                take(&mut entries, &owners, &mut written);
+                owners.pop();
+            }
+            ';' => take(&mut entries, &owners, &mut written),
+            ' ' => (),
+            _ => written.push(sign),
+        }
+    }
+    assert_eq!(owners, [0], "brackets in {text}");
+    entries
+}
+
+/// Adds the entry written so far, if there is one.
+fn take(entries: &mut Vec<Entry>, owners: &[u16], written: &mut String) {
+    if written.is_empty() {
+        return;
+    }
+    let fields: Vec<u16> = written
+        .split(',')
+        .map(|field| field.parse().unwrap())
+        .collect();
+    let field = |index: usize| fields.get(index).copied().unwrap_or(0);
+    entries.push(entry(
+        field(0) as u8,
+        *owners.last().unwrap(),
+        field(1),
+        field(2),
+    ));
+    written.clear();
+}
+
+/// One entry.
+pub fn entry(kind: u8, owner: u16, name: u16, number: u16) -> Entry {
+    Entry {
+        kind,
+        zero: 0,
+        owner,
+        name,
+        number,
+    }
+}
+
+/// The blocks of what is written in this text.
+pub fn blocks(text: &str) -> Vec<u8> {
+    encode(&entries(text))
+}
+
+#[test]
+fn the_notation() {
+    assert_eq!(entries(""), []);
+    assert_eq!(
+        entries("5,1 [5,2 [6]; 3,2,1]; 5,1 []; 1,9"),
+        [
+            entry(5, 0, 1, 0),
+            entry(5, 1, 2, 0),
+            entry(6, 2, 0, 0),
+            entry(3, 1, 2, 1),
+            entry(5, 0, 1, 0),
+            entry(1, 0, 9, 0),
+        ]
+    );
+}
+
+/// Calls the normal form with an output somewhat longer than needed, checks
+/// the number answered and the bytes that stay, and answers the entries.
+pub fn normal(description: &[u8]) -> Result<Vec<Entry>, Refusal> {
+    let mut out = vec![FILL; description.len() + 700];
+    let answer = normal_form(description, &mut out);
+    let written = match answer {
+        Ok(count) => written_entries(&out, count),
+        Err(_) => Vec::new(),
+    };
+    let length = if answer.is_ok() {
+        encode(&written).len()
+    } else {
+        0
+    };
+    assert!(length <= description.len());
+    assert!(out[length..].iter().all(|&byte| byte == FILL));
+    answer.map(|_| written)
+}
+
+/// What the comparison answers, with the specimen.
+#[derive(Clone, Debug, PartialEq, Eq)]
+pub enum Answer {
+    Contained,
+    Not { entry: usize, specimen: Vec<Entry> },
+    Refused(Refusal),
+}
+
+/// Calls the comparison with an output somewhat longer than needed, checks
+/// the number answered and the bytes that stay, and answers the specimen.
+pub fn compared(c: &[u8], d: &[u8]) -> Answer {
+    let mut out = vec![FILL; c.len() + d.len() + 700];
+    let (answer, length) = match compare(c, d, &mut out) {
+        Ok(Comparison::Contained) => (Answer::Contained, 0),
+        Ok(Comparison::NotContained { entry, entries }) => {
+            let specimen = written_entries(&out, entries);
+            let length = encode(&specimen).len();
+            (Answer::Not { entry, specimen }, length)
+        }
+        Err(refusal) => (Answer::Refused(refusal), 0),
+    };
+    assert!(length <= c.len() + d.len());
+    assert!(out[length..].iter().all(|&byte| byte == FILL));
+    answer
+}
+
+/// As `compared`, for texts.
+pub fn compared_texts(c: &str, d: &str) -> Answer {
+    compared(&blocks(c), &blocks(d))
+}
+
+/// Reads `count` entries out of an output, and checks that the output starts
+/// with exactly the blocks of these.
+fn written_entries(out: &[u8], count: usize) -> Vec<Entry> {
+    let blocks = count.div_ceil(63).max(1);
+    let written = &out[..blocks * 512];
+    let entries = reference::decode(written);
+    assert_eq!(entries.len(), count);
+    assert_eq!(encode(&entries), written);
+    entries
+}
