@@ -78,6 +78,10 @@ or-cases false b e f g = g e
 pub both-ways {ℓ} : {A : Type ℓ} {b : Bool} → b ≡ true → b ≡ false → A
 both-ways p q = absurd (true≢false (sym p ∙ q))
 
+-- a test for equality, the other way round
+pub eqb-sym : (m n : ℕ) → eqb m n ≡ eqb n m
+eqb-sym m n = eq-cases m n (λ q. rw q) (λ q. let a : eqb m n ≡ false = omega tests in let b : eqb n m ≡ false = omega tests in a ∙ sym b)
+
 -- ---- not, && and ||
 
 pub not-to-true : {b : Bool} → b ≡ false → not b ≡ true
@@ -125,12 +129,22 @@ pub and-one : (a : Bool) → (a && true) ≡ a
 and-one true = refl
 and-one false = refl
 
+-- two tests in the other order, before further ones
+pub and-swap : (a b c : Bool) → (a && (b && c)) ≡ (b && (a && c))
+and-swap true b c = refl
+and-swap false true c = refl
+and-swap false false c = refl
+
 pub or-left : {a : Bool} (b : Bool) → a ≡ true → (a || b) ≡ true
 or-left b e = rw e
 
 pub or-right : (a : Bool) {b : Bool} → b ≡ true → (a || b) ≡ true
 or-right true e = refl
 or-right false e = e
+
+pub or-one : (a : Bool) → (a || true) ≡ true
+or-one true = refl
+or-one false = refl
 
 pub or-none : {a b : Bool} → a ≡ false → b ≡ false → (a || b) ≡ false
 or-none p q = rw (p, q)

@@ -6,10 +6,10 @@ use lib.ListN.{List·getD-eq-default, length}
 use mathlib.Core.Bool.{true}
 use mathlib.Core.List.{List}
 use mathlib.Core.Logic.{_≢_}
-use mathlib.Core.Path.{_∙_, _≡_, ap, sym}
+use mathlib.Core.Path.{_∙_, _≡_, ap, refl, sym}
 use native.Mathlib.Omega.{arith}
 use Rattle.base.proofs.Lists.{getD-listed}
-use Rattle.base.proofs.Tests.{and-zero, gt-leb, le-leb, tests}
+use Rattle.base.proofs.Tests.{and-zero, gt-leb, le-leb, lt-cases, tests}
 use Rattle.blocks.proofs.EntryBytes.{entries-listed, length-entries}
 use Rattle.blocks.proofs.WordLaws.{word-past}
 use Rattle.blocks.specs.Entries.{entriesOf, entryAt, entryFrom, entryOf, nth, zeroEntry}
@@ -67,3 +67,12 @@ of-found s total n z h p e = (rw p at e) ∙ sym (of-within s total n z h)
 pub nth-read : (s : List ℕ) (n : ℕ) {at : ℕ} {e : Entry} → 1 ≤ n → n ≤ length (entriesOf s) → at ≡ entryPos plain n → e ≡ entryFrom s at → e ≡ nth (entriesOf s) n
 unfolding entryAt
 nth-read s n h le p e = (rw p at e) ∙ sym (nth-entries s n h (omega (arith, length-entries s)))
+
+-- by number from the blocks, and by number from the list
+pub of-nth : (s : List ℕ) (total n : ℕ) → total ≡ length (entriesOf s) → entryOf s total n ≡ nth (entriesOf s) n
+unfolding entryOf nth
+of-nth s total zero e = refl
+of-nth s total (suc k) e =
+    lt-cases total (suc k)
+    (λ h. sym (of-above s total (suc k) h refl) ∙ sym (List·getD-eq-default (entriesOf s) zeroEntry (omega arith)))
+    (λ h. of-within s total (suc k) (λ z. omega arith) h ∙ sym (nth-entries s (suc k) (omega arith) (omega (arith, length-entries s))))

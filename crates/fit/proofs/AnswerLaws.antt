@@ -1,0 +1,67 @@
+-- Laws of the fit answer: what accepted inputs keep, and one law for each way through the code.
+-- Assumes nothing.
+use Prim.Native.Nat.{_≤_, ℕ}
+use lib.ListN.{length}
+use mathlib.Core.Bool.{Bool, false, true}
+use mathlib.Core.List.{List}
+use mathlib.Core.Path.{_∙_, _≡_, sym}
+use native.Mathlib.Omega.{arith}
+use Rattle.blocks.proofs.Accepting.{none-of-accepted, sound-of-accepted}
+use Rattle.blocks.proofs.Faithful.{entries-limit}
+use Rattle.blocks.proofs.Legal.{owner-earlier}
+use Rattle.blocks.specs.Entries.{entriesOf, limitOf}
+use Rattle.blocks.specs.Reading.{readingOf}
+use Rattle.blocks.specs.declared.Reading.{Reading}
+use Rattle.blocks.specs.declared.Schema.{Schema}
+use Rattle.blocks.specs.declared.Schema.the-variants.{Description, Specimen}
+use Rattle.fit.proofs.ByNumber.{fit-by-groups}
+use Rattle.fit.specs.Answer.{fitOf, secondOf, topFits}
+use Rattle.fit.specs.Groups.{fitsPlace}
+use Rattle.fit.specs.Index.{Ordered}
+use Rattle.fit.specs.Record.{count}
+use Rattle.fit.specs.declared.FitAnswer.{FitAnswer}
+use Rattle.fit.specs.declared.FitAnswer.the-variants.{No, Refused, Yes}
+use Rattle.blocks.specs.declared.Reading.the-variants as reading
+
+limit-most : (σ : Schema) → limitOf σ ≤ 32
+limit-most Description = omega arith
+limit-most Specimen = omega arith
+
+-- an accepted input has the number of entries that was answered, at most 2,016, each after its owner
+pub accepted-facts : (σ : Schema) (i : ℕ) (s : List ℕ) {n : ℕ} → readingOf σ i s ≡ reading.Accepted n
+    → (n ≡ length (entriesOf s)) × (n ≤ 2016) × Ordered (entriesOf s)
+accepted-facts σ i s e =
+    let count = none-of-accepted σ i s e .1 in
+    let sound = sound-of-accepted σ i s e in
+    (count, omega (arith, entries-limit (sound .blocks), limit-most σ), record { earlier = λ k lo hi. owner-earlier (sound .entries) k lo hi })
+
+-- the answer by groups and numbers is Table 1's
+pub top-judged : (s d : List ℕ) {m : ℕ} {r : Bool} → readingOf Description 2 d ≡ reading.Accepted m
+    → r ≡ fitsPlace 33 (entriesOf s) (entriesOf d) 0 0 → r ≡ topFits s d
+unfolding topFits
+top-judged s d e h = h ∙ sym (fit-by-groups (entriesOf s) (entriesOf d) (sound-of-accepted Description 2 d e .entries))
+
+-- ---- the second input
+
+pub second-refused : (s d : List ℕ) {x : Reading} {k i p : ℕ} → x ≡ readingOf Description 2 d → x ≡ reading.Refused k i p
+    → Refused k i p ≡ secondOf s d (readingOf Description 2 d)
+second-refused s d e f = rw (← e, f)
+
+pub second-yes : (s d : List ℕ) {x : Reading} {m : ℕ} {r : Bool} → x ≡ readingOf Description 2 d → x ≡ reading.Accepted m → r ≡ topFits s d → r ≡ true
+    → Yes ≡ secondOf s d (readingOf Description 2 d)
+second-yes s d e f h y = rw (← e, f, ← h, y)
+
+pub second-no : (s d : List ℕ) {x : Reading} {m : ℕ} {r : Bool} → x ≡ readingOf Description 2 d → x ≡ reading.Accepted m → r ≡ topFits s d → r ≡ false
+    → No ≡ secondOf s d (readingOf Description 2 d)
+second-no s d e f h y = rw (← e, f, ← h, y)
+
+-- ---- the first input
+
+pub first-refused : (s d : List ℕ) {x : Reading} {k i p : ℕ} → x ≡ readingOf Specimen 1 s → x ≡ reading.Refused k i p → Refused k i p ≡ fitOf s d
+unfolding fitOf
+first-refused s d e f = rw (fitOf, ← e, f)
+
+pub first-accepted : (s d : List ℕ) {x : Reading} {n : ℕ} {r : FitAnswer} → x ≡ readingOf Specimen 1 s → x ≡ reading.Accepted n
+    → r ≡ secondOf s d (readingOf Description 2 d) → r ≡ fitOf s d
+unfolding fitOf
+first-accepted s d e f h = h ∙ rw (fitOf, ← e, f)

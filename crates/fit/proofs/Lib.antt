@@ -1,0 +1,14 @@
+pub mod Counting
+pub mod Items
+pub mod Owned
+pub mod WalkLaws
+pub mod GroupLaws
+pub mod MeetLaws
+pub mod AnswerLaws
+pub mod Places
+pub mod ByNumber
+pub mod Along
+pub mod Links
+pub mod Paths
+pub mod Kept
+pub mod Cases

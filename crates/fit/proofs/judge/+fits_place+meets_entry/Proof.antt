@@ -1,0 +1,226 @@
+-- `fits_place` and `meets_entry` meet their contracts. Each call goes to fewer levels, or from a place to its entries at the same level.
+use Prim.Native.Nat.{ℕ, _+_, _*_, _-_, _<_, _≤_}
+use native.Mathlib.Omega.{arith}
+use mathlib.Core.Path.{_≡_, sym, ap, _∙_}
+use mathlib.Core.Logic.{⊎-elim}
+use borrow.Author.Needs.{needs}
+use borrow.Fn.Kinds.{In}
+use borrow.Fn.PlainCycle.{Measures, is, falls, and}
+use lib.ListN.{length}
+use Rattle.base.proofs.Tests.{confirmed, refuted, true-of-not, false-of-not}
+use Rattle.blocks.proofs.EntryLaws.{of-nth}
+use Rattle.blocks.specs.Entries.{entriesOf}
+use Rattle.blocks.specs.declared.Entry.{Entry}
+use Rattle.fit.specs.Groups.{allOwned, meetsEntry, fitsPlace}
+use Rattle.fit.proofs.WalkLaws.{Standing, walk-starts, walk-goes, walk-falls, all-starts, all-goes, all-no, all-ends}
+use Rattle.fit.proofs.MeetLaws.{meets-bottom, meets-atoms, groupFits, meets-groups, other-passes, group-decides}
+use Rattle.fit.proofs.judge.fits_place.Reads as fits-place
+use Rattle.fit.proofs.judge.fits_place.Kinds as fits-place-kinds
+use Rattle.fit.proofs.judge.+fits_place+meets_entry.Lts-fits_place as fits-place-lts
+use Rattle.fit.proofs.judge.meets_entry.Reads as meets-entry
+use Rattle.fit.proofs.judge.meets_entry.Kinds as meets-entry-kinds
+use Rattle.fit.proofs.judge.+fits_place+meets_entry.Lts-meets_entry as meets-entry-lts
+use Rattle.blocks.proofs.Entry.link.Reads as link-reads
+use Rattle.blocks.proofs.nth_entry.Reads as nth-entry-reads
+use Rattle.fit.proofs.groups.is_group.Reads as is-group-reads
+use Rattle.fit.proofs.groups.meets_atom.Reads as meets-atom-reads
+use Rattle.fit.proofs.index.last_of.Reads as last-of-reads
+use Rattle.fit.proofs.index.previous_of.Reads as previous-of-reads
+use Rattle.fit.proofs.judge.+fits_place+meets_entry.{statement}
+use Rattle.fit.proofs.judge.+fits_place+meets_entry.Tie.{close}
+
+abbrev μ-fits-place : Measures 4 fits-place-kinds.ps ℕ
+μ-fits-place κs a = 2 * a .1 .1 .1 .1 .1 .1 .1 .0 + 1
+
+abbrev μ-meets-entry : Measures 4 meets-entry-kinds.ps ℕ
+μ-meets-entry κs a = 2 * a .1 .1 .1 .1 .1 .1 .1 .0
+
+abbrev fits-place-at : ℕ → In 4 fits-place-kinds.ps
+fits-place-at t = and 4 fits-place-kinds.ps (is 4 fits-place-kinds.ps μ-fits-place t) fits-place.Pre
+
+abbrev fits-place-below : ℕ → In 4 fits-place-kinds.ps
+fits-place-below t = and 4 fits-place-kinds.ps (falls 4 fits-place-kinds.ps _<_ μ-fits-place t) fits-place.Pre
+
+abbrev meets-entry-at : ℕ → In 4 meets-entry-kinds.ps
+meets-entry-at t = and 4 meets-entry-kinds.ps (is 4 meets-entry-kinds.ps μ-meets-entry t) meets-entry.Pre
+
+abbrev meets-entry-below : ℕ → In 4 meets-entry-kinds.ps
+meets-entry-below t = and 4 meets-entry-kinds.ps (falls 4 meets-entry-kinds.ps _<_ μ-meets-entry t) meets-entry.Pre
+
+-- what each knows of the functions that it calls
+abbrev fits-place-calls : ℕ → fits-place-lts.Claims
+fits-place-calls t =
+    (last-of-reads.Asked, last-of-reads.Learnt, meets-entry-below t, meets-entry.Post, previous-of-reads.Asked, previous-of-reads.Learnt)
+
+abbrev meets-entry-calls : ℕ → meets-entry-lts.Claims
+meets-entry-calls t = (
+  nth-entry-reads.Asked,
+  nth-entry-reads.Learnt,
+  meets-atom-reads.Asked,
+  meets-atom-reads.Learnt,
+  link-reads.Asked,
+  link-reads.Learnt,
+  last-of-reads.Asked,
+  last-of-reads.Learnt,
+  is-group-reads.Asked,
+  is-group-reads.Learnt,
+  fits-place-below t,
+  fits-place.Post,
+  previous-of-reads.Asked,
+  previous-of-reads.Learnt,
+)
+
+-- ---- fitting a place: what the entries left ask is what the place asks
+
+abbrev fits-place-Inv-loop : fits-place-lts.InvT-loop
+fits-place-Inv-loop s si d di n g o left e₀ e =
+    Standing (entriesOf d) o e (n .description)
+    × (fitsPlace left (entriesOf s) (entriesOf d) g o ≡ allOwned (meetsEntry left (entriesOf s) (entriesOf d) g) (entriesOf d) o e)
+
+abbrev fits-place-μ-loop : fits-place-lts.MeasureT-loop
+fits-place-μ-loop s si d di n g o left e₀ e = e
+
+fits-place-loop-holds : (t : ℕ) → fits-place-lts.Need-loop-holds (fits-place-calls t) (fits-place-at t) fits-place.Post fits-place-Inv-loop fits-place-μ-loop
+fits-place-loop-holds t c =
+    let a = c .before .before .before in
+    let R = a .pre .1 .1 in (
+      walk-starts R _ (a .pre .1 .3) (c .last-of .ensures),
+      all-starts R _ (meetsEntry (a .args .left) (entriesOf (a .args .s .now)) (entriesOf (a .args .d .now)) (a .args .g)) (a .pre .1 .3) (c .last-of .ensures),
+    )
+
+fits-place-meets-entry-requires : (t : ℕ) → fits-place-lts.Need-meets-entry-requires (fits-place-calls t) (fits-place-at t) fits-place.Post fits-place-Inv-loop fits-place-μ-loop
+fits-place-meets-entry-requires t c κs =
+    let l = c .before in
+    let a = l .before .before .before .before in
+    (omega arith, (a .pre .1 .0, a .pre .1 .1, a .pre .1 .2, omega (arith, l .loop .inv .0 .bound, a .pre .1 .1 .few), a .pre .1 .4))
+
+fits-place-previous-of-requires : (t : ℕ) → fits-place-lts.Need-previous-of-requires (fits-place-calls t) (fits-place-at t) fits-place.Post fits-place-Inv-loop fits-place-μ-loop
+fits-place-previous-of-requires t c κs =
+    let l = c .before .before .before in
+    let a = l .before .before .before .before in
+    omega (arith, l .loop .inv .0 .bound, a .pre .1 .1 .few)
+
+fits-place-loop-less : (t : ℕ) → fits-place-lts.Need-loop-less (fits-place-calls t) (fits-place-at t) fits-place.Post fits-place-Inv-loop fits-place-μ-loop
+fits-place-loop-less t c =
+    let l = c .before .before .before .before in
+    let a = l .before .before .before .before in
+    walk-falls (a .pre .1 .1) _ (l .loop .inv .0) (c .before .before .before .if1 .left) (c .previous-of .ensures)
+
+fits-place-loop-again : (t : ℕ) → fits-place-lts.Need-loop-again (fits-place-calls t) (fits-place-at t) fits-place.Post fits-place-Inv-loop fits-place-μ-loop
+fits-place-loop-again t c =
+    let l = c .before .before .before .before in
+    let a = l .before .before .before .before in
+    let z = c .before .before .before .if1 .left in (
+      walk-goes (a .pre .1 .1) _ (l .loop .inv .0) z (c .previous-of .ensures),
+      l .loop .inv .1 ∙ all-goes (a .pre .1 .1) _ (l .loop .inv .0) z (c .previous-of .ensures)
+          (meetsEntry (a .args .left) (entriesOf (a .args .s .now)) (entriesOf (a .args .d .now)) (a .args .g))
+          (confirmed (c .before .before .meets-entry .ensures) (c .before .if2 .left)),
+    )
+
+fits-place-returns : (t : ℕ) → fits-place-lts.Need-returns (fits-place-calls t) (fits-place-at t) fits-place.Post fits-place-Inv-loop fits-place-μ-loop
+fits-place-returns t c =
+    let l = c .before in
+    let a = l .before .before .before .before in
+    sym (l .loop .inv .1 ∙ all-ends (meetsEntry (a .args .left) (entriesOf (a .args .s .now)) (entriesOf (a .args .d .now)) (a .args .g)) _ _ (c .if1 .taken))
+
+fits-place-returns-2 : (t : ℕ) → fits-place-lts.Need-returns-2 (fits-place-calls t) (fits-place-at t) fits-place.Post fits-place-Inv-loop fits-place-μ-loop
+fits-place-returns-2 t c =
+    let l = c .before .before .before in
+    let a = l .before .before .before .before in
+    let z = c .before .before .if1 .left in
+    sym (l .loop .inv .1 ∙ all-no (meetsEntry (a .args .left) (entriesOf (a .args .s .now)) (entriesOf (a .args .d .now)) (a .args .g)) _ _ _ z (l .loop .inv .0 .owner z)
+    (refuted (c .before .meets-entry .ensures) (c .if2 .taken)))
+
+-- ---- meeting an entry: of an 'every', what the groups left ask is what all ask
+
+abbrev meets-entry-Inv-loop : meets-entry-lts.InvT-loop
+meets-entry-Inv-loop s si d di n g e left kind link h₀ h =
+    Standing (entriesOf s) g h (n .specimen)
+    × (meetsEntry left (entriesOf s) (entriesOf d) g e ≡ allOwned (groupFits (left - 1) (entriesOf s) (entriesOf d) e (link .0)) (entriesOf s) g h)
+
+abbrev meets-entry-μ-loop : meets-entry-lts.MeasureT-loop
+meets-entry-μ-loop s si d di n g e left kind link h₀ h = h
+
+meets-entry-returns : (t : ℕ) → meets-entry-lts.Need-returns (meets-entry-calls t) (meets-entry-at t) meets-entry.Post meets-entry-Inv-loop meets-entry-μ-loop
+meets-entry-returns t c = meets-bottom _ _ _ _ _ (c .if1 .taken)
+
+meets-entry-returns-2 : (t : ℕ) → meets-entry-lts.Need-returns-2 (meets-entry-calls t) (meets-entry-at t) meets-entry.Post meets-entry-Inv-loop meets-entry-μ-loop
+meets-entry-returns-2 t c =
+    let a = c .before .before .before .before .before .before in
+    meets-atoms _ _ _ _ _ (c .before .before .before .if1 .left) (c .before .before .nth-entry .ensures ∙ of-nth _ _ _ (a .pre .1 .1 .count))
+    (c .before .if2 .taken) (c .meets-atom .ensures)
+
+meets-entry-loop-holds : (t : ℕ) → meets-entry-lts.Need-loop-holds (meets-entry-calls t) (meets-entry-at t) meets-entry.Post meets-entry-Inv-loop meets-entry-μ-loop
+meets-entry-loop-holds t c =
+    let a = c .before .before .before .before .before .before .before in
+    let R = a .pre .1 .0 in (
+      walk-starts R _ (a .pre .1 .2) (c .last-of .ensures),
+      meets-groups _ _ _ _ _ (c .before .before .before .before .if1 .left) (c .before .before .before .nth-entry .ensures ∙ of-nth _ _ _ (a .pre .1 .1 .count))
+          (c .before .before .if2 .left) (c .before .link .ensures)
+          ∙ all-starts R _ (groupFits (a .args .left - 1) (entriesOf (a .args .s .now)) (entriesOf (a .args .d .now)) (a .args .e) (c .before .link .result .0)) (a .pre .1 .2) (c .last-of .ensures),
+    )
+
+meets-entry-fits-place-requires : (t : ℕ) → meets-entry-lts.Need-fits-place-requires (meets-entry-calls t) (meets-entry-at t) meets-entry.Post meets-entry-Inv-loop meets-entry-μ-loop
+meets-entry-fits-place-requires t c κs =
+    let l = c .before .before .before .before in
+    let a = l .before .before .before .before .before .before .before .before in
+    (omega arith, (a .pre .1 .0, a .pre .1 .1, omega (arith, l .loop .inv .0 .bound, a .pre .1 .0 .few), a .pre .1 .3, omega arith))
+
+meets-entry-previous-of-requires : (t : ℕ) → meets-entry-lts.Need-previous-of-requires (meets-entry-calls t) (meets-entry-at t) meets-entry.Post meets-entry-Inv-loop meets-entry-μ-loop
+meets-entry-previous-of-requires t c κs =
+    let l = c .before .before .before .before in
+    let a = l .before .before .before .before .before .before .before .before in
+    omega (arith, l .loop .inv .0 .bound, a .pre .1 .0 .few)
+
+meets-entry-loop-less : (t : ℕ) → meets-entry-lts.Need-loop-less (meets-entry-calls t) (meets-entry-at t) meets-entry.Post meets-entry-Inv-loop meets-entry-μ-loop
+meets-entry-loop-less t c =
+    let l = c .before .before .before .before .before in
+    let a = l .before .before .before .before .before .before .before .before in
+    walk-falls (a .pre .1 .0) _ (l .loop .inv .0) (c .before .before .before .before .if3 .left) (c .previous-of .ensures)
+
+meets-entry-loop-again : (t : ℕ) → meets-entry-lts.Need-loop-again (meets-entry-calls t) (meets-entry-at t) meets-entry.Post meets-entry-Inv-loop meets-entry-μ-loop
+meets-entry-loop-again t c =
+    let l = c .before .before .before .before .before in
+    let a = l .before .before .before .before .before .before .before .before in
+    let z = c .before .before .before .before .if3 .left in
+    let link = l .before .before .link .result .0 in
+    let read = c .before .before .before .nth-entry2 .ensures in
+    let is′ = c .before .before .is-group .ensures in (
+      walk-goes (a .pre .1 .0) _ (l .loop .inv .0) z (c .previous-of .ensures),
+      l .loop .inv .1 ∙ all-goes (a .pre .1 .0) _ (l .loop .inv .0) z (c .previous-of .ensures)
+          (groupFits (a .args .left - 1) (entriesOf (a .args .s .now)) (entriesOf (a .args .d .now)) (a .args .e) link)
+          (⊎-elim
+          (λ w. group-decides (a .pre .1 .0) (a .args .left - 1) _ (a .args .e) link (l .loop .h) read is′ (w .0 .taken) (w .1 .ensures) ∙ true-of-not _ (w .2 .left))
+          (λ w. other-passes (a .pre .1 .0) (a .args .left - 1) _ (a .args .e) link (l .loop .h) read is′ (w .left))
+          (c .before .if4 .came)),
+    )
+
+meets-entry-returns-3 : (t : ℕ) → meets-entry-lts.Need-returns-3 (meets-entry-calls t) (meets-entry-at t) meets-entry.Post meets-entry-Inv-loop meets-entry-μ-loop
+meets-entry-returns-3 t c =
+    let l = c .before in
+    let a = l .before .before .before .before .before .before .before .before in
+    sym (l .loop .inv .1 ∙ all-ends (groupFits (a .args .left - 1) (entriesOf (a .args .s .now)) (entriesOf (a .args .d .now)) (a .args .e) (l .before .before .link .result .0)) _ _ (c .if3 .taken))
+
+meets-entry-returns-4 : (t : ℕ) → meets-entry-lts.Need-returns-4 (meets-entry-calls t) (meets-entry-at t) meets-entry.Post meets-entry-Inv-loop meets-entry-μ-loop
+meets-entry-returns-4 t c =
+    let l = c .before .before .before .before .before .before in
+    let a = l .before .before .before .before .before .before .before .before in
+    let z = c .before .before .before .before .before .if3 .left in
+    let link = l .before .before .link .result .0 in
+    sym (l .loop .inv .1 ∙ all-no (groupFits (a .args .left - 1) (entriesOf (a .args .s .now)) (entriesOf (a .args .d .now)) (a .args .e) link) _ _ _ z (l .loop .inv .0 .owner z)
+    (group-decides (a .pre .1 .0) (a .args .left - 1) _ (a .args .e) link (l .loop .h) (c .before .before .before .before .nth-entry2 .ensures)
+    (c .before .before .before .is-group .ensures) (c .before .before .if4 .taken) (c .before .fits-place .ensures) ∙ false-of-not _ (c .if5 .taken)))
+
+pub +fits-place+meets-entry-spec : {M : Type 1} → statement M
++fits-place+meets-entry-spec =
+    close μ-fits-place μ-meets-entry
+    (λ t. fits-place-lts.spec (fits-place-calls t) (fits-place-at t) fits-place.Post fits-place-Inv-loop fits-place-μ-loop
+    (λ c κs. search needs) (fits-place-loop-holds t) (fits-place-meets-entry-requires t)
+    (fits-place-previous-of-requires t) (fits-place-loop-less t) (fits-place-loop-again t) (fits-place-returns t)
+    (fits-place-returns-2 t))
+    (λ t. meets-entry-lts.spec (meets-entry-calls t) (meets-entry-at t) meets-entry.Post meets-entry-Inv-loop meets-entry-μ-loop
+    (meets-entry-returns t) (λ c κs. search needs) (λ c κs. search needs) (meets-entry-returns-2 t)
+    (λ c κs. search needs) (λ c κs. search needs) (meets-entry-loop-holds t) (λ c κs. search needs)
+    (λ c κs. search needs) (λ c. search needs) (meets-entry-fits-place-requires t)
+    (meets-entry-previous-of-requires t) (meets-entry-loop-less t) (meets-entry-loop-again t)
+    (meets-entry-returns-3 t) (meets-entry-returns-4 t))

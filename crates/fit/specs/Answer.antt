@@ -1,0 +1,44 @@
+-- The fit answer.
+-- Assumes nothing.
+use mathlib.Core.Bool.{Bool, true, false, cond}
+use mathlib.Core.List.{List}
+use Prim.Native.Nat.{ℕ}
+use Rattle.blocks.specs.Entries.{entriesOf}
+use Rattle.blocks.specs.Reading.{readingOf}
+use Rattle.blocks.specs.declared.Reading.{Reading}
+use Rattle.blocks.specs.declared.Reading.the-variants as reading
+use Rattle.blocks.specs.declared.Schema.the-variants.{Description, Specimen}
+use Rattle.fit.specs.Description.{placeOf}
+use Rattle.fit.specs.Record.{fits}
+use Rattle.fit.specs.Specimen.{recordOf}
+use Rattle.fit.specs.declared.FitAnswer.{FitAnswer}
+use Rattle.fit.specs.declared.FitAnswer.the-variants.{Yes, No, Refused}
+
+-- "says yes or no for the top item": the top item of the specimen's record fits the description
+unfoldable pub topFits : List ℕ → List ℕ → Bool
+topFits s d = fits (recordOf (entriesOf s)) (placeOf (entriesOf d) 0) 0
+
+-- the answer where the specimen is accepted, by what reading the description answers
+abbrev pub secondOf : List ℕ → List ℕ → Reading → FitAnswer
+secondOf s d (reading.Refused k i p) = Refused k i p
+secondOf s d (reading.Accepted m) = cond (topFits s d) Yes No
+
+abbrev pub firstOf : List ℕ → List ℕ → Reading → FitAnswer
+firstOf s d (reading.Refused k i p) = Refused k i p
+firstOf s d (reading.Accepted n) = secondOf s d (readingOf Description 2 d)
+
+-- "The fit answer takes a specimen (input 1) and a description (input 2)"; "input 1 in full, input 2 in full"
+unfoldable pub fitOf : List ℕ → List ℕ → FitAnswer
+fitOf s d = firstOf s d (readingOf Specimen 1 s)
+
+-- The paper's numbers for each case: yes or no, the number returned, the input and the place, 0 where nothing is refused.
+pub record Returned : Type 0 where
+  pub fits : Bool
+  pub number : ℕ
+  pub input : ℕ
+  pub place : ℕ
+
+abbrev pub returned : FitAnswer → Returned
+returned Yes = record { fits = true; number = 0; input = 0; place = 0 }
+returned No = record { fits = false; number = 0; input = 0; place = 0 }
+returned (Refused k i p) = record { fits = false; number = k; input = i; place = p }

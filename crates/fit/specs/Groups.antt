@@ -1,0 +1,66 @@
+-- Fitting by groups and by entry numbers, as the code goes. No public promise names these: proofs/ shows that they give Table 1's
+-- answer in the record of items.
+-- Assumes nothing.
+use mathlib.Core.Bool.{Bool, true, false, not, cond, _&&_, _||_}
+use mathlib.Core.List.{List}
+use Prim.Native.Nat.{ℕ, zero, suc, _+_}
+use lib.Dec.{leb, eqb}
+use lib.ListN.{length}
+use Rattle.blocks.specs.declared.Entry.{Entry}
+use Rattle.blocks.specs.Entries.{nth}
+use Rattle.blocks.specs.Owners.{ownerOf}
+
+-- each of the first n entries that o owns passes
+unfoldable pub allOwned : (ℕ → Bool) → List Entry → ℕ → ℕ → Bool
+allOwned p es o zero = true
+allOwned p es o (suc n) = (not (eqb (ownerOf es (suc n)) o) || p (suc n)) && allOwned p es o n
+
+-- the sum of f over those of the first n entries that o owns
+unfoldable pub sumOwned : (ℕ → ℕ) → List Entry → ℕ → ℕ → ℕ
+sumOwned f es o zero = 0
+sumOwned f es o (suc n) = cond (eqb (ownerOf es (suc n)) o) (f (suc n)) 0 + sumOwned f es o n
+
+-- entry k gives property p; it is a group by link l
+abbrev pub givesProperty : List Entry → ℕ → ℕ → Bool
+givesProperty s p k = eqb (nth s k .kind) 1 && eqb (nth s k .name) p
+
+abbrev pub isGroup : List Entry → ℕ → ℕ → Bool
+isGroup s l k = eqb (nth s k .kind) 7 && eqb (nth s k .name) l
+
+-- the items of group g have property p
+unfoldable pub hasProperty : List Entry → ℕ → ℕ → Bool
+hasProperty s g p = not (allOwned (λ k. not (givesProperty s p k)) s g (length s))
+
+-- the items that an entry adds for link l
+abbrev pub itemsBy : Entry → ℕ → ℕ
+itemsBy e l = cond (eqb (e .kind) 7 && eqb (e .name) l) (suc (e .number)) 0
+
+-- the items that an item of group g is linked to by l: "Groups of one owner and link add up"
+unfoldable pub totalBy : List Entry → ℕ → ℕ → ℕ
+totalBy s g l = sumOwned (λ k. itemsBy (nth s k) l) s g (length s)
+
+-- each group of owner g by link l passes
+unfoldable pub groupsBy : (ℕ → Bool) → List Entry → ℕ → ℕ → Bool
+groupsBy p s g l = allOwned (λ k. not (isGroup s l k) || p k) s g (length s)
+
+-- the items of group g of specimen s meet entry e of description d, which may be followed down for `left` levels more
+unfoldable pub meetsEntry : ℕ → List Entry → List Entry → ℕ → ℕ → Bool
+meetsEntry zero s d g e = true
+meetsEntry (suc left) s d g e =
+    cond (eqb (nth d e .kind) 1) (hasProperty s g (nth d e .name))
+    (cond (eqb (nth d e .kind) 2) (not (hasProperty s g (nth d e .name)))
+    (cond (eqb (nth d e .kind) 3) (leb (nth d e .number) (totalBy s g (nth d e .name)))
+    (cond (eqb (nth d e .kind) 4) (leb (totalBy s g (nth d e .name)) (nth d e .number))
+    (cond (eqb (nth d e .kind) 5) (groupsBy (λ h. allOwned (meetsEntry left s d h) d e (length d)) s g (nth d e .name)) false))))
+
+-- the items of group g fit the place that entry o of d owns
+abbrev pub fitsPlace : ℕ → List Entry → List Entry → ℕ → ℕ → Bool
+fitsPlace left s d g o = allOwned (meetsEntry left s d g) d o (length d)
+
+-- the items of group g meet an entry that owns no place
+unfoldable pub meetsAtom : List Entry → ℕ → Entry → Bool
+meetsAtom s g e =
+    cond (eqb (e .kind) 1) (hasProperty s g (e .name))
+    (cond (eqb (e .kind) 2) (not (hasProperty s g (e .name)))
+    (cond (eqb (e .kind) 3) (leb (e .number) (totalBy s g (e .name)))
+    (cond (eqb (e .kind) 4) (leb (totalBy s g (e .name)) (e .number)) false)))

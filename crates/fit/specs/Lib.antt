@@ -1,0 +1,9 @@
+pub mod Tree
+pub mod Description
+pub mod Record
+pub mod Background
+pub mod Specimen
+pub mod Groups
+pub mod Index
+pub mod Answer
+pub mod Cases

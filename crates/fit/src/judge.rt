@@ -1,0 +1,81 @@
+// Fitting a place and meeting an entry, which call each other. Each pair of a group and a place is come to at most once, by the pair of
+// their owners, and costs the product of their numbers of entries; so the whole costs at most the product of the two inputs' numbers of
+// entries, 2,016 · 1,008 steps of some nanoseconds each. A level of depth takes two frames of the stack.
+ghost use mathlib.Core.Path.{_≡_};
+ghost use Prim.Native.Nat.{_+_, _*_, _≤_, _<_};
+ghost use Rattle.blocks.specs.Entries.{entriesOf};
+ghost use Rattle.fit.specs.Groups.{meetsEntry, fitsPlace};
+ghost use Rattle.fit.specs.Index.{Ready};
+use crate::groups::is_group;
+use crate::groups::meets_atom;
+use crate::index::last_of;
+use crate::index::previous_of;
+
+// The numbers of entries of the two inputs.
+pub(crate) struct Totals {
+    pub specimen: usize,
+    pub description: usize,
+}
+
+// Whether the items of group g fit the place that entry o of the description owns, followed down for `left` levels.
+pub(crate) fn fits_place(
+    s: &[u8],
+    si: &[u16; 4034],
+    d: &[u8],
+    di: &[u16; 4034],
+    n: Totals,
+    g: usize,
+    o: usize,
+    left: usize,
+) -> bool
+    requires { ⌜ Ready (now s) (n .specimen) (now si) × Ready (now d) (n .description) (now di) × (g < 2017) × (o < 2017) × (left ≤ 33) ⌝ }
+    ensures { λ r. ⌜ r ≡ fitsPlace left (entriesOf (now (s .entry))) (entriesOf (now (d .entry))) g o ⌝ }
+{
+    let mut e = last_of(di, o);
+    loop {
+        if e == 0 {
+            break true;
+        }
+        if !meets_entry(s, si, d, di, n, g, e, left) {
+            break false;
+        }
+        e = previous_of(di, e);
+    }
+}
+
+// Whether the items of group g meet entry e of the description.
+pub(crate) fn meets_entry(
+    s: &[u8],
+    si: &[u16; 4034],
+    d: &[u8],
+    di: &[u16; 4034],
+    n: Totals,
+    g: usize,
+    e: usize,
+    left: usize,
+) -> bool
+    requires { ⌜ Ready (now s) (n .specimen) (now si) × Ready (now d) (n .description) (now di) × (g < 2017) × (e < 2017) × (left ≤ 33) ⌝ }
+    ensures { λ r. ⌜ r ≡ meetsEntry left (entriesOf (now (s .entry))) (entriesOf (now (d .entry))) g e ⌝ }
+{
+    if left == 0 {
+        return true;
+    }
+    let entry = blocks::nth_entry(d, n.description, e);
+    let kind = entry.kind;
+    if kind != 5 {
+        return meets_atom(s, si, n.specimen, g, entry);
+    }
+    let link = entry.link();
+    let mut h = last_of(si, g);
+    loop {
+        if h == 0 {
+            break true;
+        }
+        if is_group(blocks::nth_entry(s, n.specimen, h), link) {
+            if !fits_place(s, si, d, di, n, h, e, left - 1) {
+                break false;
+            }
+        }
+        h = previous_of(si, h);
+    }
+}
