@@ -3,3 +3,7 @@ pub mod Range
 pub mod Stores
 pub mod Lists
 pub mod Split
+pub mod Cases
+pub mod Fronts
+pub mod Parts
+pub mod Elements

@@ -1,0 +1,131 @@
+-- The comparison's answer by the ways through it: refused, contained, not contained.
+-- Assumes nothing.
+use Prim.Native.Nat.{_+_, _<_, _≤_, ℕ}
+use lib.ListN.{length}
+use mathlib.Core.Bool.{false}
+use mathlib.Core.List.{List}
+use mathlib.Core.Logic.{_≢_}
+use mathlib.Core.Path.{_≡_, ap, refl}
+use native.Mathlib.Omega.{arith}
+use Rattle.base.proofs.Tests.{eq-cases, eq-eqb, ge-ltb, lt-cases, lt-ltb, ne-eqb}
+use Rattle.blocks.proofs.Accepting.{accepted-by-none, refused-by-first}
+use Rattle.blocks.proofs.FirstFault.{FirstOf, None}
+use Rattle.blocks.specs.Entries.{entriesOf}
+use Rattle.blocks.specs.Faults.{faults}
+use Rattle.blocks.specs.Reading.{readingOf}
+use Rattle.blocks.specs.declared.Entry.{Entry}
+use Rattle.blocks.specs.declared.Reading.{Reading}
+use Rattle.blocks.specs.declared.Reading.the-variants as reading
+use Rattle.blocks.specs.declared.Schema.the-variants.{Description}
+use Rattle.compare.specs.Answer.{compareOf, failing, returned, specimenOf, verdict}
+use Rattle.compare.specs.declared.Comparison.the-variants.{Contained, NotContained, Refused}
+
+-- both inputs are accepted, and the output is at least as long as both
+pub record Comparable (c d out : List ℕ) : Type 0 where
+  pub first : ℕ
+  pub second : ℕ
+  pub first-read : readingOf Description 1 c ≡ reading.Accepted first
+  pub second-read : readingOf Description 2 d ≡ reading.Accepted second
+  pub room : length c + length d ≤ length out
+
+-- ---- the ways to an answer
+
+module _ (c d out : List ℕ) where
+  -- "input 1 in full"
+  pub first-refused : {k i p : ℕ} → readingOf Description 1 c ≡ reading.Refused k i p → compareOf c d out ≡ Refused k i p
+  unfolding compareOf
+  first-refused e = rw (compareOf, e)
+
+  -- "input 2 in full"
+  pub second-refused : {n k i p : ℕ} → readingOf Description 1 c ≡ reading.Accepted n → readingOf Description 2 d ≡ reading.Refused k i p
+      → compareOf c d out ≡ Refused k i p
+  unfolding compareOf
+  second-refused e f = rw (compareOf, e, f)
+
+  -- "then 7"
+  pub too-short : {n m : ℕ} → readingOf Description 1 c ≡ reading.Accepted n → readingOf Description 2 d ≡ reading.Accepted m
+      → length out < length c + length d → compareOf c d out ≡ Refused 7 0 0
+  unfolding compareOf
+  too-short e f h = rw (compareOf, e, f, lt-ltb h)
+
+  -- the two lists of entries are compared
+  pub compared : Comparable c d out → compareOf c d out ≡ verdict (entriesOf c) (entriesOf d)
+  unfolding compareOf
+  compared r = rw (compareOf, r .first-read, r .second-read, ge-ltb (r .room))
+
+  -- refused, or compared
+  pub compare-cases : {X : Type 0} → ((k i p : ℕ) → compareOf c d out ≡ Refused k i p → X) → (Comparable c d out → X) → X
+  compare-cases {X} f g = by-first (readingOf Description 1 c) refl
+    where
+      by-room : (n m : ℕ) → readingOf Description 1 c ≡ reading.Accepted n → readingOf Description 2 d ≡ reading.Accepted m → X
+      by-room n m e e′ =
+          lt-cases (length out) (length c + length d)
+          (λ h. f 7 0 0 (too-short e e′ h))
+          (λ h. g (record { first = n; second = m; first-read = e; second-read = e′; room = h }))
+
+      by-second : (n : ℕ) → readingOf Description 1 c ≡ reading.Accepted n → (r : Reading) → readingOf Description 2 d ≡ r → X
+      by-second n e (reading.Refused k i p) q = f k i p (second-refused e q)
+      by-second n e (reading.Accepted m) q = by-room n m e q
+
+      by-first : (r : Reading) → readingOf Description 1 c ≡ r → X
+      by-first (reading.Refused k i p) q = f k i p (first-refused q)
+      by-first (reading.Accepted n) q = by-second n q (readingOf Description 2 d) refl
+
+  -- what is contained or not contained was compared
+  pub contained-ready : compareOf c d out ≡ Contained → Comparable c d out
+  contained-ready e = compare-cases (λ k i p q. let z : _≡_ {A = ℕ} 0 1 = cc in absurd (omega arith)) (λ r. r)
+
+  pub not-contained-ready : {j k : ℕ} → compareOf c d out ≡ NotContained j k → Comparable c d out
+  not-contained-ready e = compare-cases (λ k i p q. let z : _≡_ {A = ℕ} 0 1 = cc in absurd (omega arith)) (λ r. r)
+
+-- ---- the paper's numbers for the refusals
+
+module _ (c d out : List ℕ) where
+  -- "In one input: .." of input 1
+  pub returned-first : {k p : ℕ} → FirstOf (faults Description c) k p
+      → returned (compareOf c d out) ≡ record { contained = false; entry = 0; entries = 0; number = k; input = 1; place = p }
+  returned-first f = ap returned (first-refused c d out (refused-by-first Description 1 c f))
+
+  -- of input 2, where input 1 is accepted
+  pub returned-second : {k p : ℕ} → None (faults Description c) → FirstOf (faults Description d) k p
+      → returned (compareOf c d out) ≡ record { contained = false; entry = 0; entries = 0; number = k; input = 2; place = p }
+  returned-second n f = ap returned (second-refused c d out (accepted-by-none Description 1 c n) (refused-by-first Description 2 d f))
+
+  -- "then 7", "0 for number 7"
+  pub returned-short : None (faults Description c) → None (faults Description d) → length out < length c + length d
+      → returned (compareOf c d out) ≡ record { contained = false; entry = 0; entries = 0; number = 7; input = 0; place = 0 }
+  returned-short n m h = ap returned (too-short c d out (accepted-by-none Description 1 c n) (accepted-by-none Description 2 d m) h)
+
+  -- otherwise the two are compared
+  pub none-comparable : None (faults Description c) → None (faults Description d) → length c + length d ≤ length out → Comparable c d out
+  none-comparable n m h =
+      record {
+        first = length (entriesOf c);
+        second = length (entriesOf d);
+        first-read = accepted-by-none Description 1 c n;
+        second-read = accepted-by-none Description 2 d m;
+        room = h;
+      }
+
+-- ---- two lists of entries
+
+module _ (c d : List Entry) where
+  -- "All hold: 'contained'"
+  pub verdict-contained : failing c d ≡ 0 → verdict c d ≡ Contained
+  unfolding verdict
+  verdict-contained e = rw (verdict, eq-eqb e)
+
+  pub verdict-not : failing c d ≢ 0 → verdict c d ≡ NotContained (failing c d) (length (specimenOf c d))
+  unfolding verdict
+  verdict-not z = rw (verdict, ne-eqb z)
+
+  pub contained-verdict : verdict c d ≡ Contained → failing c d ≡ 0
+  contained-verdict e =
+      eq-cases (failing c d) 0 (λ z. z)
+      (λ z. let f = verdict-not z in let y : _≡_ {A = ℕ} 0 1 = cc in absurd (omega arith))
+
+  pub not-verdict : {j k : ℕ} → verdict c d ≡ NotContained j k → (failing c d ≢ 0) × (failing c d ≡ j) × (length (specimenOf c d) ≡ k)
+  not-verdict {j} {k} e =
+      eq-cases (failing c d) 0
+      (λ z. let f = verdict-contained z in let y : _≡_ {A = ℕ} 0 1 = cc in absurd (omega arith))
+      (λ z. let f = verdict-not z in (z, cc, cc))

@@ -1,0 +1,151 @@
+-- The desk examples: what the comparison answers and writes for each, and the normal forms that are given.
+-- Assumes nothing.
+use Prim.Native.Nat.{_*_, _+_, _≤_, ℕ}
+use lib.Dec.{eqb, leb}
+use lib.ListN.{drop, length}
+use mathlib.Core.Bool.{true}
+use mathlib.Core.List.{List, List·Memᴰ, List·Memᴰ·cases-cons, List·Memᴰ·not-nil, [], _++_, _∷_, map}
+use mathlib.Core.Logic.{⊎-elim}
+use mathlib.Core.Path.{_∙_, _≡_, ap, refl}
+use native.Mathlib.Omega.{arith}
+use Rattle.base.proofs.Tests.{leb-le, or-right}
+use Rattle.blocks.proofs.Accepting.{encoded-accepted}
+use Rattle.blocks.proofs.Decoding.{decode-encode}
+use Rattle.blocks.proofs.FirstFault.{clean-none}
+use Rattle.blocks.proofs.Legal.{Legal, none-legal}
+use Rattle.blocks.specs.Encoding.{blocksFor, encode}
+use Rattle.blocks.specs.Entries.{entriesOf, formOk, nameOk, nth, numberOk}
+use Rattle.blocks.specs.Faults.{entryFaults, first}
+use Rattle.blocks.specs.Frame.{plain}
+use Rattle.blocks.specs.Owners.{chain, depthOf, depthOk, ownerOf, ownerOk}
+use Rattle.blocks.specs.declared.Entry.{Entry}
+use Rattle.blocks.specs.declared.Finding.the-variants.{Clean}
+use Rattle.blocks.specs.declared.Schema.the-variants.{Description}
+use Rattle.compare.proofs.AnswerLaws.{Comparable, compared, verdict-contained}
+use Rattle.compare.proofs.FirstLaws.{none-failing}
+use Rattle.compare.specs.Answer.{compareOf, failing, normalOf, outputAfter, outputOf, specimenOf, verdict}
+use Rattle.compare.specs.Cases.{Line, Outcome, compares, impossible, inside, lines, normalises, outside}
+use Rattle.compare.specs.First.{entryHolds, firstFailing, firstFrom}
+use Rattle.compare.specs.Specimen.{specimenEntries, specimenFor}
+use Rattle.compare.specs.declared.Comparison.{Comparison}
+use Rattle.compare.specs.declared.Comparison.the-variants.{Contained, NotContained}
+use Rattle.fit.specs.Background.{unrestricted}
+use Rattle.fit.specs.Description.{kindOf, linksTo, linksUp, placeOf, rowOf}
+use Rattle.fit.specs.Tree.{tree}
+use Rattle.normal.specs.Holds.{holds, holdsAt}
+use Rattle.normal.specs.Layout.{later, lay, weight, write}
+use Rattle.normal.specs.Normal.{add, bottom, dead, excluded, fill, find, insert, nf, put, putEvery, remove, removeEvery, removeLacks, sub, within}
+use Rattle.normal.specs.Witness.{below, build, groupsBy, member, names, once, path, slot, withProperties, witness}
+
+-- ---- what a line says
+
+-- the answer, and the output after it
+abbrev pub answerOf : Outcome → Comparison
+answerOf inside = Contained
+answerOf (outside n sp) = NotContained n (length sp)
+
+abbrev pub outputFor : Outcome → List ℕ → List ℕ
+outputFor inside out = out
+outputFor (outside n sp) out = encode sp ++ drop (512 * blocksFor plain (length sp)) out
+
+-- the entries as blocks give the answer and the output, for each output that is long enough; the normal form has the rows given;
+-- every accepted description contains what nothing fits
+abbrev pub Right : Line → Type 0
+Right (compares c d o) =
+    (out : List ℕ) → length (encode c) + length (encode d) ≤ length out
+    → (compareOf (encode c) (encode d) out ≡ answerOf o) × (outputOf (encode c) (encode d) out ≡ outputFor o out)
+Right (normalises c n) = write (normalOf c) ≡ map rowOf n
+Right (impossible c) = (d out : List ℕ) → Comparable (encode c) d out → compareOf (encode c) d out ≡ Contained
+
+-- ---- by computing
+
+-- a list of entries that no rule refuses, and that has room in 16 blocks
+abbrev Lawful : List Entry → Type 0
+Lawful es = (first (entryFaults Description es 1 (length es)) ≡ Clean) × (leb (length es) 1008 ≡ true)
+
+abbrev Shows : List Entry → List Entry → Outcome → Type 0
+Shows c d inside = Unit {0}
+Shows c d (outside n sp) = specimenOf c d ≡ sp
+
+-- what computes
+abbrev Computes : Line → Type 0
+Computes (compares c d o) = Lawful c × Lawful d × (verdict c d ≡ answerOf o) × Shows c d o
+Computes (normalises c n) = write (normalOf c) ≡ map rowOf n
+Computes (impossible c) = normalOf c ≡ bottom
+
+lawful-legal : (es : List Entry) → Lawful es → Legal Description es
+lawful-legal es h = none-legal (clean-none _ (h .0))
+
+-- ---- from entries to blocks
+
+few : (es : List Entry) → Lawful es → length es ≤ 63 * 16
+few es l = let h : length es ≤ 1008 = leb-le (l .1) in omega arith
+
+module _ (c d : List Entry) (lc : Lawful c) (ld : Lawful d) (out : List ℕ) (room : length (encode c) + length (encode d) ≤ length out) where
+  -- lists of entries, as blocks, are compared as they are
+  compared-entries : compareOf (encode c) (encode d) out ≡ verdict c d
+  compared-entries =
+      compared (encode c) (encode d) out
+      (record {
+        first = length c;
+        second = length d;
+        first-read = encoded-accepted Description 1 c (lawful-legal c lc) (few c lc);
+        second-read = encoded-accepted Description 2 d (lawful-legal d ld) (few d ld);
+        room = room;
+      })
+      ∙ rw (decode-encode c, decode-encode d)
+
+  output-entries : (o : Outcome) → Shows c d o → compareOf (encode c) (encode d) out ≡ answerOf o → outputOf (encode c) (encode d) out ≡ outputFor o out
+  unfolding outputOf
+  output-entries inside s e = ap (outputAfter (encode c) (encode d) out) e
+  output-entries (outside n sp) s e = ap (outputAfter (encode c) (encode d) out) e ∙ rw (decode-encode c, decode-encode d, s)
+
+-- where nothing fits C, no entry fails
+none-fails : (c d : List Entry) → normalOf c ≡ bottom → failing c d ≡ 0
+unfolding failing entryHolds holds dead
+none-fails c d e = rw (failing, e) (none-failing unrestricted bottom d (λ n lo hi. or-right (eqb (nth d n .kind) 5) refl))
+
+-- a line that computes is right
+computes-right : (l : Line) → Computes l → Right l
+computes-right (compares c d o) h = λ out room.
+    let e = compared-entries c d (h .0) (h .1) out room ∙ h .2 in
+    (e, output-entries c d (h .0) (h .1) out room o (h .3) e)
+computes-right (normalises c n) h = h
+computes-right (impossible c) h = λ d out r.
+    compared (encode c) d out r
+    ∙ verdict-contained (entriesOf (encode c)) (entriesOf d) (rw decode-encode (none-fails c (entriesOf d) h))
+
+-- ---- all lines
+
+-- each line computes
+data Each : List Line → Type 0 where
+  none : Each []
+  _also_ : {l : Line} {ls : List Line} → Computes l → Each ls → Each (l ∷ ls)
+
+infixr 5 _also_
+each-right : {ls : List Line} → Each ls → (l : Line) → List·Memᴰ l ls → Right l
+each-right none l m = absurd (List·Memᴰ·not-nil m)
+each-right (_also_ {l = a} h hs) l m = ⊎-elim (λ q. rw q (computes-right a h)) (λ r. each-right hs l r) (List·Memᴰ·cases-cons m)
+
+-- every desk example is right
+pub lines-right : (l : Line) → List·Memᴰ l lines → Right l
+unfolding lines verdict failing normalOf specimenOf firstFailing firstFrom entryHolds specimenFor specimenEntries first entryFaults formOk nameOk numberOk ownerOk ownerOf nth depthOk depthOf chain kindOf rowOf placeOf linksTo linksUp tree nf add within fill insert put putEvery remove removeEvery removeLacks find sub excluded dead holds holdsAt witness build names once slot member groupsBy withProperties below path write lay later weight
+lines-right =
+    each-right
+    (((refl, refl), (refl, refl), refl, tt)
+    also ((refl, refl), (refl, refl), refl, tt)
+    also ((refl, refl), (refl, refl), refl, refl)
+    also refl
+    also ((refl, refl), (refl, refl), refl, tt)
+    also ((refl, refl), (refl, refl), refl, tt)
+    also ((refl, refl), (refl, refl), refl, tt)
+    also ((refl, refl), (refl, refl), refl, tt)
+    also ((refl, refl), (refl, refl), refl, refl)
+    also refl
+    also refl
+    also ((refl, refl), (refl, refl), refl, refl)
+    also ((refl, refl), (refl, refl), refl, refl)
+    also ((refl, refl), (refl, refl), refl, tt)
+    also ((refl, refl), (refl, refl), refl, tt)
+    also ((refl, refl), (refl, refl), refl, refl)
+    also none)

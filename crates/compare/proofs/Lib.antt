@@ -1,0 +1,13 @@
+pub mod FirstLaws
+pub mod Contained
+pub mod SpecimenRecord
+pub mod SpecimenKeeps
+pub mod WitnessSize
+pub mod WitnessLevels
+pub mod WitnessFields
+pub mod LinkPaths
+pub mod SpecimenLegal
+pub mod NotContained
+pub mod AnswerLaws
+pub mod Answer
+pub mod Cases

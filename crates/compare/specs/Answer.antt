@@ -1,0 +1,84 @@
+-- The comparison's answer, and its output.
+-- Assumes nothing.
+use Prim.Native.Nat.{_*_, _+_, ℕ}
+use lib.Dec.{eqb, ltb}
+use lib.ListN.{drop, length}
+use mathlib.Core.Bool.{Bool, cond, false, true}
+use mathlib.Core.List.{List, _++_}
+use Rattle.blocks.specs.Encoding.{blocksFor, encode}
+use Rattle.blocks.specs.Entries.{entriesOf}
+use Rattle.blocks.specs.Frame.{plain}
+use Rattle.blocks.specs.Reading.{readingOf}
+use Rattle.blocks.specs.declared.Entry.{Entry}
+use Rattle.blocks.specs.declared.Reading.{Reading}
+use Rattle.blocks.specs.declared.Reading.the-variants as reading
+use Rattle.blocks.specs.declared.Schema.the-variants.{Description}
+use Rattle.compare.specs.First.{firstFailing}
+use Rattle.compare.specs.Specimen.{specimenFor}
+use Rattle.compare.specs.declared.Comparison.{Comparison}
+use Rattle.compare.specs.declared.Comparison.the-variants.{Contained, NotContained, Refused}
+use Rattle.fit.specs.Background.{unrestricted}
+use Rattle.fit.specs.Description.{Place, placeOf}
+use Rattle.normal.specs.Normal.{nf}
+
+-- ---- two lists of entries
+
+-- "N is C's normal form"
+unfoldable pub normalOf : List Entry → Place
+normalOf c = nf unrestricted (placeOf c 0)
+
+-- "the number of the first e that fails", 0 where all hold
+unfoldable pub failing : List Entry → List Entry → ℕ
+failing c d = firstFailing unrestricted (normalOf c) d
+
+-- the specimen, where an entry fails
+unfoldable pub specimenOf : List Entry → List Entry → List Entry
+specimenOf c d = specimenFor (normalOf c) d (failing c d)
+
+-- "All hold: 'contained' .. Otherwise 'not contained', the number of the first e that fails, the number of specimen entries"
+unfoldable pub verdict : List Entry → List Entry → Comparison
+verdict c d = cond (eqb (failing c d) 0) Contained (NotContained (failing c d) (length (specimenOf c d)))
+
+-- ---- two inputs
+
+-- "the output is at least as long as both"; 7 otherwise, "0 for number 7"
+abbrev pub roomOf : List ℕ → List ℕ → List ℕ → Comparison
+roomOf c d out = cond (ltb (length out) (length c + length d)) (Refused 7 0 0) (verdict (entriesOf c) (entriesOf d))
+
+-- the answer where C is accepted, by what reading D answers
+abbrev pub secondOf : List ℕ → List ℕ → List ℕ → Reading → Comparison
+secondOf c d out (reading.Refused k i p) = Refused k i p
+secondOf c d out (reading.Accepted m) = roomOf c d out
+
+abbrev pub firstOf : List ℕ → List ℕ → List ℕ → Reading → Comparison
+firstOf c d out (reading.Refused k i p) = Refused k i p
+firstOf c d out (reading.Accepted n) = secondOf c d out (readingOf Description 2 d)
+
+-- "Input 1 is C, input 2 is D"; "input 1 in full, input 2 in full, then 7"
+unfoldable pub compareOf : List ℕ → List ℕ → List ℕ → Comparison
+compareOf c d out = firstOf c d out (readingOf Description 1 c)
+
+-- the output after each answer: "contained, output unchanged"; "the specimen in blocks from the start, later bytes unchanged"; a
+-- refusal leaves it "unchanged"
+abbrev pub outputAfter : List ℕ → List ℕ → List ℕ → Comparison → List ℕ
+outputAfter c d out Contained = out
+outputAfter c d out (NotContained j k) = encode (specimenOf (entriesOf c) (entriesOf d)) ++ drop (512 * blocksFor plain k) out
+outputAfter c d out (Refused k i p) = out
+
+unfoldable pub outputOf : List ℕ → List ℕ → List ℕ → List ℕ
+outputOf c d out = outputAfter c d out (compareOf c d out)
+
+-- The paper's numbers for each case: whether C is contained in D; the number of the first entry that fails and the number of
+-- specimen entries; the number returned, the input and the place. 0 where a case has none.
+pub record Returned : Type 0 where
+  pub contained : Bool
+  pub entry : ℕ
+  pub entries : ℕ
+  pub number : ℕ
+  pub input : ℕ
+  pub place : ℕ
+
+abbrev pub returned : Comparison → Returned
+returned Contained = record { contained = true; entry = 0; entries = 0; number = 0; input = 0; place = 0 }
+returned (NotContained j k) = record { contained = false; entry = j; entries = k; number = 0; input = 0; place = 0 }
+returned (Refused k i p) = record { contained = false; entry = 0; entries = 0; number = k; input = i; place = p }

@@ -1,0 +1,4 @@
+pub mod First
+pub mod Specimen
+pub mod Answer
+pub mod Cases

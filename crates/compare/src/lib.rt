@@ -1,0 +1,9 @@
+// The comparison of two descriptions.
+
+// What the comparison answers: contained; not contained, with the number of the first entry of the second description that fails and the
+// number of entries of the specimen that shows it; or the refusal's number, the input and the place.
+pub enum Comparison {
+    Contained,
+    NotContained(u16, u16),
+    Refused(u8, u16, u16),
+}

@@ -1,0 +1,105 @@
+-- The normal form's answer by the ways through it: refused, or normalised.
+-- Assumes nothing.
+use Prim.Native.Nat.{_<_, _≤_, ℕ}
+use lib.ListN.{length}
+use mathlib.Core.List.{List}
+use mathlib.Core.Logic.{_⊎_, inl, inr}
+use mathlib.Core.Path.{_∙_, _≡_, ap, refl}
+use native.Mathlib.Omega.{arith}
+use Rattle.base.proofs.Tests.{ge-ltb, lt-cases, lt-ltb}
+use Rattle.blocks.proofs.Accepting.{accepted-by-none, none-of-accepted, refused-by-first}
+use Rattle.blocks.proofs.FirstFault.{FirstOf, None}
+use Rattle.blocks.specs.Entries.{entriesOf}
+use Rattle.blocks.specs.Faults.{faults}
+use Rattle.blocks.specs.Reading.{readingOf}
+use Rattle.blocks.specs.declared.Reading.{Reading}
+use Rattle.blocks.specs.declared.Schema.the-variants.{Description}
+use Rattle.normal.specs.Answer.{normalEntries, normaliseOf, normalisedOf, outputAfter, returned}
+use Rattle.normal.specs.declared.NormalAnswer.the-variants.{Normalised, Refused}
+use Rattle.blocks.specs.declared.Reading.the-variants as reading
+
+-- the input is accepted, and the output is at least as long
+pub record Ready (d out : List ℕ) : Type 0 where
+  pub total : ℕ
+  pub read : readingOf Description 1 d ≡ reading.Accepted total
+  pub room : length d ≤ length out
+
+module _ (d out : List ℕ) where
+  -- ---- the ways to an answer
+
+  -- "input 1 in full"
+  pub input-refused : {k i p : ℕ} → readingOf Description 1 d ≡ reading.Refused k i p → normaliseOf d out ≡ Refused k i p
+  unfolding normaliseOf
+  input-refused e = rw (normaliseOf, e)
+
+  -- "then 7"
+  pub too-short : {n : ℕ} → readingOf Description 1 d ≡ reading.Accepted n → length out < length d → normaliseOf d out ≡ Refused 7 0 0
+  unfolding normaliseOf
+  too-short e h = rw (normaliseOf, e, lt-ltb h)
+
+  -- the normal form is written
+  pub normalised : Ready d out → normaliseOf d out ≡ Normalised (length (normalEntries (entriesOf d)))
+  unfolding normaliseOf
+  normalised r = rw (normaliseOf, r .read, ge-ltb (r .room))
+
+  -- refused by reading, too short, or normalised
+  pub normalise-cases : {X : Type 0} → ((k i p : ℕ) → readingOf Description 1 d ≡ reading.Refused k i p → X)
+      → ((n : ℕ) → readingOf Description 1 d ≡ reading.Accepted n → length out < length d → X) → (Ready d out → X) → X
+  normalise-cases {X} f s g = by-reading (readingOf Description 1 d) refl
+    where
+      by-reading : (r : Reading) → readingOf Description 1 d ≡ r → X
+      by-reading (reading.Refused k i p) q = f k i p q
+      by-reading (reading.Accepted n) q =
+          lt-cases (length out) (length d) (λ h. s n q h) (λ h. g (record { total = n; read = q; room = h }))
+
+  -- what was normalised was accepted, and its answer is the number of entries of its normal form
+  pub normalised-ready : {k : ℕ} → normaliseOf d out ≡ Normalised k → Ready d out × (length (normalEntries (entriesOf d)) ≡ k)
+  normalised-ready {k} e =
+      normalise-cases
+      (λ j i p q. let y = input-refused q in let z : _≡_ {A = ℕ} 0 1 = cc in absurd (omega arith))
+      (λ n q h. let y = too-short q h in let z : _≡_ {A = ℕ} 0 1 = cc in absurd (omega arith))
+      (λ r. let y = normalised r in (r, cc))
+
+  -- ---- refusals
+
+  -- a refusal is that of reading the input, or 7 for an output that is too short
+  pub refused-why : {k i p : ℕ} → normaliseOf d out ≡ Refused k i p
+      → (readingOf Description 1 d ≡ reading.Refused k i p) ⊎ ((k ≡ 7) × (i ≡ 0) × (p ≡ 0) × None (faults Description d) × (length out < length d))
+  refused-why {k} {i} {p} e =
+      normalise-cases
+      (λ k′ i′ p′ q.
+      let y = input-refused q in
+      let a : k′ ≡ k = cc in
+      let b : i′ ≡ i = cc in
+      let c : p′ ≡ p = cc in
+      inl (q ∙ rw (a, b, c)))
+      (λ n q h.
+      let y = too-short q h in
+      let a : k ≡ 7 = cc in
+      let b : i ≡ 0 = cc in
+      let c : p ≡ 0 = cc in
+      inr (a, b, c, none-of-accepted Description 1 d q .0, h))
+      (λ r. let y = normalised r in let z : _≡_ {A = ℕ} 0 1 = cc in absurd (omega arith))
+
+  -- a refusal leaves the output
+  pub refused-output : {k i p : ℕ} → normaliseOf d out ≡ Refused k i p → normalisedOf d out ≡ out
+  unfolding normalisedOf
+  refused-output e = ap (outputAfter d out) e
+
+  -- ---- the paper's numbers
+
+  -- "In one input: .."
+  pub returned-refusal : {k p : ℕ} → FirstOf (faults Description d) k p
+      → returned (normaliseOf d out) ≡ record { entries = 0; number = k; input = 1; place = p }
+  returned-refusal f = ap returned (input-refused (refused-by-first Description 1 d f))
+
+  -- "then 7", "0 for number 7"
+  pub returned-short : None (faults Description d) → length out < length d
+      → returned (normaliseOf d out) ≡ record { entries = 0; number = 7; input = 0; place = 0 }
+  returned-short n h = ap returned (too-short (accepted-by-none Description 1 d n) h)
+
+  -- "The answer is the number of entries."
+  pub returned-entries : None (faults Description d) → length d ≤ length out
+      → returned (normaliseOf d out) ≡ record { entries = length (normalEntries (entriesOf d)); number = 0; input = 0; place = 0 }
+  returned-entries n h =
+      ap returned (normalised (record { total = length (entriesOf d); read = accepted-by-none Description 1 d n; room = h }))

@@ -1,0 +1,75 @@
+-- The examples of normal forms: what normalising answers and writes for each.
+-- Assumes nothing.
+use Prim.Native.Nat.{_*_, _≤_, ℕ}
+use lib.Dec.{leb}
+use lib.ListN.{drop, length}
+use mathlib.Core.Bool.{true}
+use mathlib.Core.List.{List, List·Memᴰ, List·Memᴰ·cases-cons, List·Memᴰ·not-nil, [], _++_, _∷_}
+use mathlib.Core.Logic.{⊎-elim}
+use mathlib.Core.Path.{_∙_, _≡_, ap, refl}
+use native.Mathlib.Omega.{arith}
+use Rattle.base.proofs.Tests.{leb-le}
+use Rattle.blocks.proofs.Accepting.{encoded-accepted}
+use Rattle.blocks.proofs.Decoding.{decode-encode}
+use Rattle.blocks.proofs.FirstFault.{clean-none}
+use Rattle.blocks.proofs.Legal.{none-legal}
+use Rattle.blocks.specs.Encoding.{blocksFor, encode}
+use Rattle.blocks.specs.Entries.{entriesOf, formOk, nameOk, nth, numberOk}
+use Rattle.blocks.specs.Faults.{entryFaults, first}
+use Rattle.blocks.specs.Frame.{plain}
+use Rattle.blocks.specs.Owners.{chain, depthOf, depthOk, ownerOf, ownerOk}
+use Rattle.blocks.specs.declared.Entry.{Entry}
+use Rattle.blocks.specs.declared.Schema.the-variants.{Description}
+use Rattle.fit.specs.Description.{kindOf, placeOf, rowOf}
+use Rattle.fit.specs.Tree.{tree}
+use Rattle.normal.proofs.AnswerLaws.{normalised}
+use Rattle.normal.proofs.Forms.{form}
+use Rattle.normal.specs.Answer.{normalEntries, normaliseOf, normalisedOf, outputAfter}
+use Rattle.blocks.specs.declared.Finding.the-variants.{Clean}
+use Rattle.normal.specs.Cases.{Line, lines, normalises}
+use Rattle.normal.specs.Layout.{later, lay, weight, write}
+use Rattle.normal.specs.Normal.{add, dead, excluded, fill, find, insert, nf, put, putEvery, remove, removeEvery, removeLacks, sub, within}
+use Rattle.normal.specs.SpecimenTree.{total}
+use Rattle.normal.specs.declared.NormalAnswer.the-variants.{Normalised}
+
+-- what a line says: the entries as blocks give the number of entries, and their blocks at the start of each output that is long enough
+abbrev pub Right : Line → Type 0
+Right (normalises c n) =
+    (out : List ℕ) → length (encode c) ≤ length out
+    → (normaliseOf (encode c) out ≡ Normalised (length n)) × (normalisedOf (encode c) out ≡ encode n ++ drop (512 * blocksFor plain (length n)) out)
+
+-- what computes: no rule refuses the entries, they have room in 16 blocks, and the normal form's entries are those given
+abbrev Computes : Line → Type 0
+Computes (normalises c n) = (first (entryFaults Description c 1 (length c)) ≡ Clean) × (leb (length c) 1008 ≡ true) × (normalEntries c ≡ n)
+
+-- a line that computes is right
+computes-right : (l : Line) → Computes l → Right l
+unfolding normalisedOf
+computes-right (normalises c n) h = λ out room.
+    let few : length c ≤ 1008 = leb-le (h .1) in
+    let read = encoded-accepted Description 1 c (none-legal (clean-none _ (h .0))) (omega arith) in
+    let form : normalEntries (entriesOf (encode c)) ≡ n = rw (decode-encode c) (h .2) in
+    let e : normaliseOf (encode c) out ≡ Normalised (length n) =
+    normalised (encode c) out (record { total = length c; read = read; room = room }) ∙ ap (λ (es : List Entry). Normalised (length es)) form in
+    (e, ap (outputAfter (encode c) out) e ∙ rw form)
+
+-- each line computes
+data Each : List Line → Type 0 where
+  none : Each []
+  _also_ : {l : Line} {ls : List Line} → Computes l → Each ls → Each (l ∷ ls)
+
+infixr 5 _also_
+each-right : {ls : List Line} → Each ls → (l : Line) → List·Memᴰ l ls → Right l
+each-right none l m = absurd (List·Memᴰ·not-nil m)
+each-right (_also_ {l = a} h hs) l m = ⊎-elim (λ q. rw q (computes-right a h)) (λ r. each-right hs l r) (List·Memᴰ·cases-cons m)
+
+-- every example is right
+pub lines-right : (l : Line) → List·Memᴰ l lines → Right l
+unfolding lines normalEntries first entryFaults formOk nameOk numberOk ownerOk ownerOf nth depthOk depthOf chain kindOf rowOf placeOf tree nf add within fill insert put putEvery remove removeEvery removeLacks find sub excluded dead write lay later weight
+lines-right =
+    each-right
+    ((refl, refl, refl) also (refl, refl, refl) also (refl, refl, refl) also (refl, refl, refl)
+    also (refl, refl, refl) also (refl, refl, refl) also (refl, refl, refl) also (refl, refl, refl)
+    also (refl, refl, refl) also (refl, refl, refl) also (refl, refl, refl) also (refl, refl, refl)
+    also (refl, refl, refl) also (refl, refl, refl)
+    also none)

@@ -1,0 +1,83 @@
+-- The packed entries of a normal form, written to the output, give the output that the answer promises.
+-- Assumes nothing.
+use Prim.Native.Nat.{_≤_, ℕ}
+use lib.ListN.{length, length-map, take}
+use lib.Seq.{length-take-le, take-all}
+use mathlib.Core.List.{List, [], _∷_, map}
+use mathlib.Core.Path.{_∙_, _≡_, ap, refl, sym}
+use native.Mathlib.Omega.{arith}
+use Rattle.base.proofs.Tests.{le-leb, leb-self}
+use Rattle.blocks.proofs.Accepting.{sound-of-accepted, written-encodes}
+use Rattle.blocks.proofs.Bounds.{AllBounded}
+use Rattle.blocks.proofs.Faithful.{entries-limit}
+use Rattle.blocks.proofs.Legal.{owner-earlier, owner-kind}
+use Rattle.blocks.specs.Reading.{readingOf}
+use Rattle.blocks.specs.Encoding.{bytesWritten, written}
+use Rattle.blocks.specs.Entries.{entriesOf, packed}
+use Rattle.blocks.specs.declared.Entry.{Entry}
+use Rattle.blocks.specs.declared.Schema.the-variants.{Description}
+use Rattle.fit.specs.Background.{unrestricted}
+use Rattle.fit.specs.Description.{Atom, Place, placeOf}
+use Rattle.fit.specs.Tree.{Row}
+use Rattle.normal.proofs.Answer.{normalised-means}
+use Rattle.normal.proofs.AnswerLaws.{Ready, normalised}
+use Rattle.normal.proofs.NormalEntries.{normal-fewer}
+use Rattle.normal.proofs.PassLaws.{all-bounded}
+use Rattle.normal.proofs.PassOrder.{rows-few}
+use Rattle.normal.proofs.NormalLegal.{normal-bounded}
+use Rattle.normal.specs.Answer.{normalEntries, normaliseOf, normalisedOf, outputAfter}
+use Rattle.normal.specs.Emitted.{NormalRows, rowNumber}
+use Rattle.normal.specs.Tables.{Owned}
+use Rattle.normal.specs.Layout.{write}
+use Rattle.normal.specs.Normal.{nf}
+use Rattle.normal.specs.Rows.{rowEntry}
+use Rattle.normal.specs.declared.NormalAnswer.the-variants.{Normalised}
+use Rattle.blocks.specs.declared.Reading.the-variants as reading
+
+rows-packed : (rs : List (Row Atom ℕ)) → map rowNumber rs ≡ map packed (map rowEntry rs)
+rows-packed [] = refl
+rows-packed (r ∷ rs) = rw (rows-packed rs)
+
+-- only the entries that are asked for are written
+written-front : (out rows : List ℕ) (n : ℕ) → n ≤ length rows → written out rows n ≡ written out (take n rows) n
+unfolding written bytesWritten
+written-front out rows n h =
+    let size : length (take n rows) ≡ n = length-take-le n rows h in
+    let front : take n (take n rows) ≡ take n rows = take-all n (take n rows) (omega arith) in
+    rw (written, written, bytesWritten, bytesWritten, front, size, le-leb h, leb-self n)
+
+module _ (d out : List ℕ) (r : Ready d out) (b : AllBounded (entriesOf d)) where
+  abbrev form : List Entry
+  form = normalEntries (entriesOf d)
+
+  -- a table whose first n numbers are the packed rows of the normal form: as many are written as were answered, and they are its blocks
+  pub normal-written : (rows : List ℕ) (n : ℕ) → n ≤ length rows → take n rows ≡ map rowNumber (write (nf unrestricted (placeOf (entriesOf d) 0)))
+      → (normaliseOf d out ≡ Normalised n) × (written out rows n ≡ normalisedOf d out)
+  unfolding normalEntries normalisedOf
+  normal-written rows n h e =
+      let t : Place = nf unrestricted (placeOf (entriesOf d) 0) in
+      let packs : take n rows ≡ map packed form = e ∙ rows-packed (write t) in
+      let size : n ≡ length form = sym (length-take-le n rows h) ∙ ap length packs ∙ length-map form packed in
+      let m = normalised-means d out (normalised d out r) in
+      let input = sound-of-accepted Description 1 d (r .read) in
+      let bound = normal-bounded (entriesOf d) (input .entries) b (omega (arith, entries-limit (input .blocks))) in
+      let few : length form ≤ 2016 = omega (arith, normal-fewer (entriesOf d), entries-limit (input .blocks)) in (
+        normalised d out r ∙ ap Normalised (sym size),
+        written-front out rows n h ∙ ap (λ (q : List ℕ). written out q n) packs ∙ ap (written out (map packed form)) size
+            ∙ written-encodes out form bound few (m .room) ∙ sym (ap (outputAfter d out) (normalised d out r)),
+      )
+
+-- ---- an accepted description
+
+pub accepted-owned : (d : List ℕ) {n : ℕ} → readingOf Description 1 d ≡ reading.Accepted n → Owned (entriesOf d)
+accepted-owned d e =
+    let L = sound-of-accepted Description 1 d e .entries in
+    record { earlier = owner-earlier L; every = owner-kind L }
+
+-- the packed entries are as many as the table can hold, and they are written as answered
+pub rows-written : (d out : List ℕ) {n : ℕ} → readingOf Description 1 d ≡ reading.Accepted n → length d ≤ length out → (rows : List ℕ) (r : ℕ) → NormalRows d rows r
+    → (normaliseOf d out ≡ Normalised r) × (written out rows r ≡ normalisedOf d out)
+rows-written d out {n} e l rows r N =
+    let P = N .pushed in
+    let few : length (entriesOf d) ≤ 1008 = omega (arith, entries-limit (sound-of-accepted Description 1 d e .blocks)) in
+    normal-written d out (record { total = n; read = e; room = l }) (all-bounded d (N .bounded)) rows r (omega (arith, P .total, P .size, rows-few d few)) (P .held)

@@ -1,0 +1,61 @@
+-- The normal form's answer, and its output.
+-- Assumes nothing.
+use Prim.Native.Nat.{_*_, ℕ}
+use lib.Dec.{ltb}
+use lib.ListN.{drop, length}
+use mathlib.Core.Bool.{cond}
+use mathlib.Core.List.{List, _++_, map}
+use Rattle.blocks.specs.Encoding.{blocksFor, encode}
+use Rattle.blocks.specs.Entries.{entriesOf}
+use Rattle.blocks.specs.Frame.{plain}
+use Rattle.blocks.specs.Reading.{readingOf}
+use Rattle.blocks.specs.declared.Entry.{Entry}
+use Rattle.blocks.specs.declared.Reading.{Reading}
+use Rattle.blocks.specs.declared.Reading.the-variants as reading
+use Rattle.blocks.specs.declared.Schema.the-variants.{Description}
+use Rattle.fit.specs.Background.{unrestricted}
+use Rattle.fit.specs.Description.{placeOf}
+use Rattle.normal.specs.Layout.{write}
+use Rattle.normal.specs.Normal.{nf}
+use Rattle.normal.specs.Rows.{rowEntry}
+use Rattle.normal.specs.declared.NormalAnswer.{NormalAnswer}
+use Rattle.normal.specs.declared.NormalAnswer.the-variants.{Normalised, Refused}
+
+-- ---- a list of entries
+
+-- the normal form's entries: "entries ascend by owner, then kind, then name"
+unfoldable pub normalEntries : List Entry → List Entry
+normalEntries es = map rowEntry (write (nf unrestricted (placeOf es 0)))
+
+-- ---- an input
+
+-- "One input; the output is at least as long"; 7 otherwise, "0 for number 7". "The answer is the number of entries."
+abbrev pub roomOf : List ℕ → List ℕ → NormalAnswer
+roomOf d out = cond (ltb (length out) (length d)) (Refused 7 0 0) (Normalised (length (normalEntries (entriesOf d))))
+
+abbrev pub readOf : List ℕ → List ℕ → Reading → NormalAnswer
+readOf d out (reading.Refused k i p) = Refused k i p
+readOf d out (reading.Accepted n) = roomOf d out
+
+-- "Order: input 1 in full, .. then 7."
+unfoldable pub normaliseOf : List ℕ → List ℕ → NormalAnswer
+normaliseOf d out = readOf d out (readingOf Description 1 d)
+
+-- the output after each answer: "Written in blocks from the start of the output"; "later bytes stay"; a refusal leaves it "unchanged"
+abbrev pub outputAfter : List ℕ → List ℕ → NormalAnswer → List ℕ
+outputAfter d out (Normalised k) = encode (normalEntries (entriesOf d)) ++ drop (512 * blocksFor plain k) out
+outputAfter d out (Refused k i p) = out
+
+unfoldable pub normalisedOf : List ℕ → List ℕ → List ℕ
+normalisedOf d out = outputAfter d out (normaliseOf d out)
+
+-- The paper's numbers for each case: the number of entries; the number returned, the input and the place. 0 where a case has none.
+pub record Returned : Type 0 where
+  pub entries : ℕ
+  pub number : ℕ
+  pub input : ℕ
+  pub place : ℕ
+
+abbrev pub returned : NormalAnswer → Returned
+returned (Normalised k) = record { entries = k; number = 0; input = 0; place = 0 }
+returned (Refused k i p) = record { entries = 0; number = k; input = i; place = p }

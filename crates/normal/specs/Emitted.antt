@@ -1,0 +1,143 @@
+-- The rows of a place as plain lists, and the jobs that wait, as the code keeps them. No public promise names these.
+-- Assumes nothing.
+use Prim.Native.Nat.{_+_, _<_, _≤_, suc, zero, ℕ}
+use lib.Dec.{eqb}
+use lib.ListN.{getD, length, set, take}
+use mathlib.Core.Bool.{Bool, _&&_, cond, not}
+use mathlib.Core.List.{List, [], _++_, _∷_, map}
+use mathlib.Core.Logic.{_≢_}
+use mathlib.Core.Option.{Option, none, some}
+use mathlib.Core.Path.{_≡_}
+use Rattle.blocks.specs.Entries.{Bounded, entriesOf, nth, packed}
+use Rattle.fit.specs.Background.{unrestricted}
+use Rattle.fit.specs.Description.{Atom, Kind, atom, has, lacks, least, most, placeOf}
+use Rattle.fit.specs.Tree.{Row, leafRow, nodeRow}
+use Rattle.normal.specs.Layout.{Queue, done, job, later, write}
+use Rattle.normal.specs.Normal.{atMost, nf}
+use Rattle.normal.specs.Ordered.{tagNumbers, tagPlace, tagSlot}
+use Rattle.normal.specs.Pipeline.{walk}
+use Rattle.normal.specs.Rows.{rowEntry}
+use Rattle.normal.specs.Slots.{Cell, cell, isLink, sameClass, value}
+use Rattle.normal.specs.Tables.{lowPart}
+use Rattle.normal.specs.Witness.{below}
+use Rattle.sorting.specs.Sorted.{sorted}
+
+-- ---- rows as entries
+
+-- the packed entry of a row
+abbrev pub rowNumber : Row Atom ℕ → ℕ
+rowNumber r = packed (rowEntry r)
+
+-- ---- the rows of one place
+
+-- a row of kind a, if there is a number
+abbrev pub rowsIf : Kind → ℕ → ℕ → Option ℕ → List (Row Atom ℕ)
+rowsIf a o n none = []
+rowsIf a o n (some m) = leafRow o (atom a n m) ∷ []
+
+-- the rows of kind a of owner o
+unfoldable pub kindRows : Kind → ℕ → List Cell → List (Row Atom ℕ)
+kindRows a o [] = []
+kindRows a o (cell j b n lo hi ∷ q) = cond (sameClass b (isLink a)) (rowsIf a o n (value a lo hi)) [] ++ kindRows a o q
+
+-- the 'every' rows of owner o, for the cells that are kept, and the slots that they lead to
+unfoldable pub everyRows : (ℕ → Bool → Option ℕ → Bool) → ℕ → List Cell → List (Row Atom ℕ)
+everyRows keep o [] = []
+everyRows keep o (cell j b n lo hi ∷ q) = cond (keep j b hi) (nodeRow o n ∷ everyRows keep o q) (everyRows keep o q)
+
+unfoldable pub everySlots : (ℕ → Bool → Option ℕ → Bool) → List Cell → List ℕ
+everySlots keep [] = []
+everySlots keep (cell j b n lo hi ∷ q) = cond (keep j b hi) (j ∷ everySlots keep q) (everySlots keep q)
+
+-- the rows of a place that are no 'every'
+unfoldable pub atomRows : ℕ → List Cell → List (Row Atom ℕ)
+atomRows o q = kindRows has o q ++ (kindRows lacks o q ++ (kindRows least o q ++ kindRows most o q))
+
+-- ---- the jobs
+
+-- further jobs, numbered from k on
+unfoldable pub laterEach : Queue ℕ → ℕ → List ℕ → Queue ℕ
+laterEach Q k [] = Q
+laterEach Q k (j ∷ js) = laterEach (later Q k j) (suc k) js
+
+-- the jobs of n rows from row i on: the slot that each leads to, where 0 is none
+unfoldable pub jobsFrom : List ℕ → ℕ → ℕ → Queue ℕ
+jobsFrom below i zero = done
+jobsFrom below i (suc n) = cond (eqb (getD below i 0) 0) (jobsFrom below (suc i) n) (job i (getD below i 0) (jobsFrom below (suc i) n))
+
+-- the slots js noted as those that rows from row k on lead to
+unfoldable pub noteEach : List ℕ → ℕ → List ℕ → List ℕ
+noteEach below k [] = below
+noteEach below k (j ∷ js) = noteEach (set below k j) (suc k) js
+
+-- ---- the tables of the walk
+
+-- the number that a cell lists with kind a, if any
+abbrev pub cellValue : Kind → Cell → Option ℕ
+cellValue a (cell j b n lo hi) = cond (sameClass b (isLink a)) (value a lo hi) none
+
+-- a number that may be missing; 131,072 for none
+abbrev pub valueNumber : Option ℕ → ℕ
+valueNumber none = 131072
+valueNumber (some m) = m
+
+abbrev pub cellName : Cell → ℕ
+cellName (cell j b n lo hi) = n
+
+-- an 'every' is kept where its slot is a link's, its place has something to say, and its bound is not 0
+abbrev pub keepIn : List ℕ → ℕ → Bool → Option ℕ → Bool
+keepIn full j b hi = b && (not (eqb (getD full j 0) 0) && not (atMost 0 hi))
+
+abbrev pub cellSlot : Cell → ℕ
+cellSlot (cell j b n lo hi) = j
+
+abbrev pub keepCell : (ℕ → Bool → Option ℕ → Bool) → Cell → Bool
+keepCell keep (cell j b n lo hi) = keep j b hi
+
+-- all rows of a place
+unfoldable pub placeRows : (ℕ → Bool → Option ℕ → Bool) → ℕ → List Cell → List (Row Atom ℕ)
+placeRows keep o q = atomRows o q ++ everyRows keep o q
+
+-- The rows of all places, from the top on, where S gives the cells of each place. There are at most 1,008 entries, so that 2,018
+-- places are enough.
+unfoldable pub allRows : (ℕ → Bool → Option ℕ → Bool) → (ℕ → List Cell) → List (Row Atom ℕ)
+allRows keep S = walk keep S 2018 1 (job 0 0 done)
+
+-- the rows are pushed onto the table of packed entries, which has `from` of them, and then has r
+pub record Pushed (rows : List ℕ) (from : ℕ) (L : List (Row Atom ℕ)) (rows′ : List ℕ) (r : ℕ) : Type 0 where
+  pub size : length rows′ ≡ 1008
+  pub total : r ≡ from + length L
+  pub held : take r rows′ ≡ take from rows ++ map rowNumber L
+
+-- numbers of slots, in a table of so many, whose places and bounds are small
+pub record Walkable (t z : List ℕ) (used : ℕ) : Type 0 where
+  pub few : used ≤ 1008
+  pub slot : (i : ℕ) → i < used → tagSlot (getD z i 0) < 1009
+  pub some′ : (i : ℕ) → i < used → 1 ≤ tagSlot (getD z i 0)
+  pub place : (i : ℕ) → i < used → tagPlace (getD z i 0) < 1009
+  pub bound : (i : ℕ) → i < used → lowPart (getD t (tagSlot (getD z i 0)) 0) < 65536
+
+-- a packed entry of these fields
+unfoldable pub packedOf : ℕ → ℕ → ℕ → ℕ → ℕ
+packedOf kind owner name number = packed (record { kind = kind; reserved = 0; owner = owner; name = name; number = number })
+
+-- Rows are pushed as Pushed says; the places of the slots js follow, the first of them for row `at`.
+pub record Placing (rows : List ℕ) (from : ℕ) (L : List (Row Atom ℕ)) (below : List ℕ) (at : ℕ) (js : List ℕ) (rows′ : List ℕ) (r : ℕ) (below′ : List ℕ) : Type 0 where
+  pub pushed : Pushed rows from L rows′ r
+  pub noted : below′ ≡ noteEach below at js
+
+-- Row k is passed where it leads nowhere; else the rows of the place that it leads to are pushed.
+pub record Stepped (keep : ℕ → Bool → Option ℕ → Bool) (S : ℕ → List Cell) (k : ℕ) (rows : List ℕ) (count : ℕ) (below rows′ : List ℕ) (r : ℕ) (below′ : List ℕ) : Type 0 where
+  pub passed : getD below k 0 ≡ 0 → (rows′ ≡ rows) × (r ≡ count) × (below′ ≡ below)
+  pub placed : getD below k 0 ≢ 0
+      → Placing rows count (placeRows keep k (S (getD below k 0))) below (count + length (atomRows k (S (getD below k 0))) + 1) (everySlots keep (S (getD below k 0))) rows′ r below′
+
+-- a table whose slots can be ordered: each ordered number is then of a slot whose place and bounds are small
+pub record Orderable (t : List ℕ) (used : ℕ) : Type 0 where
+  pub few : used ≤ 1008
+  pub walkable : (z : List ℕ) → length z ≡ 1008 → take used z ≡ sorted (tagNumbers t 1 used) → Walkable t z used
+
+-- The first r of these are the packed entries of the normal form of the description d, whose entries fit their fields.
+pub record NormalRows (d rows : List ℕ) (r : ℕ) : Type 0 where
+  pub pushed : Pushed [] 0 (write (nf unrestricted (placeOf (entriesOf d) 0))) rows r
+  pub bounded : (n : ℕ) → 1 ≤ n → n ≤ length (entriesOf d) → Bounded (nth (entriesOf d) n)
