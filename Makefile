@@ -1,5 +1,5 @@
-# make run: the reader on a shipped example. make test: the gate.
-.PHONY: run test
+# make run: the reader on a shipped example. make test: the gate. make bench: how long a run of each program takes.
+.PHONY: run test bench
 
 run: target/bin/inspect
 	target/bin/inspect < examples/supplier.blocks
@@ -9,3 +9,7 @@ target/bin/inspect: crates.txt $(shell find crates/base crates/blocks crates/ins
 
 test:
 	bash .ci/run
+
+bench:
+	rt check inspect normals fits
+	bash bench/run
