@@ -19,9 +19,8 @@ use Rattle.compare.specs.Answer.{failing, normalOf}
 use Rattle.compare.specs.First.{entryHolds, firstFailing}
 use Rattle.fit.proofs.Kept.{kept-unrestricted, lawful-unrestricted}
 use Rattle.fit.proofs.Paths.{fits-paths, paths-fit}
-use Rattle.fit.proofs.Places.{atomOf}
 use Rattle.fit.specs.Background.{Background, Keeps, LawfulBackground, unrestricted}
-use Rattle.fit.specs.Description.{Place, linksTo, placeOf}
+use Rattle.fit.specs.Description.{Place, atomOf, linksTo, placeOf}
 use Rattle.fit.specs.Record.{Record, along, fits, meets}
 use Rattle.normal.proofs.Holds.{nf-holds-says}
 use Rattle.normal.specs.Holds.{holds}

@@ -14,8 +14,7 @@ use Rattle.blocks.specs.Owners.{chain, depthOf, ownerOf}
 use Rattle.blocks.specs.declared.Entry.{Entry}
 use Rattle.blocks.specs.declared.Schema.the-variants.{Description}
 use Rattle.compare.proofs.WitnessFields.{AllNames, GoalFields}
-use Rattle.fit.proofs.Places.{atomOf}
-use Rattle.fit.specs.Description.{linksTo, linksUp}
+use Rattle.fit.specs.Description.{atomOf, linksTo, linksUp}
 use Rattle.normal.proofs.EntryFields.{EntryFields, atom-fields}
 use Rattle.normal.proofs.PlaceSize.{depth-most}
 use Rattle.normal.specs.Witness.{on}

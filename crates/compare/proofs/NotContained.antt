@@ -25,9 +25,8 @@ use Rattle.compare.specs.First.{entryHolds, firstFailing}
 use Rattle.compare.specs.Specimen.{specimenFor}
 use Rattle.fit.proofs.Kept.{lawful-unrestricted}
 use Rattle.fit.proofs.Paths.{fits-paths}
-use Rattle.fit.proofs.Places.{atomOf}
 use Rattle.fit.specs.Background.{Background, Keeps, LawfulBackground}
-use Rattle.fit.specs.Description.{Atom, Place, linksTo, placeOf}
+use Rattle.fit.specs.Description.{Atom, Place, atomOf, linksTo, placeOf}
 use Rattle.fit.specs.Record.{fits}
 use Rattle.fit.specs.Specimen.{recordOf}
 use Rattle.normal.proofs.Normal.{alive, nf-normal}

@@ -18,9 +18,8 @@ use Rattle.compare.proofs.WitnessFields.{GroupFields, SpecimenFields, w
 use Rattle.compare.proofs.WitnessLevels.{witness-levels}
 use Rattle.compare.proofs.WitnessSize.{witness-nodes}
 use Rattle.compare.specs.Specimen.{rowEntry, specimenEntries, specimenFor}
-use Rattle.fit.proofs.Places.{atomOf}
 use Rattle.fit.specs.Background.{Background}
-use Rattle.fit.specs.Description.{linksTo, placeOf}
+use Rattle.fit.specs.Description.{atomOf, linksTo, placeOf}
 use Rattle.fit.specs.Tree.{Row, leafRow, nodeRow, rowOwner}
 use Rattle.normal.proofs.AllEntries.{OfRow, row-all, write-all}
 use Rattle.normal.proofs.EntryFields.{Any, EntryFields, Positive, Word, bounded-words, legal-names, place-fields}

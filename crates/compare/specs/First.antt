@@ -7,9 +7,8 @@ use mathlib.Core.Bool.{Bool, _||_, cond}
 use mathlib.Core.List.{List}
 use Rattle.blocks.specs.Entries.{nth}
 use Rattle.blocks.specs.declared.Entry.{Entry}
-use Rattle.fit.proofs.Places.{atomOf}
 use Rattle.fit.specs.Background.{Background}
-use Rattle.fit.specs.Description.{Place, linksTo}
+use Rattle.fit.specs.Description.{Place, atomOf, linksTo}
 use Rattle.normal.specs.Holds.{holds}
 
 -- "An entry e of D stands at the place reached by its owners' links, W. It holds if N is kind 6; or if N has at most 0 of the next

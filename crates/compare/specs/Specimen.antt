@@ -4,8 +4,7 @@ use Prim.Native.Nat.{ℕ}
 use mathlib.Core.List.{List, map}
 use Rattle.blocks.specs.Entries.{nth}
 use Rattle.blocks.specs.declared.Entry.{Entry}
-use Rattle.fit.proofs.Places.{atomOf}
-use Rattle.fit.specs.Description.{Place, linksTo}
+use Rattle.fit.specs.Description.{Place, atomOf, linksTo}
 use Rattle.fit.specs.Tree.{Row, leafRow, nodeRow}
 use Rattle.normal.specs.Layout.{write}
 use Rattle.normal.specs.SpecimenTree.{Group, SpecimenTree, group}

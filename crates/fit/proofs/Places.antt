@@ -15,7 +15,7 @@ use Rattle.blocks.specs.declared.Entry.{Entry}
 use Rattle.blocks.specs.declared.Schema.{Schema}
 use Rattle.fit.proofs.Counting.{every-from-ext, every-map, everyFrom}
 use Rattle.fit.proofs.Owned.{owned-from}
-use Rattle.fit.specs.Description.{Atom, Place, atom, kindOf, placeOf, rowOf}
+use Rattle.fit.specs.Description.{Atom, Place, atom, atomOf, kindOf, placeOf, rowOf}
 use Rattle.fit.specs.Groups.{allOwned}
 use Rattle.fit.specs.Tree.{Early, Row, Tree, end, leaf, leafRow, node, nodeRow, rowOwner, tree}
 
@@ -54,10 +54,6 @@ module _ {A B : Type 0} (f : A → Bool) (g : B → Tree A B → Bool) (whole : 
       rw (eqb-sym o′ o, ← ih, ← own) (bool-cases (eqb o o′) (λ z. rw z) (λ z. rw z))
 
 -- ---- descriptions
-
--- what entry e says, if it is no 'every'
-abbrev pub atomOf : Entry → Atom
-atomOf e = atom (kindOf (e .kind)) (e .name) (e .number)
 
 -- entry n, which is e, passes: f of what it says, or g of its link and of the place it owns
 abbrev pub asks : (Atom → Bool) → (ℕ → Place → Bool) → List Entry → ℕ → Entry → Bool

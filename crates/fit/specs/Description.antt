@@ -26,8 +26,13 @@ Place = Tree Atom ℕ
 unfoldable pub kindOf : ℕ → Kind
 kindOf k = cond (eqb k 1) has (cond (eqb k 2) lacks (cond (eqb k 3) least (cond (eqb k 4) most nothing)))
 
+-- what an entry says, if it is no 'every'
+abbrev pub atomOf : Entry → Atom
+atomOf e = atom (kindOf (e .kind)) (e .name) (e .number)
+
+-- the row of an entry
 unfoldable pub rowOf : Entry → Row Atom ℕ
-rowOf e = cond (eqb (e .kind) 5) (nodeRow (e .owner) (e .name)) (leafRow (e .owner) (atom (kindOf (e .kind)) (e .name) (e .number)))
+rowOf e = cond (eqb (e .kind) 5) (nodeRow (e .owner) (e .name)) (leafRow (e .owner) (atomOf e))
 
 -- the place that entry o owns; the top for o = 0
 unfoldable pub placeOf : List Entry → ℕ → Place

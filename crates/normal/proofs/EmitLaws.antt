@@ -15,7 +15,6 @@ use Rattle.base.proofs.Cases.{opt-cases}
 use Rattle.base.proofs.Tests.{bool-cases, eq-eqb, ne-eqb}
 use Rattle.fit.specs.Description.{Atom, Kind, atom, has, lacks, least, most}
 use Rattle.fit.specs.Tree.{Row, leafRow, nodeRow}
-use Rattle.normal.proofs.WrittenLists.{below}
 use Rattle.normal.specs.Emitted.{atomRows, everyRows, everySlots, jobsFrom, kindRows, laterEach}
 use Rattle.normal.specs.Layout.{Queue, done, job, later}
 use Rattle.normal.specs.Pipeline.{outEvery, outKind, walk}

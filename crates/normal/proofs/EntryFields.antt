@@ -14,8 +14,7 @@ use Rattle.blocks.proofs.Legal.{Legal}
 use Rattle.blocks.specs.Entries.{formOk, kindOk, nameOk, nth, numberOk, zeroEntry}
 use Rattle.blocks.specs.declared.Entry.{Entry}
 use Rattle.blocks.specs.declared.Schema.{Schema}
-use Rattle.fit.proofs.Places.{atomOf}
-use Rattle.fit.specs.Description.{kindOf, placeOf, rowOf}
+use Rattle.fit.specs.Description.{atomOf, kindOf, placeOf, rowOf}
 use Rattle.normal.proofs.AllEntries.{AllRows, OfRow, tree-all}
 use Rattle.normal.proofs.Fields.{AtomFields, Fields}
 

@@ -15,6 +15,7 @@ use Rattle.base.proofs.Tests.{bool-cases, lt-cases}
 use Rattle.blocks.specs.Entries.{entriesOf}
 use Rattle.fit.specs.Background.{unrestricted}
 use Rattle.fit.specs.Description.{atom, nothing, placeOf, rowOf}
+use Rattle.fit.specs.Record.{bit}
 use Rattle.fit.specs.Tree.{leafRow}
 use Rattle.normal.proofs.Exact.{normal-exact, normal-length}
 use Rattle.normal.proofs.KeyLaws.{slots-small}
@@ -31,7 +32,7 @@ use Rattle.normal.specs.Normal.{nf, same}
 use Rattle.normal.specs.Ordered.{firstFrom, runFrom, runOf, tagNumbers, tagPlace, tagSlot}
 use Rattle.normal.specs.Pipeline.{enoughFor, keeping, normalRows, rowsFrom}
 use Rattle.normal.specs.Slots.{dies, low, says, settled, slot, slots}
-use Rattle.normal.specs.Tables.{Settled, bitOf, keyIn, lowPart}
+use Rattle.normal.specs.Tables.{Settled, keyIn, lowPart}
 use Rattle.sorting.proofs.Elements.{member-of-sorted}
 use Rattle.sorting.specs.Sorted.{sorted}
 
@@ -107,7 +108,7 @@ runs-front t z y used e =
 
 -- ---- the 'every' entries that are kept
 
-mark-test : (b : Bool) → not (eqb (bitOf b) 0) ≡ b
+mark-test : (b : Bool) → not (eqb (bit b) 0) ≡ b
 mark-test true = refl
 mark-test false = refl
 
@@ -130,7 +131,7 @@ unfolding allRows rowsFrom placeOf
 rows-alive {d} {used} {t} s few z =
     let rs = map rowOf (entriesOf d) in
     let places : enoughFor rs ≤ 2018 = omega (arith, length-map (entriesOf d) rowOf, few) in
-    let lives : dies 1 (slots rs) 0 ≡ false = bool-cases (dies 1 (slots rs) 0) (λ e. absurd (omega (arith, z, s .bads ∙ ap bitOf e))) (λ e. e) in
+    let lives : dies 1 (slots rs) 0 ≡ false = bool-cases (dies 1 (slots rs) 0) (λ e. absurd (omega (arith, z, s .bads ∙ ap bit e))) (λ e. e) in
     rw (keeps-same s few) (rw (rowsFrom, lives) at (normal-ordered rs t used (s .few) (s .slotted) (s .apart) 2018 places))
 
 pub rows-dead : {d : List ℕ} {used : ℕ} {t bad full : List ℕ} → Settled d used t bad full → getD bad 0 0 ≢ 0
@@ -138,7 +139,7 @@ pub rows-dead : {d : List ℕ} {used : ℕ} {t bad full : List ℕ} → Settled 
 unfolding normalRows rowsFrom placeOf
 rows-dead {d} s z =
     let rs = map rowOf (entriesOf d) in
-    let falls : dies 1 (slots rs) 0 ≡ true = bool-cases (dies 1 (slots rs) 0) (λ e. e) (λ e. absurd (z (s .bads ∙ ap bitOf e))) in
+    let falls : dies 1 (slots rs) 0 ≡ true = bool-cases (dies 1 (slots rs) 0) (λ e. e) (λ e. absurd (z (s .bads ∙ ap bit e))) in
     sym (normal-exact rs) ∙ rw (normalRows, rowsFrom, falls)
 
 pub rows-few : (d : List ℕ) → length (entriesOf d) ≤ 1008 → length (write (nf unrestricted (placeOf (entriesOf d) 0))) ≤ 1008

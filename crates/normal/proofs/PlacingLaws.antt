@@ -14,7 +14,6 @@ use Rattle.base.proofs.Tests.{bool-cases, eq-cases, ge-ltb, gt-leb, lt-cases, l
 use Rattle.fit.specs.Description.{has, lacks, least, most}
 use Rattle.fit.specs.Tree.{nodeRow}
 use Rattle.normal.proofs.PushLaws.{Pushing, part-room, pushed-more, pushed-none, pushed-one, pushing-done, pushing-more, pushing-room, pushing-start}
-use Rattle.normal.proofs.WrittenLists.{below}
 use Rattle.normal.specs.Emitted.{Placing, Pushed, atomRows, cellName, cellSlot, everyRows, everySlots, keepCell, kindRows, noteEach, packedOf, placeRows}
 use Rattle.normal.specs.Normal.{atMost}
 use Rattle.normal.specs.Slots.{Cell, cell}

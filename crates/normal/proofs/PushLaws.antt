@@ -18,7 +18,6 @@ use Rattle.normal.specs.Emitted.{Pushed, cellName, cellValue, kindRows, 
 use Rattle.normal.specs.Normal.{rank}
 use Rattle.normal.specs.Ordered.{runFrom, tagCell, tagPlace, tagSlot}
 use Rattle.normal.specs.Slots.{Cell, cell, isLink, sameClass, value}
-use Rattle.normal.specs.SpecimenTree.{total}
 use Rattle.normal.specs.Tables.{highIn, highPart, lowPart}
 
 -- ---- rows after rows

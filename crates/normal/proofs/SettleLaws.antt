@@ -10,10 +10,11 @@ use mathlib.Core.Logic.{inl}
 use mathlib.Core.Path.{_∙_, _≡_, ap, refl}
 use native.Mathlib.Omega.{arith}
 use Rattle.base.proofs.Tests.{and-zero, bool-cases, eq-cases, eq-eqb, ne-eqb}
+use Rattle.fit.specs.Record.{bit}
 use Rattle.normal.proofs.TableLaws.{high-made, key-made, low-made, slots-other}
 use Rattle.normal.specs.Normal.{found}
 use Rattle.normal.specs.Slots.{Slot, broken, dies, says, settled, shut, slot}
-use Rattle.normal.specs.Tables.{Placed, Settling, Slotted, bitOf, highIn, highPart, keyIn, lowPart, shutBound, slotIn, slotNumber, slotsFrom}
+use Rattle.normal.specs.Tables.{Placed, Settling, Slotted, highIn, highPart, keyIn, lowPart, shutBound, slotIn, slotNumber, slotsFrom}
 use Rattle.normal.specs.Witness.{below}
 
 -- an upper bound that is shut
@@ -22,13 +23,13 @@ shut-high true h = refl
 shut-high false h = refl
 
 -- a mark is a bit
-bit-set : (c : Bool) → not (eqb (bitOf c) 0) ≡ c
+bit-set : (c : Bool) → not (eqb (bit c) 0) ≡ c
 bit-set true = refl
 bit-set false = refl
 
 -- a mark put where a test holds
-mark-or : (c : Bool) (marks : List ℕ) (u v : ℕ) (d : Bool) → u < length marks → getD marks v 0 ≡ bitOf d
-    → getD (cond c (set marks u 1) marks) v 0 ≡ bitOf ((eqb v u && c) || d)
+mark-or : (c : Bool) (marks : List ℕ) (u v : ℕ) (d : Bool) → u < length marks → getD marks v 0 ≡ bit d
+    → getD (cond c (set marks u 1) marks) v 0 ≡ bit ((eqb v u && c) || d)
 mark-or true marks u v d l e =
     eq-cases v u
     (λ q. rw (eq-eqb q, q) (getD-set-same marks u 1 0 l))

@@ -13,9 +13,10 @@ use native.Mathlib.Nat.{add-suc, add-zero, suc-add}
 use native.Mathlib.Omega.{arith}
 use Rattle.base.proofs.Split.{place-of, row-of}
 use Rattle.base.proofs.Tests.{and-both, bool-cases, eq-cases, eq-eqb, eqb-eq, eqb-self, ge-ltb, iff-eq, lt-cases, lt-ltb, tests}
+use Rattle.fit.specs.Record.{bit}
 use Rattle.normal.proofs.SlotLaws.{class-self, key-name, key-place, name-class, name-eq}
 use Rattle.normal.specs.Slots.{Slot, position, sameKey, sameName, slot, smaller, tighten}
-use Rattle.normal.specs.Tables.{bitOf, highIn, highPart, keyIn, keyNumber, lowPart, slotIn, slotNumber, slotsFrom}
+use Rattle.normal.specs.Tables.{highIn, highPart, keyIn, keyNumber, lowPart, slotIn, slotNumber, slotsFrom}
 
 -- ---- taking a number apart
 
@@ -33,7 +34,8 @@ pub high-made : (key lo hi : ℕ) → lo < 131072 → hi < 131072 → highPart (
 unfolding highPart slotNumber
 high-made key lo hi l h = ap (λ (x : ℕ). x % 131072) (omega arith) ∙ place-of {r = 131072} (131072 * key + lo) hi h
 
-bit-of : (k : ℕ) → bitOf (eqb (k / 65536 % 2) 1) ≡ k / 65536 % 2
+-- the bit of a class
+pub bit-of : (k : ℕ) → bit (eqb (k / 65536 % 2) 1) ≡ k / 65536 % 2
 bit-of k = bool-cases (eqb (k / 65536 % 2) 1) (λ q. rw q (omega tests)) (λ q. rw q (omega tests))
 
 -- a key is made of its parts
@@ -46,7 +48,7 @@ unfolding keyNumber
 class-of v true n h = let e : (131072 * v + (65536 * 1 + n)) / 65536 % 2 ≡ 1 = omega arith in rw e
 class-of v false n h = let e : (131072 * v + (65536 * 0 + n)) / 65536 % 2 ≡ 0 = omega arith in rw e
 
-bit-small : (b : Bool) → bitOf b ≤ 1
+bit-small : (b : Bool) → bit b ≤ 1
 bit-small true = omega arith
 bit-small false = omega arith
 

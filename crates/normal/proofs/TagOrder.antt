@@ -9,10 +9,10 @@ use mathlib.Core.Logic.{_≢_, ⊎-elim}
 use mathlib.Core.Path.{_∙_, _≡_, ap, sym}
 use native.Mathlib.Omega.{arith}
 use Rattle.base.proofs.Tests.{bool-cases, both-ways, ltb-lt, tests}
-use Rattle.fit.specs.Record.{bit}
 use Rattle.normal.proofs.KeyLaws.{packed-below}
 use Rattle.normal.proofs.Rising.{Different, sorted-map, sorted-rising, within-map}
 use Rattle.normal.proofs.SortedLaws.{Within}
+use Rattle.normal.proofs.TableLaws.{bit-of}
 use Rattle.normal.proofs.TagLaws.{length-numbers, number-key, number-slot}
 use Rattle.normal.specs.Keys.{packedKey}
 use Rattle.normal.specs.Ordered.{tagCell, tagIn, tagNumber, tagNumbers, tagPlace, tagSlot}
@@ -56,13 +56,9 @@ numbers-different t i (suc n) h = ((λ y m e. apart y (numbers-slot t (suc i) n 
         let f : i ≡ r .at = sym a ∙ ap tagSlot (e ∙ r .is) ∙ b in
         omega (arith, r .from)
 
--- the bit of a class
-class-bit : (k : ℕ) → bit (eqb (k / 65536 % 2) 1) ≡ k / 65536 % 2
-class-bit k = bool-cases (eqb (k / 65536 % 2) 1) (λ q. rw q (omega tests)) (λ q. rw q (omega tests))
-
 -- a key is made of its parts
 packed-parts : (k : ℕ) → packedKey (k / 131072) (eqb (k / 65536 % 2) 1) (k % 65536) ≡ k
-packed-parts k = rw (class-bit k) (omega arith)
+packed-parts k = rw (bit-of k) (omega arith)
 
 -- a number whose key is below that of another has the tag that stands first
 tag-below : (t : List ℕ) (x y : ℕ) → x / 1024 < y / 1024 → beforeTag (tagIn t x) (tagIn t y) ≡ true

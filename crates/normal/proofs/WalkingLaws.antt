@@ -20,13 +20,11 @@ use Rattle.normal.proofs.EmitLaws.{jobs-more, jobs-none, walk-done, wal
 use Rattle.normal.proofs.PlacingLaws.{every-length, length-noted}
 use Rattle.normal.proofs.PushLaws.{Pushing, part-room, pushed-anew, pushed-none, pushing-done, pushing-more, pushing-room, pushing-same}
 use Rattle.normal.proofs.RunLaws.{first-within}
-use Rattle.normal.proofs.WrittenLists.{below}
 use Rattle.normal.specs.Emitted.{Placing, Pushed, Walkable, allRows, atomRows, everyRows, everySlots, jobsFrom, keepCell, laterEach, noteEach, placeRows}
 use Rattle.normal.specs.Layout.{done, job}
 use Rattle.normal.specs.Ordered.{firstFrom, runFrom, runOf, tagCell, tagPlace, tagSlot}
 use Rattle.normal.specs.Pipeline.{walk}
 use Rattle.normal.specs.Slots.{Cell}
-use Rattle.normal.specs.SpecimenTree.{total}
 
 -- ---- slots that are noted
 

@@ -19,7 +19,6 @@ use Rattle.normal.specs.Pipeline.{walk}
 use Rattle.normal.specs.Rows.{rowEntry}
 use Rattle.normal.specs.Slots.{Cell, cell, isLink, sameClass, value}
 use Rattle.normal.specs.Tables.{lowPart}
-use Rattle.normal.specs.Witness.{below}
 use Rattle.sorting.specs.Sorted.{sorted}
 
 -- ---- rows as entries

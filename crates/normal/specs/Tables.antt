@@ -12,17 +12,14 @@ use Rattle.blocks.specs.Entries.{Bounded, entriesOf, nth}
 use Rattle.blocks.specs.Owners.{ownerOf}
 use Rattle.blocks.specs.declared.Entry.{Entry}
 use Rattle.fit.specs.Description.{rowOf}
+use Rattle.fit.specs.Record.{bit}
 use Rattle.normal.specs.Chain.{Chains}
 use Rattle.normal.specs.Normal.{found}
 use Rattle.normal.specs.Slots.{Slot, broken, dies, position, says, settled, slot, slots, tighten}
 
-abbrev pub bitOf : Bool → ℕ
-bitOf true = 1
-bitOf false = 0
-
 -- the key of a slot: its place, its class and its name
 unfoldable pub keyNumber : ℕ → Bool → ℕ → ℕ
-keyNumber v b n = 131072 * v + (65536 * bitOf b + n)
+keyNumber v b n = 131072 * v + (65536 * bit b + n)
 
 -- an upper bound as a number; 65,536 for none
 abbrev pub highNumber : Option ℕ → ℕ
@@ -130,8 +127,8 @@ pub record Settling (origin : List ℕ) (used s : ℕ) (t bad full : List ℕ) :
   pub below : (j : ℕ) → j ≤ s → getD t j 0 ≡ getD origin j 0
   pub keys : (j : ℕ) → keyIn (getD t j 0) ≡ keyIn (getD origin j 0)
   pub above : slotsFrom t (suc s) (used - s) ≡ settled (suc s) (slotsFrom origin (suc s) (used - s))
-  pub bads : (v : ℕ) → v < 1009 → getD bad v 0 ≡ bitOf (dies (suc s) (slotsFrom origin (suc s) (used - s)) v)
-  pub fulls : (v : ℕ) → v < 1009 → getD full v 0 ≡ bitOf (says (suc s) (settled (suc s) (slotsFrom origin (suc s) (used - s))) v)
+  pub bads : (v : ℕ) → v < 1009 → getD bad v 0 ≡ bit (dies (suc s) (slotsFrom origin (suc s) (used - s)) v)
+  pub fulls : (v : ℕ) → v < 1009 → getD full v 0 ≡ bit (says (suc s) (settled (suc s) (slotsFrom origin (suc s) (used - s))) v)
 
 -- what settling slot s does to the tables
 abbrev pub shutBound : List ℕ → List ℕ → ℕ → ℕ
@@ -149,9 +146,9 @@ pub record Slotted (t bad full : List ℕ) (s : ℕ) (t′ bad′ full′ : List
 pub record Settled (d : List ℕ) (used : ℕ) (t bad full : List ℕ) : Type 0 where
   pub few : used ≤ 1008
   pub slotted : slotsFrom t 1 used ≡ settled 1 (slots (map rowOf (entriesOf d)))
-  pub bads : getD bad 0 0 ≡ bitOf (dies 1 (slots (map rowOf (entriesOf d))) 0)
+  pub bads : getD bad 0 0 ≡ bit (dies 1 (slots (map rowOf (entriesOf d))) 0)
   pub full-size : length full ≡ 1009
-  pub fulls : (v : ℕ) → v < 1009 → getD full v 0 ≡ bitOf (says 1 (settled 1 (slots (map rowOf (entriesOf d)))) v)
+  pub fulls : (v : ℕ) → v < 1009 → getD full v 0 ≡ bit (says 1 (settled 1 (slots (map rowOf (entriesOf d)))) v)
   pub apart : (i j : ℕ) → 1 ≤ i → i < j → j ≤ used → eqb (keyIn (getD t i 0)) (keyIn (getD t j 0)) ≡ false
   pub lower : (j : ℕ) → 1 ≤ j → j ≤ used → keyIn (getD t j 0) / 131072 < j
   pub bounded : (n : ℕ) → 1 ≤ n → n ≤ length (entriesOf d) → Bounded (nth (entriesOf d) n)
