@@ -60,23 +60,24 @@ names-append : (Name : ℕ → Type 0) (v w : List ℕ) → AllNames Name v → 
 names-append Name [] w h k = k
 names-append Name (x ∷ v) w h k = (h .0, names-append Name v w (h .1) k)
 
-module _ (Name Number : ℕ → Type 0) (d : List Entry) (L : Legal Description d)
-    (each : (n : ℕ) → 1 ≤ n → n ≤ length d → EntryFields Name Number (nth d n)) where
-  links-names : (f k : ℕ) → 1 ≤ k → k ≤ length d → AllNames Name (linksUp d f k)
+-- where the entries up to number top have such fields
+module _ (Name Number : ℕ → Type 0) (d : List Entry) (L : Legal Description d) (top : ℕ) (within : top ≤ length d)
+    (each : (n : ℕ) → 1 ≤ n → n ≤ top → EntryFields Name Number (nth d n)) where
+  links-names : (f k : ℕ) → 1 ≤ k → k ≤ top → AllNames Name (linksUp d f k)
   unfolding linksUp
   links-names zero k lo hi = tt
   links-names (suc f) k lo hi =
-      let o = owner-earlier L k lo hi in
+      let o = owner-earlier L k lo (omega arith) in
       eq-cases (ownerOf d k) 0
       (λ z. rw (eq-eqb z) tt)
       (λ z.
-      let five = owner-kind L k lo hi z in
+      let five = owner-kind L k lo (omega arith) z in
       rw (ne-eqb z)
       (names-append Name (linksUp d f (ownerOf d k)) (nth d (ownerOf d k) .name ∷ [])
       (links-names f (ownerOf d k) (omega arith) (omega arith))
       (each (ownerOf d k) (omega arith) (omega arith) .name (λ y. omega arith), tt)))
 
   -- the fields of the links to an entry, and of the entry
-  pub goal-fields : (n : ℕ) → 1 ≤ n → n ≤ length d → GoalFields Name Number (on (linksTo d n) (atomOf (nth d n)))
+  pub goal-fields : (n : ℕ) → 1 ≤ n → n ≤ top → GoalFields Name Number (on (linksTo d n) (atomOf (nth d n)))
   unfolding linksTo
   goal-fields n lo hi = (links-names n n lo hi, atom-fields Name Number (nth d n) (each n lo hi))

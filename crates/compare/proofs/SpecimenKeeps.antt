@@ -16,9 +16,10 @@ use Rattle.blocks.specs.Entries.{nth, zeroEntry}
 use Rattle.blocks.specs.Owners.{ownerOf}
 use Rattle.blocks.specs.declared.Entry.{Entry}
 use Rattle.blocks.specs.declared.Schema.the-variants.{Specimen}
-use Rattle.compare.proofs.SpecimenRecord.{item-fits, tree-after}
+use Rattle.compare.proofs.SpecimenRecord.{item-fits}
 use Rattle.compare.specs.Specimen.{rowEntry, specimenEntries}
 use Rattle.fit.proofs.Items.{groupAt}
+use Rattle.fit.proofs.Places.{tree-skip}
 use Rattle.fit.specs.Background.{Background, Keeps}
 use Rattle.fit.specs.Description.{atom, has, most}
 use Rattle.fit.specs.Record.{fits, successors}
@@ -67,12 +68,12 @@ module _ (b : Background) where
   kept-group k [] o h below i l e f = absurd (omega arith)
   kept-group k (leafRow o′ p ∷ rs) o h below zero l e f = absurd (omega arith)
   kept-group k (leafRow o′ p ∷ rs) o h below (suc i) l e f =
-      rw (add-suc, ← suc-add, ← tree-after (leafRow o′ p) k rs (suc k + i) (h .0) (omega arith))
+      rw (add-suc, ← suc-add, ← tree-skip (leafRow o′ p) k rs (suc k + i) (h .0) (omega arith))
       (kept-group (suc k) rs o (h .1) (kept-rest (leafRow o′ p) k rs o below) i (omega arith) e f)
   kept-group k (nodeRow o′ (group x n) ∷ rs) o h below zero l e f =
-      rw (add-zero, ← tree-after (nodeRow o′ (group x n)) k rs k (h .0) (omega arith)) (kept-first k o o′ x n rs f below)
+      rw (add-zero, ← tree-skip (nodeRow o′ (group x n)) k rs k (h .0) (omega arith)) (kept-first k o o′ x n rs f below)
   kept-group k (nodeRow o′ (group x n) ∷ rs) o h below (suc i) l e f =
-      rw (add-suc, ← suc-add, ← tree-after (nodeRow o′ (group x n)) k rs (suc k + i) (h .0) (omega arith))
+      rw (add-suc, ← suc-add, ← tree-skip (nodeRow o′ (group x n)) k rs (suc k + i) (h .0) (omega arith))
       (kept-group (suc k) rs o (h .1) (kept-rest (nodeRow o′ (group x n)) k rs o below) i (omega arith) e f)
 
   -- ---- a specimen

@@ -126,7 +126,7 @@ module _ (b : Background) (c d : List Entry) (n : ℕ) (Lc : Legal Description c
       → SpecimenFields Name Number shown
   shown-fields Name Number none less ec ed =
       witness-fields Name Number none less (nf b (placeOf c 0)) (on (linksTo d n) (atomOf (nth d n)))
-      (nf-fields Name Number none b (placeOf c 0) (place-fields Name Number c ec 0)) (goal-fields Name Number d Ld ed n lo hi)
+      (nf-fields Name Number none b (placeOf c 0) (place-fields Name Number c ec 0)) (goal-fields Name Number d Ld (length d) (omega arith) ed n lo hi)
 
   -- "Entries never exceed those of C and D together."
   pub shown-length : length (specimenFor (nf b (placeOf c 0)) d n) ≤ length c + length d

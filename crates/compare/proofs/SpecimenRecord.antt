@@ -6,14 +6,15 @@ use mathlib.Core.Bool.{Bool, _&&_, _||_, cond, false, not}
 use mathlib.Core.List.{List, [], _∷_, map}
 use mathlib.Core.Path.{_∙_, _≡_, ap, ap₂, refl}
 use native.Mathlib.Omega.{arith}
-use Rattle.base.proofs.Tests.{bool-cases, tests}
+use Rattle.base.proofs.Tests.{bool-cases}
 use Rattle.compare.specs.Specimen.{rowEntry, specimenEntries}
 use Rattle.fit.proofs.Counting.{every-from-ext, everyFrom, sumIn}
 use Rattle.fit.proofs.Items.{eachGroup, fits-groups, fitsBy, groupAt, groupUnder, linkedItems, meetsBy}
+use Rattle.fit.proofs.Places.{tree-skip}
 use Rattle.fit.specs.Description.{Atom, Place, atom, has, lacks, least, most, nothing}
 use Rattle.fit.specs.Record.{fits}
 use Rattle.fit.specs.Specimen.{owns, recordOf}
-use Rattle.fit.specs.Tree.{Early, Row, end, leaf, leafRow, node, nodeRow, rowOwner, tree}
+use Rattle.fit.specs.Tree.{Early, Row, end, leaf, leafRow, node, nodeRow, tree}
 use Rattle.normal.proofs.LayoutLaws.{write-early, write-reads}
 use Rattle.normal.specs.Layout.{write}
 use Rattle.normal.specs.SpecimenTree.{Group, SpecimenTree, eachIn, fitsTop, given, group, meetsTop, total}
@@ -37,12 +38,6 @@ linked-tree g l k (leafRow o q ∷ rs) =
 linked-tree g l k (nodeRow o (group l′ n) ∷ rs) =
     bool-cases (eqb g o) (λ z. rw (z, linked-tree g l (suc k) rs)) (λ z. rw (z, linked-tree g l (suc k) rs) (omega arith))
 
--- what a row owns stands in the rows after it
-pub tree-after : (r : Row ℕ Group) (k : ℕ) (rs : List (Row ℕ Group)) (o : ℕ) → rowOwner r < k → k ≤ o → tree (suc k) rs o ≡ tree k (r ∷ rs) o
-unfolding tree
-tree-after (leafRow o′ a) k rs o h l = let z : eqb o o′ ≡ false = omega tests in rw z
-tree-after (nodeRow o′ b) k rs o h l = let z : eqb o o′ ≡ false = omega tests in rw z
-
 -- a test of the groups of a group by a link, where `whole n` is what row n owns
 module _ (f : SpecimenTree → Bool) (whole : ℕ → SpecimenTree) (g l : ℕ) where
   each-tree : (k : ℕ) (rs : List (Row ℕ Group)) → Early k rs → ((n : ℕ) → k ≤ n → tree k rs n ≡ whole n)
@@ -50,11 +45,11 @@ module _ (f : SpecimenTree → Bool) (whole : ℕ → SpecimenTree) (g l : ℕ) 
   unfolding everyFrom eachIn tree
   each-tree k [] h w = refl
   each-tree k (leafRow o q ∷ rs) h w =
-      let ih = each-tree (suc k) rs (h .1) (λ n i. tree-after (leafRow o q) k rs n (h .0) (omega arith) ∙ w n (omega arith)) in
+      let ih = each-tree (suc k) rs (h .1) (λ n i. tree-skip (leafRow o q) k rs n (h .0) (omega arith) ∙ w n (omega arith)) in
       bool-cases (eqb g o) (λ z. rw (z, ih)) (λ z. rw (z, ih))
   each-tree k (nodeRow o (group l′ n) ∷ rs) h w =
-      let ih = each-tree (suc k) rs (h .1) (λ n′ i. tree-after (nodeRow o (group l′ n)) k rs n′ (h .0) (omega arith) ∙ w n′ (omega arith)) in
-      let own : tree (suc k) rs k ≡ whole k = tree-after (nodeRow o (group l′ n)) k rs k (h .0) (omega arith) ∙ w k (omega arith) in
+      let ih = each-tree (suc k) rs (h .1) (λ n′ i. tree-skip (nodeRow o (group l′ n)) k rs n′ (h .0) (omega arith) ∙ w n′ (omega arith)) in
+      let own : tree (suc k) rs k ≡ whole k = tree-skip (nodeRow o (group l′ n)) k rs k (h .0) (omega arith) ∙ w k (omega arith) in
       bool-cases (eqb g o) (λ z. rw (z, ih, own)) (λ z. rw (z, ih))
 
 -- ---- the record

@@ -34,7 +34,7 @@ module _ {A B : Type 0} (f : A → Bool) (g : B → Tree A B → Bool) where
   rowPasses whole n (nodeRow o b) = g b (whole n)
 
 -- what an entry owns stands in the rows after it
-tree-skip : {A B : Type 0} (r : Row A B) (k : ℕ) (rs : List (Row A B)) (o : ℕ) → rowOwner r < k → k ≤ o → tree (suc k) rs o ≡ tree k (r ∷ rs) o
+pub tree-skip : {A B : Type 0} (r : Row A B) (k : ℕ) (rs : List (Row A B)) (o : ℕ) → rowOwner r < k → k ≤ o → tree (suc k) rs o ≡ tree k (r ∷ rs) o
 unfolding tree
 tree-skip (leafRow o′ a) k rs o h l = let z : eqb o o′ ≡ false = omega tests in rw z
 tree-skip (nodeRow o′ b) k rs o h l = let z : eqb o o′ ≡ false = omega tests in rw z
@@ -71,7 +71,7 @@ unfolding rowOf
 row-asks f g d n e = bool-cases (eqb (e .kind) 5) (λ q. rw q) (λ q. rw q)
 
 -- rows stand after their owners if the entries do
-early-rows : (k : ℕ) (es : List Entry) → ((i : ℕ) → i < length es → getD es i zeroEntry .owner < k + i) → Early k (map rowOf es)
+pub early-rows : (k : ℕ) (es : List Entry) → ((i : ℕ) → i < length es → getD es i zeroEntry .owner < k + i) → Early k (map rowOf es)
 early-rows k [] h = tt
 early-rows k (e ∷ es) h =
     (rw (row-owner e) (let z = h 0 (omega arith) in omega arith), early-rows (suc k) es (λ i l. let z = h (suc i) (omega arith) in omega arith))

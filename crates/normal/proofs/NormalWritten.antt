@@ -39,7 +39,7 @@ rows-packed [] = refl
 rows-packed (r ∷ rs) = rw (rows-packed rs)
 
 -- only the entries that are asked for are written
-written-front : (out rows : List ℕ) (n : ℕ) → n ≤ length rows → written out rows n ≡ written out (take n rows) n
+pub written-front : (out rows : List ℕ) (n : ℕ) → n ≤ length rows → written out rows n ≡ written out (take n rows) n
 unfolding written bytesWritten
 written-front out rows n h =
     let size : length (take n rows) ≡ n = length-take-le n rows h in

@@ -112,7 +112,7 @@ different-goal (on [] (atom nothing n m)) = tt
 different-goal (on (l ∷ w) a) = (refl, tt)
 
 -- the goal asks for no items by other links
-want-none : (g : Goal) (l : ℕ) → member l (goalLinks g) ≡ false → want g l ≡ 0
+pub want-none : (g : Goal) (l : ℕ) → member l (goalLinks g) ≡ false → want g l ≡ 0
 unfolding member
 want-none off l e = refl
 want-none (on [] (atom has n m)) l e = refl
@@ -169,7 +169,7 @@ path-witness (on [] a) = refl
 path-witness (on (l ∷ w) a) = rw (eqb-self l)
 
 -- the specimen of the place that a link leads to
-below-witness : (t : Place) (l : ℕ) (g : Goal) → below t l g ≡ witness (sub l t) g
+pub below-witness : (t : Place) (l : ℕ) (g : Goal) → below t l g ≡ witness (sub l t) g
 unfolding below sub
 below-witness end l g = path-witness g
 below-witness (leaf a r) l g = below-witness r l g

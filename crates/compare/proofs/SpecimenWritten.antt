@@ -1,0 +1,92 @@
+-- The fields of a specimen that is written from tables fit their bytes; and its packed entries, written to the output, give the output
+-- that the answer promises.
+-- Assumes nothing.
+use Prim.Native.Nat.{_≤_, ℕ}
+use lib.ListN.{length, length-map, take}
+use lib.Seq.{length-take-le}
+use mathlib.Core.List.{List, map}
+use mathlib.Core.Logic.{_≢_}
+use mathlib.Core.Path.{_∙_, _≡_, ap, sym}
+use native.Mathlib.Omega.{arith}
+use Rattle.blocks.proofs.Accepting.{sound-of-accepted, written-encodes}
+use Rattle.blocks.proofs.Bounds.{AllBounded}
+use Rattle.blocks.proofs.Faithful.{entries-limit}
+use Rattle.blocks.specs.Encoding.{written}
+use Rattle.blocks.specs.Entries.{Bounded, entriesOf, nth, packed}
+use Rattle.blocks.specs.declared.Entry.{Entry}
+use Rattle.blocks.specs.declared.Schema.the-variants.{Description}
+use Rattle.compare.proofs.Answer.{not-contained-means}
+use Rattle.compare.proofs.AnswerLaws.{Comparable, compared, verdict-not}
+use Rattle.compare.proofs.FirstLaws.{failing-least}
+use Rattle.compare.proofs.LinkPaths.{goal-fields}
+use Rattle.compare.proofs.SpecimenLegal.{specimen-bounded, specimen-length}
+use Rattle.compare.proofs.WitnessFields.{GoalFields, SpecimenFields, witness-fields}
+use Rattle.compare.proofs.WritableLaws.{Tables, tables-shown, tables-specimen, tables-tree}
+use Rattle.compare.specs.Answer.{compareOf, failing, normalOf, outputAfter, outputOf, specimenOf}
+use Rattle.compare.specs.Codes.{treeBy}
+use Rattle.compare.specs.Specimen.{specimenEntries}
+use Rattle.compare.specs.declared.Comparison.the-variants.{NotContained}
+use Rattle.fit.specs.Background.{unrestricted}
+use Rattle.fit.specs.Description.{atomOf, linksTo}
+use Rattle.normal.proofs.EntryFields.{EntryFields, Word, place-fields}
+use Rattle.normal.proofs.Fields.{Fields}
+use Rattle.normal.proofs.NormalEntries.{normal-place}
+use Rattle.normal.proofs.NormalWritten.{written-front}
+use Rattle.normal.specs.Answer.{normalEntries}
+use Rattle.normal.specs.Size.{nodes}
+use Rattle.normal.specs.SpecimenTree.{SpecimenTree}
+use Rattle.normal.specs.Witness.{on}
+
+-- ---- fields
+
+-- the name and the number of an entry whose fields fit their bytes
+bounded-fields : {e : Entry} → Bounded e → EntryFields Word Word e
+bounded-fields b = record { name = λ z. b .name; number = b .number }
+
+module _ {c d : List Entry} {n : ℕ} {form : List ℕ} {k : ℕ} {links : List ℕ} {m : ℕ} (t : Tables c d n form k links m) where
+  -- the names and numbers of the normal form are words
+  form-fields : Fields Word Word (normalOf c)
+  unfolding normalOf
+  form-fields =
+      rw (← (normal-place c))
+      (place-fields Word Word (normalEntries c) (λ j lo hi. bounded-fields (t .unpacked .bounded j lo (omega (arith, t .total)))) 0)
+
+  -- so are those of the entry that fails and of its owners, which stand before it
+  path-fields : GoalFields Word Word (on (linksTo d n) (atomOf (nth d n)))
+  unfolding failing
+  path-fields =
+      let r = failing-least unrestricted (normalOf c) d (t .fails) (t .some′) in
+      goal-fields Word Word d (t .service) n (omega (arith, r .high)) (λ j lo hi. bounded-fields (t .bounded j lo hi)) n (r .low) (omega arith)
+
+  -- the fields of the specimen's entries fit their bytes
+  pub tables-bounded : AllBounded (specimenOf c d)
+  unfolding specimenEntries
+  tables-bounded =
+      let s : SpecimenTree = treeBy form k links m (nth d n) 1024 in
+      let size : length (specimenOf c d) ≡ nodes s = ap length (tables-specimen t) ∙ specimen-length s in
+      let fields : SpecimenFields Word Word s = rw (tables-tree t)
+      (witness-fields Word Word (omega arith) (λ j h. omega arith) (normalOf c) (on (linksTo d n) (atomOf (nth d n))) form-fields path-fields) in
+      rw (tables-specimen t)
+      (specimen-bounded s (rw (tables-specimen t) at (tables-shown t .legal)) (omega (arith, tables-shown t .size, t .few, t .fewer)) fields)
+
+-- ---- the output
+
+-- A table whose first r numbers are the specimen's packed entries: they are as many as were answered, and written they are its blocks.
+pub specimen-written : (c d out : List ℕ) → Comparable c d out → {n : ℕ} → failing (entriesOf c) (entriesOf d) ≡ n → n ≢ 0
+    → AllBounded (specimenOf (entriesOf c) (entriesOf d)) → (rows : List ℕ) (r : ℕ) → r ≤ length rows
+    → take r rows ≡ map packed (specimenOf (entriesOf c) (entriesOf d))
+    → (compareOf c d out ≡ NotContained n r) × (written out rows r ≡ outputOf c d out)
+unfolding outputOf
+specimen-written c d out ready {n} fails some′ bound rows r h packs =
+    let sp : List Entry = specimenOf (entriesOf c) (entriesOf d) in
+    let size : r ≡ length sp = sym (length-take-le r rows h) ∙ ap length packs ∙ length-map sp packed in
+    let answer : compareOf c d out ≡ NotContained n (length sp) =
+    compared c d out ready ∙ verdict-not (entriesOf c) (entriesOf d) (λ z. some′ (sym fails ∙ z)) ∙ rw fails in
+    let means = not-contained-means c d out answer in
+    let supplier = sound-of-accepted Description 1 c (ready .first-read) in
+    let service = sound-of-accepted Description 2 d (ready .second-read) in
+    let few : length sp ≤ 2016 = omega (arith, means .few, entries-limit (supplier .blocks), entries-limit (service .blocks)) in (
+      answer ∙ ap (NotContained n) (sym size),
+      written-front out rows r h ∙ ap (λ (q : List ℕ). written out q r) packs ∙ ap (written out (map packed sp)) size
+          ∙ written-encodes out sp bound few (means .room) ∙ sym (ap (outputAfter c d out) answer),
+    )

@@ -1,0 +1,71 @@
+-- `links_up` meets its contract: the links to the entry are those into the place of o, then the m that are kept.
+use Prim.Native.Nat.{_<_, _≤_}
+use borrow.Author.Needs.{needs}
+use lib.ListN.{length, length-set}
+use mathlib.Core.Path.{_∙_, _≡_, ap}
+use native.Mathlib.Omega.{arith}
+use Rattle.blocks.proofs.EntryLaws.{of-nth}
+use Rattle.blocks.specs.Entries.{entriesOf, nth}
+use Rattle.blocks.specs.Owners.{ownerOf}
+use Rattle.blocks.specs.declared.Entry.{Entry}
+use Rattle.compare.proofs.PathLaws.{Climbed, climbed-more, climbed-room, climbed-start, climbed-top}
+use Rattle.compare.proofs.path.links_up.Statement.{statement}
+use Rattle.compare.proofs.path.links_up.Tie as tie
+
+abbrev Inv-loop : tie.InvT-loop
+Inv-loop d total n links₀ o₀ m₀ links o m = Climbed (entriesOf d) n links o m × (m ≤ 32) × (length links ≡ 32)
+
+abbrev μ-loop : tie.MeasureT-loop
+μ-loop d total n links₀ o₀ m₀ links o m = o
+
+-- the entry that is read is that of the list
+entry-read : (c : tie.After-nth-entry2 Inv-loop μ-loop)
+    → c .nth-entry2 .result ≡ nth (entriesOf (c .before .before .before .before .before .before .args .d .now)) (c .before .before .loop .o)
+entry-read c = c .nth-entry2 .ensures ∙ of-nth _ _ _ (c .before .before .before .before .before .before .pre .0)
+
+-- there is room for one link more
+room : (c : tie.After-nth-entry2 Inv-loop μ-loop) → c .before .before .loop .m < 32
+room c =
+    let l = c .before .before in
+    omega (arith, climbed-room (c .before .loop-test .taken) (l .loop .inv .0), l .before .before .before .before .pre .2)
+
+loop-holds : tie.Need-loop-holds Inv-loop μ-loop
+loop-holds c =
+    let p = c .before .before .before .pre in
+    let e = c .before .nth-entry .ensures ∙ of-nth _ _ _ (p .0) in
+    (climbed-start (p .1) _ (p .3) (omega (arith, p)) (c .wide .ensures .0 ∙ ap (λ (x : Entry). x .owner) e), omega arith, p .5)
+
+element-write-links : tie.Need-element-write-links Inv-loop μ-loop
+element-write-links c = omega (arith, room c)
+
+loop-less : tie.Need-loop-less Inv-loop μ-loop
+unfolding ownerOf
+loop-less c =
+    let l = c .before .before .before in
+    let p = l .before .before .before .before .pre in
+    let t = c .before .before .loop-test .taken in
+    let q = c .wide2 .ensures .0 ∙ ap (λ (x : Entry). x .owner) (entry-read (c .before)) in
+    rw q (p .1 .earlier (l .loop .o) (omega (arith, t)) (omega (arith, l .loop .inv .0 .before, p)))
+
+loop-again : tie.Need-loop-again Inv-loop μ-loop
+loop-again c =
+    let l = c .before .before .before in
+    let p = l .before .before .before .before .pre in
+    let i = l .loop .inv in
+    let t = c .before .before .loop-test .taken in
+    let b = room (c .before) in
+    let e = entry-read (c .before) in (
+      climbed-more (p .1) t (omega (arith, i .0 .before, p)) (omega (arith, b, i .2)) (ap (λ (x : Entry). x .name) e)
+          (c .wide2 .ensures .0 ∙ ap (λ (x : Entry). x .owner) e) (i .0),
+      omega (arith, b),
+      simp length-set (i .2),
+    )
+
+returns : tie.Need-returns Inv-loop μ-loop
+returns c = let i = c .before .loop .inv in (i .1, climbed-top (c .loop-test .left) (i .0))
+
+pub links-up-spec : {M : Type 1} → statement M
+links-up-spec =
+    tie.close
+    (tie.spec Inv-loop μ-loop (λ c κs. search needs) (λ c κs. search needs) loop-holds
+    (λ c κs. search needs) (λ c. search needs) element-write-links (λ c. search needs) (λ c κs. search needs) loop-less loop-again returns)

@@ -1,0 +1,12 @@
+-- `push_property` meets its contract.
+use borrow.Author.Needs.{needs}
+use Rattle.compare.proofs.RowLaws.{pushed-one}
+use Rattle.compare.proofs.rows.push_property.Statement.{statement}
+use Rattle.compare.proofs.rows.push_property.Tie as tie
+
+returns : tie.Need-returns
+returns c = pushed-one (c .before .pre .0) (c .before .pre .1) (c .pack .ensures)
+
+pub push-property-spec : {M : Type 1} → statement M
+push-property-spec =
+    tie.close (tie.spec (λ c κs. search needs) (λ c. search needs) (λ c. search needs) (λ c. search needs) returns)

@@ -1,0 +1,34 @@
+-- Where the program's input divides into C and D.
+-- Assumes nothing.
+use Prim.Native.Nat.{_*_, _+_, _-_, _≤_, suc, zero, ℕ}
+use lib.Dec.{eqb}
+use lib.ListN.{drop, length, take}
+use mathlib.Core.Bool.{cond}
+use mathlib.Core.List.{List}
+use mathlib.Core.Path.{_≡_}
+use Rattle.blocks.specs.Frame.{blocksIn}
+use Rattle.blocks.specs.Words.{wordAt}
+
+-- the offset of the first of `left` blocks from block i on, counted from 0, that has number 1; the whole length where none has
+unfoldable pub firstFrom : List ℕ → ℕ → ℕ → ℕ
+firstFrom s i zero = length s
+firstFrom s i (suc left) = cond (eqb (wordAt s (512 * i)) 1) (512 * i) (firstFrom s (suc i) left)
+
+-- "C runs up to the first later whole block with number 1 .. with no such block C is all of it": the length of C
+unfoldable pub firstLength : List ℕ → ℕ
+firstLength s = firstFrom s 1 (blocksIn s - 1)
+
+-- C, and "D is the rest"
+abbrev pub firstPart : List ℕ → List ℕ
+firstPart s = take (firstLength s) s
+
+abbrev pub secondPart : List ℕ → List ℕ
+secondPart s = drop (firstLength s) s
+
+-- ---- meaning
+
+-- "later whole block with number 1": block i, counted from 0
+pub record Begins (s : List ℕ) (i : ℕ) : Type 0 where
+  pub later : 1 ≤ i
+  pub whole : 512 * i + 512 ≤ length s
+  pub number : wordAt s (512 * i) ≡ 1

@@ -1,0 +1,22 @@
+// The program's input and output, as far as they are data: where the input divides into two descriptions, and what each printed line
+// says. The program itself only reads, calls and prints.
+//
+// The contracts cite specs/: Division and Lines. What these mean is proved in proofs/: that two accepted descriptions, joined, divide into
+// just these two, that the lines after the first are those of the specimen's entries, and the lines that the paper gives.
+mod lines;
+mod split;
+
+pub use lines::answer_line;
+pub use lines::specimen_line;
+pub use lines::specimen_lines;
+pub use split::first_length;
+
+// What a printed line says: `contained`; `not contained` with the entry that fails; `refused` with its number, input and place; `has`
+// with its entry number, owner and property; or `group` with its entry number, owner, link and count, which is the number of items.
+pub enum Line {
+    Contained,
+    NotContained(u16),
+    Refused(u8, u16, u16),
+    Has(u16, u16, u16),
+    Group(u16, u16, u16, u32),
+}
