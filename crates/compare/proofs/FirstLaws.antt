@@ -88,6 +88,13 @@ module _ (f : ℕ → Bool) where
   unfolding firstFrom
   first-stops n e h q = rw (one-left n e h, firstFrom, q)
 
+-- tests that agree find the same number
+pub first-same : (f g : ℕ → Bool) (n left : ℕ) → ((j : ℕ) → n ≤ j → j < n + left → f j ≡ g j) → firstFrom f n left ≡ firstFrom g n left
+unfolding firstFrom
+first-same f g n zero h = refl
+first-same f g n (suc left) h =
+    rw (h n (omega arith) (omega arith), first-same f g (suc n) left (λ j lo hi. h j (omega arith) (omega arith)))
+
 -- ---- the entries of a description
 
 module _ (b : Background) (t : Place) (d : List Entry) where

@@ -7,7 +7,7 @@ use mathlib.Core.Bool.{Bool, _&&_, cond, false, true}
 use mathlib.Core.List.{List, [], _∷_, map}
 use mathlib.Core.Logic.{_≢_}
 use mathlib.Core.Option.{Option, none, some}
-use mathlib.Core.Path.{_∙_, _≡_, ap, refl, sym}
+use mathlib.Core.Path.{_∙_, _≡_, refl, sym}
 use native.Mathlib.Omega.{arith}
 use Rattle.base.proofs.Tests.{and-both, and-left, and-right, and-zero, bool-cases, eq-cases, eq-eqb, eqb-eq, leb-le, ltb-lt, ne-eqb, tests}
 use Rattle.blocks.proofs.Legal.{Legal, owner-earlier}
@@ -15,10 +15,10 @@ use Rattle.blocks.specs.Entries.{formOk, kindOk, nth, zeroEntry}
 use Rattle.blocks.specs.Owners.{ownerOf}
 use Rattle.blocks.specs.declared.Entry.{Entry}
 use Rattle.blocks.specs.declared.Schema.the-variants.{Description}
-use Rattle.compare.specs.Table.{entryFor, firstMatch}
+use Rattle.compare.specs.Table.{entryFor, firstMatch, placeBelow}
 use Rattle.fit.proofs.Places.{early-rows, tree-skip}
-use Rattle.fit.specs.Description.{Atom, Kind, Place, atom, has, kindOf, lacks, least, most, nothing, placeOf, rowOf}
-use Rattle.fit.specs.Tree.{Early, Row, end, leaf, leafRow, node, nodeRow, tree}
+use Rattle.fit.specs.Description.{Kind, has, kindOf, lacks, least, most, nothing, placeOf, rowOf}
+use Rattle.fit.specs.Tree.{Early, end, tree}
 use Rattle.normal.specs.Normal.{find, rank, sub}
 
 -- ---- the first entry that matches
@@ -255,3 +255,11 @@ module _ (es : List Entry) (legal : Legal Description es) where
   unfolding placeOf
   place-end v l =
       tree-none 1 es v (λ p b q. let o = owner-earlier legal (suc p) (omega arith) (omega arith) in let o′ : getD es p zeroEntry .owner < suc p = (unfold ownerOf nth in o) in omega arith)
+
+  -- the place below a link
+  pub sub-place : length es ≤ 1008 → (v l : ℕ) → sub l (placeOf es v) ≡ placeOf es (placeBelow es v l)
+  unfolding placeBelow
+  sub-place few v l =
+      eq-cases (entryFor es v 5 l) 0
+      (λ z. rw (eq-eqb z) (sub-none v l z ∙ sym (place-end 1023 (omega arith))))
+      (λ z. rw (ne-eqb z) (sub-some v l refl z))

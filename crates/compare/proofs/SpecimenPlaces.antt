@@ -8,7 +8,7 @@ use mathlib.Core.Bool.{_&&_, false, false≢true, true}
 use mathlib.Core.List.{List, [], _∷_, map}
 use mathlib.Core.Logic.{_≢_}
 use mathlib.Core.Option.{some}
-use mathlib.Core.Path.{_∙_, _≡_, ap, refl, sym}
+use mathlib.Core.Path.{_∙_, _≡_, ap, refl}
 use native.Mathlib.Omega.{arith}
 use Rattle.base.proofs.Cases.{opt-cases}
 use Rattle.base.proofs.Split.{place-of, row-of}
@@ -16,7 +16,7 @@ use Rattle.base.proofs.Tests.{and-left, bool-cases, eq-cases, eq-eqb, eqb-ne, e
 use Rattle.blocks.proofs.Legal.{Legal}
 use Rattle.blocks.specs.declared.Entry.{Entry}
 use Rattle.blocks.specs.declared.Schema.the-variants.{Description}
-use Rattle.compare.proofs.Lookups.{match-within, place-end, sub-none, sub-some}
+use Rattle.compare.proofs.Lookups.{match-within, sub-place}
 use Rattle.compare.proofs.TablePlaces.{places-normal}
 use Rattle.compare.proofs.WalkingLaws.{Codes}
 use Rattle.compare.specs.Codes.{codeBelow, goalAt, goalBelow, groupsAt, propertiesAt, treeAt}
@@ -27,7 +27,7 @@ use Rattle.fit.specs.Description.{Atom, Place, atom, has, lacks, least, most, n
 use Rattle.normal.proofs.Names.{member-names}
 use Rattle.normal.proofs.WitnessTree.{below-witness}
 use Rattle.normal.specs.Canonical.{Canonical, canonical}
-use Rattle.normal.specs.Normal.{find, found, sub}
+use Rattle.normal.specs.Normal.{find, found}
 use Rattle.normal.specs.SpecimenTree.{Group, SpecimenTree, group}
 use Rattle.normal.specs.Witness.{Goal, below, build, countFor, goalLinks, groupsBy, member, names, next, off, on, want, withProperties, witness}
 
@@ -151,14 +151,6 @@ codes-good es few w a c =
 
 module _ (es : List Entry) (legal : Legal Description es) (normal : Canonical unrestricted (placeOf es 0)) (form : List ℕ) (k : ℕ)
     (table : Table es form k) where
-  -- the place below a link
-  sub-below : (v l : ℕ) → sub l (placeOf es v) ≡ placeOf es (placeBelow es v l)
-  unfolding placeBelow
-  sub-below v l =
-      eq-cases (entryFor es v 5 l) 0
-      (λ z. rw (eq-eqb z) (sub-none es legal v l z ∙ sym (place-end es legal 1023 (omega (arith, table .few, table .total)))))
-      (λ z. rw (ne-eqb z) (sub-some es legal v l refl z))
-
   module _ (w : List ℕ) (a : Atom) (c : ℕ) where
     -- what stands below the code that a link leads to
     tree-below : (l : ℕ) → below (placeOf es (c % 1024)) l (next (goalAt w a (c / 1024)) l) ≡ treeAt es w a (codeBelow es w c l)
@@ -166,7 +158,7 @@ module _ (es : List Entry) (legal : Legal Description es) (normal : Canonical un
     tree-below l =
         let few : length es ≤ 1008 = omega (arith, table .few, table .total) in
         below-witness (placeOf es (c % 1024)) l (next (goalAt w a (c / 1024)) l)
-        ∙ rw (code-place es few w c l, code-goal es few w c l, sub-below (c % 1024) l, next-goal w a (c / 1024) l)
+        ∙ rw (code-place es few w c l, code-goal es few w c l, sub-place es legal few (c % 1024) l, next-goal w a (c / 1024) l)
 
     -- what stands below a code: its properties, and its groups with what stands below theirs
     pub tree-places : treeAt es w a c ≡ leaves (propertiesAt es w a c) (joints (treeAt es w a) (groupsAt es w a c))

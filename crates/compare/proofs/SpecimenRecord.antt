@@ -1,8 +1,8 @@
 -- The record of a specimen that was written from a tree: its top item fits there what the tree says.
 -- Assumes nothing.
-use Prim.Native.Nat.{_<_, _≤_, suc, ℕ}
+use Prim.Native.Nat.{_≤_, suc, ℕ}
 use lib.Dec.{eqb, leb}
-use mathlib.Core.Bool.{Bool, _&&_, _||_, cond, false, not}
+use mathlib.Core.Bool.{Bool, _&&_, _||_, cond, not}
 use mathlib.Core.List.{List, [], _∷_, map}
 use mathlib.Core.Path.{_∙_, _≡_, ap, ap₂, refl}
 use native.Mathlib.Omega.{arith}

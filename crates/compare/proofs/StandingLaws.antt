@@ -1,10 +1,10 @@
 -- What the states of a description's places mean: each stands for the path of links into its place, so the entries that hold by the
 -- numbers are those that the normal form holds.
 -- Assumes nothing.
-use Prim.Native.Nat.{_+_, _<_, _≤_, suc, zero, ℕ}
+use Prim.Native.Nat.{_<_, _≤_, suc, zero, ℕ}
 use lib.Dec.{eqb, leb}
 use lib.ListN.{length}
-use mathlib.Core.Bool.{Bool, false, not, true}
+use mathlib.Core.Bool.{false, not, true}
 use mathlib.Core.List.{List, [], _++_, _∷_, append-assoc, append-nil}
 use mathlib.Core.Logic.{_≢_}
 use mathlib.Core.Path.{_∙_, _≡_, refl, sym}
@@ -15,7 +15,8 @@ use Rattle.blocks.specs.Entries.{nth}
 use Rattle.blocks.specs.Owners.{ownerOf}
 use Rattle.blocks.specs.declared.Entry.{Entry}
 use Rattle.blocks.specs.declared.Schema.the-variants.{Description}
-use Rattle.compare.proofs.Lookups.{find-none, find-some, kind-range, place-end, sub-none, sub-some}
+use Rattle.compare.proofs.FirstLaws.{first-same}
+use Rattle.compare.proofs.Lookups.{find-none, find-some, kind-range, sub-place}
 use Rattle.compare.proofs.SpecimenPlaces.{place-small}
 use Rattle.compare.specs.First.{entryHolds, firstFailing, firstFrom}
 use Rattle.compare.specs.Standing.{heldAt, heldIn, leastAt, mostAt, noneBelow, stateBelow, stateOf, supportedAt}
@@ -25,7 +26,7 @@ use Rattle.fit.specs.Background.{unrestricted}
 use Rattle.fit.specs.Description.{Atom, Kind, atom, atomOf, has, kindOf, lacks, least, linksTo, most, placeOf}
 use Rattle.normal.proofs.Plain.{supports-plain}
 use Rattle.normal.specs.Holds.{holds, holdsAt}
-use Rattle.normal.specs.Normal.{atMost, dead, enough, find, found, rank, sub, supports}
+use Rattle.normal.specs.Normal.{atMost, dead, enough, find, found, rank, supports}
 
 -- ---- the states
 
@@ -121,14 +122,6 @@ module _ (es : List Entry) (legal : Legal Description es) where
       let same : eqb m 0 ≡ leb m 0 = iff-eq (λ q. omega tests) (λ q. omega tests) in
       rw (supports-plain, same) (most-said v l 0)
 
-  -- the place below a link
-  pub sub-place : length es ≤ 1008 → (v l : ℕ) → sub l (placeOf es v) ≡ placeOf es (placeBelow es v l)
-  unfolding placeBelow
-  sub-place few v l =
-      eq-cases (entryFor es v 5 l) 0
-      (λ z. rw (eq-eqb z) (sub-none es legal v l z ∙ sym (place-end es legal 1023 (omega arith))))
-      (λ z. rw (ne-eqb z) (sub-some es legal v l refl z))
-
 -- ---- paths
 
 -- The state s stands for the path w: beyond w the place of that number holds what the top holds; the top holds all if the state is
@@ -178,13 +171,6 @@ module _ (es : List Entry) (legal : Legal Description es) (few : length es ≤ 1
       }))))
 
 -- ---- the entries that hold
-
--- tests that agree find the same number
-pub first-same : (f g : ℕ → Bool) (n left : ℕ) → ((j : ℕ) → n ≤ j → j < n + left → f j ≡ g j) → firstFrom f n left ≡ firstFrom g n left
-unfolding firstFrom
-first-same f g n zero h = refl
-first-same f g n (suc left) h =
-    rw (h n (omega arith) (omega arith), first-same f g (suc n) left (λ j lo hi. h j (omega arith) (omega arith)))
 
 module _ (es : List Entry) (legal : Legal Description es) (few : length es ≤ 1008) (d : List Entry) (lawful : Legal Description d) where
   -- the same, for entries below a bound

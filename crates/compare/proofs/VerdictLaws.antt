@@ -19,7 +19,6 @@ use Rattle.blocks.proofs.Legal.{owner-earlier, owner-kind}
 use Rattle.blocks.proofs.Lengths.{few-blocks, some-block, whole-blocks}
 use Rattle.blocks.specs.Encoding.{blocksFor, written}
 use Rattle.blocks.specs.Entries.{Bounded, entriesOf, nth}
-use Rattle.blocks.specs.Faults.{first}
 use Rattle.blocks.specs.Frame.{blocksIn, plain}
 use Rattle.blocks.specs.Reading.{readingOf}
 use Rattle.blocks.specs.declared.Entry.{Entry}
@@ -43,7 +42,6 @@ use Rattle.compare.specs.declared.Comparison.the-variants.{Contained, No
 use Rattle.compare.specs.declared.Comparison.{Comparison}
 use Rattle.fit.specs.Background.{unrestricted}
 use Rattle.fit.specs.Description.{Place, linksTo, placeOf}
-use Rattle.fit.specs.Record.{every}
 use Rattle.normal.proofs.Answer.{normalised-means}
 use Rattle.normal.proofs.AnswerLaws.{normalised-ready, refused-why}
 use Rattle.normal.proofs.NormalEntries.{normal-again, normal-fewer, normal-place}

@@ -16,7 +16,6 @@ use Rattle.compare.specs.First.{firstFrom}
 use Rattle.compare.specs.Standing.{heldAt, heldIn, stateBelow, stateOf}
 use Rattle.compare.specs.Table.{Table}
 use Rattle.normal.proofs.Forms.{form}
-use Rattle.normal.specs.SpecimenTree.{total}
 use Rattle.compare.proofs.search.first_failing.Statement.{statement}
 use Rattle.compare.proofs.search.first_failing.Tie as tie
 
