@@ -20,4 +20,6 @@ pub mod Legal
 pub mod ReadingLaws
 pub mod WritingLaws
 pub mod Accepting
+pub mod ByNumber
+pub mod HeldLaws
 pub mod Examples

@@ -30,3 +30,7 @@ pub record Returned : Type 0 where
 abbrev pub returned : Reading → Returned
 returned (Accepted total) = record { number = 0; input = 0; place = 0; entries = total }
 returned (Refused k i p) = record { number = k; input = i; place = p; entries = 0 }
+
+-- how many entries an input has when it is read: its total where it is accepted, 0 where it is refused
+unfoldable pub totalRead : Schema → List ℕ → ℕ
+totalRead σ s = returned (readingOf σ 1 s) .entries

@@ -6,6 +6,7 @@
 // as that reading undoes writing, is proved in proofs/.
 mod entries;
 mod frame;
+mod held;
 mod reader;
 mod rules;
 mod words;
@@ -13,6 +14,10 @@ mod writer;
 
 pub use entries::nth_entry;
 pub use entries::pack;
+pub use held::Entries;
+pub use held::entries_of;
+pub use held::read_entry;
+pub use held::total_read;
 pub use reader::read;
 pub use reader::read_description;
 pub use reader::read_specimen;

@@ -22,10 +22,10 @@ use Rattle.blocks.specs.declared.Entry.{Entry}
 use Rattle.blocks.specs.declared.Finding.the-variants.{Clean}
 use Rattle.blocks.specs.declared.Schema.the-variants.{Description}
 use Rattle.compare.proofs.AnswerLaws.{Comparable, compared, verdict-contained}
-use Rattle.compare.proofs.FirstLaws.{none-failing}
+use Rattle.normal.proofs.FirstLaws.{none-failing}
 use Rattle.compare.specs.Answer.{compareOf, failing, normalOf, outputAfter, outputOf, specimenOf, verdict}
 use Rattle.compare.specs.Cases.{Line, Outcome, compares, impossible, inside, lines, normalises, outside}
-use Rattle.compare.specs.First.{entryHolds, firstFailing, firstFrom}
+use Rattle.normal.specs.First.{entryHolds, firstFailing, firstFrom}
 use Rattle.compare.specs.Specimen.{specimenEntries, specimenFor}
 use Rattle.compare.specs.declared.Comparison.{Comparison}
 use Rattle.compare.specs.declared.Comparison.the-variants.{Contained, NotContained}

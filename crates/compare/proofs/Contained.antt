@@ -14,9 +14,9 @@ use Rattle.blocks.proofs.Legal.{Legal}
 use Rattle.blocks.specs.Entries.{nth}
 use Rattle.blocks.specs.declared.Entry.{Entry}
 use Rattle.blocks.specs.declared.Schema.the-variants.{Description}
-use Rattle.compare.proofs.FirstLaws.{failing-least, failing-none, least-failing, none-failing}
+use Rattle.normal.proofs.FirstLaws.{failing-least, failing-none, least-failing, none-failing}
 use Rattle.compare.specs.Answer.{failing, normalOf}
-use Rattle.compare.specs.First.{entryHolds, firstFailing}
+use Rattle.normal.specs.First.{entryHolds, firstFailing}
 use Rattle.fit.proofs.Kept.{kept-unrestricted, lawful-unrestricted}
 use Rattle.fit.proofs.Paths.{fits-paths, paths-fit}
 use Rattle.fit.specs.Background.{Background, Keeps, LawfulBackground, unrestricted}

@@ -1,4 +1,3 @@
-pub mod FirstLaws
 pub mod Lookups
 pub mod TableLaws
 pub mod LaidLaws
@@ -22,8 +21,6 @@ pub mod WitnessFields
 pub mod LinkPaths
 pub mod PathLaws
 pub mod GoalLaws
-pub mod StandingLaws
-pub mod StateTable
 pub mod NormalTable
 pub mod SpecimenLegal
 pub mod NotContained

@@ -16,12 +16,12 @@ use Rattle.blocks.specs.Entries.{nth}
 use Rattle.blocks.specs.declared.Entry.{Entry}
 use Rattle.blocks.specs.declared.Schema.the-variants.{Description, Specimen}
 use Rattle.compare.proofs.Contained.{failing-kind}
-use Rattle.compare.proofs.FirstLaws.{failing-least}
+use Rattle.normal.proofs.FirstLaws.{failing-least}
 use Rattle.compare.proofs.SpecimenKeeps.{specimen-keeps}
 use Rattle.compare.proofs.SpecimenLegal.{shown-bounded, shown-legal, shown-length}
 use Rattle.compare.proofs.SpecimenRecord.{specimen-fits}
 use Rattle.compare.specs.Answer.{failing, normalOf, specimenOf}
-use Rattle.compare.specs.First.{entryHolds, firstFailing}
+use Rattle.normal.specs.First.{entryHolds, firstFailing}
 use Rattle.compare.specs.Specimen.{specimenFor}
 use Rattle.fit.proofs.Kept.{lawful-unrestricted}
 use Rattle.fit.proofs.Paths.{fits-paths}

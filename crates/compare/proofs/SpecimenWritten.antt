@@ -1,8 +1,8 @@
 -- The fields of a specimen that is written from tables fit their bytes; and its packed entries, written to the output, give the output
 -- that the answer promises.
 -- Assumes nothing.
-use Prim.Native.Nat.{_≤_, ℕ}
-use lib.ListN.{length, length-map, take}
+use Prim.Native.Nat.{_<_, _≤_, suc, zero, ℕ}
+use lib.ListN.{getD, length, length-map, take}
 use lib.Seq.{length-take-le}
 use mathlib.Core.List.{List, map}
 use mathlib.Core.Logic.{_≢_}
@@ -17,18 +17,15 @@ use Rattle.blocks.specs.declared.Entry.{Entry}
 use Rattle.blocks.specs.declared.Schema.the-variants.{Description}
 use Rattle.compare.proofs.Answer.{not-contained-means}
 use Rattle.compare.proofs.AnswerLaws.{Comparable, compared, verdict-not}
-use Rattle.compare.proofs.FirstLaws.{failing-least}
-use Rattle.compare.proofs.LinkPaths.{goal-fields}
 use Rattle.compare.proofs.SpecimenLegal.{specimen-bounded, specimen-length}
-use Rattle.compare.proofs.WitnessFields.{GoalFields, SpecimenFields, witness-fields}
+use Rattle.compare.proofs.WitnessFields.{AllNames, GoalFields, SpecimenFields, witness-fields}
 use Rattle.compare.proofs.WritableLaws.{Tables, tables-shown, tables-specimen, tables-tree}
 use Rattle.compare.specs.Answer.{compareOf, failing, normalOf, outputAfter, outputOf, specimenOf}
-use Rattle.compare.specs.Codes.{treeBy}
+use Rattle.compare.specs.Codes.{treeBy, upFrom}
 use Rattle.compare.specs.Specimen.{specimenEntries}
 use Rattle.compare.specs.declared.Comparison.the-variants.{NotContained}
-use Rattle.fit.specs.Background.{unrestricted}
 use Rattle.fit.specs.Description.{atomOf, linksTo}
-use Rattle.normal.proofs.EntryFields.{EntryFields, Word, place-fields}
+use Rattle.normal.proofs.EntryFields.{EntryFields, Word, atom-fields, place-fields}
 use Rattle.normal.proofs.Fields.{Fields}
 use Rattle.normal.proofs.NormalEntries.{normal-place}
 use Rattle.normal.proofs.NormalWritten.{written-front}
@@ -43,6 +40,12 @@ use Rattle.normal.specs.Witness.{on}
 bounded-fields : {e : Entry} → Bounded e → EntryFields Word Word e
 bounded-fields b = record { name = λ z. b .name; number = b .number }
 
+-- the links of a path of words
+up-names : (links : List ℕ) (m : ℕ) → ((i : ℕ) → getD links i 0 < 65536) → AllNames Word (upFrom links m)
+unfolding upFrom
+up-names links zero h = tt
+up-names links (suc m) h = (h m, up-names links m h)
+
 module _ {c d : List Entry} {n : ℕ} {form : List ℕ} {k : ℕ} {links : List ℕ} {m : ℕ} (t : Tables c d n form k links m) where
   -- the names and numbers of the normal form are words
   form-fields : Fields Word Word (normalOf c)
@@ -51,12 +54,9 @@ module _ {c d : List Entry} {n : ℕ} {form : List ℕ} {k : ℕ} {links : List 
       rw (← (normal-place c))
       (place-fields Word Word (normalEntries c) (λ j lo hi. bounded-fields (t .unpacked .bounded j lo (omega (arith, t .total)))) 0)
 
-  -- so are those of the entry that fails and of its owners, which stand before it
+  -- so are those of the path and of the entry that fails
   path-fields : GoalFields Word Word (on (linksTo d n) (atomOf (nth d n)))
-  unfolding failing
-  path-fields =
-      let r = failing-least unrestricted (normalOf c) d (t .fails) (t .some′) in
-      goal-fields Word Word d (t .service) n (omega (arith, r .high)) (λ j lo hi. bounded-fields (t .bounded j lo hi)) n (r .low) (omega arith)
+  path-fields = (rw (t .path) (up-names links m (t .names)), atom-fields Word Word (nth d n) (bounded-fields (t .last)))
 
   -- the fields of the specimen's entries fit their bytes
   pub tables-bounded : AllBounded (specimenOf c d)

@@ -2,14 +2,15 @@
 -- Assumes nothing.
 use Prim.Native.Nat.{_*_, _+_, _<_, _≤_, ℕ}
 use lib.Dec.{eqb}
-use lib.ListN.{length, take}
-use mathlib.Core.Bool.{Bool, cond, false, true}
+use lib.ListN.{getD, length, take}
+use mathlib.Core.Bool.{cond, false, true}
 use mathlib.Core.List.{List, map}
-use mathlib.Core.Logic.{_≢_, ⊎-elim}
+use mathlib.Core.Logic.{_≢_}
 use mathlib.Core.Path.{_∙_, _≡_, ap, refl, sym}
 use native.Mathlib.Omega.{arith}
-use Rattle.base.proofs.Tests.{both-ways, eq-cases, eq-eqb, eqb-eq, eqb-ne, ne-eqb, or-one}
-use Rattle.blocks.proofs.Accepting.{Sound, accepted-by-none, encoded-accepted, none-of-accepted, sound-of-accepted}
+use Rattle.base.proofs.Cases.{not-true}
+use Rattle.base.proofs.Tests.{or-one}
+use Rattle.blocks.proofs.Accepting.{Sound, encoded-accepted, none-of-accepted, sound-of-accepted}
 use Rattle.blocks.proofs.Counts.{blocks-limit}
 use Rattle.blocks.proofs.Decoding.{decode-encode, length-encode}
 use Rattle.blocks.proofs.EntryBytes.{length-entries}
@@ -24,34 +25,35 @@ use Rattle.blocks.specs.Reading.{readingOf}
 use Rattle.blocks.specs.declared.Entry.{Entry}
 use Rattle.blocks.specs.declared.Schema.the-variants.{Description}
 use Rattle.compare.proofs.Answer.{refused-output}
-use Rattle.compare.proofs.AnswerLaws.{Comparable, compared, first-refused, too-short, verdict-contained}
-use Rattle.compare.proofs.FirstLaws.{none-failing}
+use Rattle.compare.proofs.AnswerLaws.{Comparable, compared, first-refused, second-refused, too-short, verdict-contained}
 use Rattle.compare.proofs.LinkPaths.{links-most}
-use Rattle.compare.proofs.NormalTable.{alive-empty, alive-other, dead-table, normal-table}
 use Rattle.compare.proofs.SpecimenWritten.{specimen-written, tables-bounded}
-use Rattle.compare.proofs.StandingLaws.{held-first}
 use Rattle.compare.proofs.WritableLaws.{Tables, tables-numbers, tables-writable}
 use Rattle.compare.specs.Answer.{compareOf, failing, normalOf, outputAfter, outputOf, specimenOf, verdict}
 use Rattle.compare.specs.Codes.{Writable, specimenNumber, treeBy, upFrom}
-use Rattle.compare.specs.First.{entryHolds, firstFailing, firstFrom}
-use Rattle.compare.specs.Prepared.{NormalOf, Prepared, nothingIn}
+use Rattle.compare.specs.Prepared.{Denied, NormalOf, Prepared}
 use Rattle.compare.specs.Specimen.{specimenFor}
-use Rattle.compare.specs.Standing.{heldIn}
-use Rattle.compare.specs.Table.{Table, Unpacked}
+use Rattle.compare.specs.Table.{Unpacked}
 use Rattle.compare.specs.declared.Comparison.the-variants.{Contained, NotContained, Refused}
 use Rattle.compare.specs.declared.Comparison.{Comparison}
 use Rattle.fit.specs.Background.{unrestricted}
 use Rattle.fit.specs.Description.{Place, linksTo, placeOf}
+use Rattle.fit.specs.Record.{every}
 use Rattle.normal.proofs.Answer.{normalised-means}
-use Rattle.normal.proofs.AnswerLaws.{normalised-ready, refused-why}
+use Rattle.normal.proofs.AnswerLaws.{normalised, normalised-ready}
+use Rattle.normal.proofs.FirstLaws.{failing-least, none-failing}
 use Rattle.normal.proofs.NormalEntries.{normal-again, normal-fewer, normal-place}
 use Rattle.normal.proofs.NormalLegal.{normal-legal}
+use Rattle.normal.proofs.UnheldLaws.{BothRead, all-held, one-fails, refused-by}
 use Rattle.normal.specs.Answer.{normalEntries, normaliseOf, normalisedOf}
+use Rattle.normal.specs.First.{entryHolds, firstFailing}
+use Rattle.normal.specs.Holding.{holdingOf, unheld}
 use Rattle.normal.specs.Holds.{holds}
 use Rattle.normal.specs.Layout.{write}
 use Rattle.normal.specs.Normal.{dead}
 use Rattle.normal.specs.Tables.{Owned}
 use Rattle.normal.specs.declared.NormalAnswer.the-variants as normal
+use Rattle.normal.specs.declared.Holding.the-variants as holding
 use Rattle.blocks.specs.declared.Reading.the-variants as reading
 
 -- an accepted description is short
@@ -94,10 +96,9 @@ module _ {normal : List ℕ} {k : ℕ} {d : List ℕ} {total : ℕ} {out : List 
   pub prepared-links : (n : ℕ) → 1 ≤ n → n ≤ total → length (linksTo (entriesOf d) n) ≤ 32
   prepared-links n lo hi = links-most (entriesOf d) (service .entries) n lo (omega (arith, prepared-second .0))
 
-  -- the normal form is read as it is
-  normal-place-is : normalOf es ≡ placeOf es 0
-  unfolding normalOf
-  normal-place-is = sym (normal-place es) ∙ ap (λ (l : List Entry). placeOf l 0) (p .itself)
+  failing-is : firstFailing unrestricted (normalOf es) (entriesOf d) ≡ failing es (entriesOf d)
+  unfolding failing
+  failing-is = refl
 
   -- where nothing fits the first, none fails
   dead-none : dead (normalOf es) ≡ true → failing es (entriesOf d) ≡ 0
@@ -111,66 +112,36 @@ module _ {normal : List ℕ} {k : ℕ} {d : List ℕ} {total : ℕ} {out : List 
     normal-total : length (normalEntries es) ≡ k
     normal-total = ap length (p .itself) ∙ sym (prepared-first .0)
 
-    -- its table
-    pub prepared-table : Table (entriesOf normal) form k
-    prepared-table = rw (p .itself) at (normal-table es (supplier .entries) (omega (arith, prepared-first)) normal-total unpacked-normal)
+    -- ---- the specimen
 
-    -- ---- the answer is contained
+    module _ {n : ℕ} (fails : failing es (entriesOf d) ≡ n) (some′ : n ≢ 0) where
+      -- something fits the first
+      alive : dead (normalOf es) ≡ false
+      alive = not-true (λ z. some′ (sym fails ∙ dead-none z))
 
-    none-fails : failing es (entriesOf d) ≡ 0
-        → (Contained ≡ compareOf normal d out) × (out ≡ outputOf normal d out)
-    unfolding outputOf
-    none-fails z =
-        let e = compared normal d out prepared-comparable ∙ verdict-contained es (entriesOf d) z in
-        (sym e, sym (ap (outputAfter normal d out) e))
+      -- the entry is one of the second's
+      pub failing-within : (1 ≤ n) × (n ≤ total)
+      failing-within =
+          let l = failing-least unrestricted (normalOf es) (entriesOf d) (failing-is ∙ fails) some′ in
+          (omega (arith, some′), omega (arith, l .high, prepared-second .0))
 
-    -- nothing fits the normal form
-    pub verdict-impossible : {b : Bool} → b ≡ nothingIn form k → b ≡ true → (Contained ≡ compareOf normal d out) × (out ≡ outputOf normal d out)
-    unfolding nothingIn
-    verdict-impossible e q =
-        none-fails (dead-none (eq-cases k 0
-        (λ z. both-ways q (e ∙ rw (nothingIn, eq-eqb z)))
-        (λ z. rw normal-place-is (dead-table es (supplier .entries) prepared-table (omega arith) (eqb-eq (rw (nothingIn, ne-eqb z) at (sym e ∙ q)))))))
-
-    module _ {b : Bool} (eb : b ≡ nothingIn form k) (qb : b ≡ false) where
-      alive : dead (placeOf es 0) ≡ false
-      unfolding nothingIn
-      alive =
-          eq-cases k 0
-          (λ z. alive-empty es (supplier .entries) prepared-table z)
-          (λ z. alive-other es (supplier .entries) prepared-table (omega arith) (eqb-ne (rw (nothingIn, ne-eqb z) at (sym eb ∙ qb))))
-
-      -- the number found is that of the first entry that fails
-      found-failing : {n : ℕ} → n ≡ firstFrom (heldIn es (entriesOf d)) 1 total → failing es (entriesOf d) ≡ n
-      unfolding failing
-      found-failing e =
-          ap (λ (t : Place). firstFailing unrestricted t (entriesOf d)) normal-place-is
-          ∙ sym (held-first es (supplier .entries) (omega (arith, prepared-first)) (entriesOf d) (service .entries) alive)
-          ∙ ap (firstFrom (heldIn es (entriesOf d)) 1) (sym (prepared-second .0)) ∙ sym e
-
-      -- none fails
-      pub verdict-contains : {n : ℕ} → n ≡ firstFrom (heldIn es (entriesOf d)) 1 total → n ≡ 0
-          → (Contained ≡ compareOf normal d out) × (out ≡ outputOf normal d out)
-      verdict-contains e z = none-fails (found-failing e ∙ z)
-
-      -- ---- the answer is not contained
-
-      module _ {n : ℕ} (found : n ≡ firstFrom (heldIn es (entriesOf d)) 1 total) (some′ : n ≢ 0) (bounded : (j : ℕ) → 1 ≤ j → j ≤ n → Bounded (nth (entriesOf d) j))
-          (links : List ℕ) {m : ℕ} (path : linksTo (entriesOf d) n ≡ upFrom links m) (short : m ≤ 32) where
+      module _ (links : List ℕ) {m : ℕ} (path : linksTo (entriesOf d) n ≡ upFrom links m) (short : m ≤ 32) (names : (i : ℕ) → getD links i 0 < 65536)
+          (last : Bounded (nth (entriesOf d) n)) where
         tables : Tables es (entriesOf d) n form k links m
         tables = record {
           supplier = supplier .entries;
           service = service .entries;
           few = omega (arith, prepared-first);
           fewer = omega (arith, prepared-second);
-          alive = rw normal-place-is alive;
-          fails = found-failing found;
+          alive = alive;
+          fails = fails;
           some′ = some′;
           unpacked = unpacked-normal;
           total = normal-total;
           path = path;
           short = short;
-          bounded = bounded;
+          names = names;
+          last = last;
         }
 
         -- the tables give the specimen
@@ -181,7 +152,7 @@ module _ {normal : List ℕ} {k : ℕ} {d : List ℕ} {total : ℕ} {out : List 
         pub verdict-shown : (rows : List ℕ) (r : ℕ) → r ≤ length rows → take r rows ≡ map specimenNumber (write (treeBy form k links m (nth (entriesOf d) n) 1024))
             → (NotContained n r ≡ compareOf normal d out) × (written out rows r ≡ outputOf normal d out)
         verdict-shown rows r l e =
-            let w = specimen-written normal d out prepared-comparable (found-failing found) some′ (tables-bounded tables) rows r l (e ∙ sym (tables-numbers tables)) in
+            let w = specimen-written normal d out prepared-comparable fails some′ (tables-bounded tables) rows r l (e ∙ sym (tables-numbers tables)) in
             (sym (w .0), w .1)
 
 -- ---- the first description
@@ -226,41 +197,97 @@ module _ {c normal : List ℕ} {k : ℕ} (f : NormalOf c normal k) where
   pub first-short : length c ≤ 8192
   first-short = accepted-short 1 c (f .read)
 
-  module _ (d out : List ℕ) {total : ℕ} (second : readingOf Description 2 d ≡ reading.Accepted total) where
-    pub room-short : length out < length c + length d → (Refused 7 0 0 ≡ compareOf c d out) × (out ≡ outputOf c d out)
-    room-short l = let e = too-short c d out (f .read) second l in (sym e, sym (refused-output c d out e))
+  -- the answer for the normal form is the answer
+  same-normal : normalOf (entriesOf normal) ≡ normalOf (entriesOf c)
+  unfolding normalOf
+  same-normal = sym (normal-place (entriesOf normal)) ∙ ap (λ (l : List Entry). placeOf l 0) (normal-itself ∙ entries-normal) ∙ normal-place (entriesOf c)
 
-    module _ (room : length c + length d ≤ length out) where
-      pub room-prepared : Prepared normal k d total out
-      room-prepared = record { first = normal-read; itself = normal-itself; second = second; room = omega (arith, room, normal-shorter) }
+  module _ {d : List ℕ} {n : ℕ} {out : List ℕ} (e : Denied c d n out) where
+    pub denied-prepared : {total : ℕ} → total ≡ e .second → Prepared normal k d total out
+    denied-prepared q = record { first = normal-read; itself = normal-itself; second = e .second-read ∙ ap reading.Accepted (sym q); room = omega (arith, e .room, normal-shorter) }
 
-      -- the answer for the normal form is the answer
-      same-normal : normalOf (entriesOf normal) ≡ normalOf (entriesOf c)
-      unfolding normalOf
-      same-normal = sym (normal-place (entriesOf normal)) ∙ ap (λ (l : List Entry). placeOf l 0) (normal-itself ∙ entries-normal) ∙ normal-place (entriesOf c)
+    pub denied-fails : failing (entriesOf normal) (entriesOf d) ≡ n
+    unfolding failing
+    denied-fails = ap (λ (t : Place). firstFailing unrestricted t (entriesOf d)) same-normal ∙ e .fails
 
-      both : Comparable c d out
-      both = record { first = f .entries; second = total; first-read = f .read; second-read = second; room = room }
+    both : Comparable c d out
+    both = record { first = e .first; second = e .second; first-read = e .first-read; second-read = e .second-read; room = e .room }
 
-      pub room-same : (compareOf normal d out ≡ compareOf c d out) × (outputOf normal d out ≡ outputOf c d out)
-      unfolding outputOf
-      room-same =
-          let v = verdict-same (entriesOf normal) (entriesOf c) (entriesOf d) same-normal in
-          let e = compared normal d out (prepared-comparable room-prepared) ∙ v .0 ∙ sym (compared c d out both) in
-          (e, after-same normal c d out (v .1) (compareOf normal d out) ∙ ap (outputAfter c d out) e)
+    pub denied-same : (compareOf normal d out ≡ compareOf c d out) × (outputOf normal d out ≡ outputOf c d out)
+    unfolding outputOf
+    denied-same =
+        let v = verdict-same (entriesOf normal) (entriesOf c) (entriesOf d) same-normal in
+        let q = compared normal d out (prepared-comparable (denied-prepared refl)) ∙ v .0 ∙ sym (compared c d out both) in
+        (q, after-same normal c d out (v .1) (compareOf normal d out) ∙ ap (outputAfter c d out) q)
+
+-- ---- what the normal form's layer answers
+
+unheld-failing : (c d : List ℕ) → unheld c d ≡ failing (entriesOf c) (entriesOf d)
+unfolding unheld failing normalOf
+unheld-failing c d = refl
+
+module _ (c d out : List ℕ) where
+  -- a refusal is the refusal
+  pub holding-refused : {k i p : ℕ} → holdingOf c d ≡ holding.Refused k i p → (Refused k i p ≡ compareOf c d out) × (out ≡ outputOf c d out)
+  holding-refused h =
+      refused-by c d h
+      (λ q. let r = first-refused c d out q in (sym r, sym (refused-output c d out r)))
+      (λ n e q. let r = second-refused c d out e q in (sym r, sym (refused-output c d out r)))
+
+  -- the output is too short, in either case
+  read-short : BothRead c d → length out < length c + length d → (Refused 7 0 0 ≡ compareOf c d out) × (out ≡ outputOf c d out)
+  read-short r l = let e = too-short c d out (r .first-read) (r .second-read) l in (sym e, sym (refused-output c d out e))
+
+  read-lengths : BothRead c d → length c + length d ≤ 16384
+  read-lengths r = omega (arith, accepted-short 1 c (r .first-read), accepted-short 2 d (r .second-read))
+
+  module _ (h : holdingOf c d ≡ holding.All) where
+    pub all-lengths : length c + length d ≤ 16384
+    all-lengths = read-lengths (all-held c d h .0)
+
+    pub all-short : length out < length c + length d → (Refused 7 0 0 ≡ compareOf c d out) × (out ≡ outputOf c d out)
+    all-short l = read-short (all-held c d h .0) l
+
+    -- all hold
+    pub all-contained : length c + length d ≤ length out → (Contained ≡ compareOf c d out) × (out ≡ outputOf c d out)
+    unfolding outputOf
+    all-contained l =
+        let r = all-held c d h in
+        let both : Comparable c d out = record { first = r .0 .first; second = r .0 .second; first-read = r .0 .first-read; second-read = r .0 .second-read; room = l } in
+        let e = compared c d out both ∙ verdict-contained (entriesOf c) (entriesOf d) (sym (unheld-failing c d) ∙ r .1) in
+        (sym e, sym (ap (outputAfter c d out) e))
+
+  module _ {n : ℕ} (h : holdingOf c d ≡ holding.Fails n) where
+    pub fails-lengths : length c + length d ≤ 16384
+    fails-lengths = read-lengths (one-fails c d h .0)
+
+    pub fails-short : length out < length c + length d → (Refused 7 0 0 ≡ compareOf c d out) × (out ≡ outputOf c d out)
+    fails-short l = read-short (one-fails c d h .0) l
+
+    -- entry n fails
+    pub fails-denied : length c + length d ≤ length out → Denied c d n out
+    fails-denied l =
+        let r = one-fails c d h in
+        record {
+          first = r .0 .first;
+          second = r .0 .second;
+          first-read = r .0 .first-read;
+          second-read = r .0 .second-read;
+          room = l;
+          fails = sym (unheld-failing c d) ∙ r .1;
+          some′ = r .2;
+        }
 
 -- ---- the normal form into a buffer of 8,192 bytes
 
--- a refusal is that of the first description
-pub buffer-refused : (c d out buffer : List ℕ) {k i p : ℕ} → length buffer ≡ 8192 → normaliseOf c buffer ≡ normal.Refused k i p
-    → (Refused k i p ≡ compareOf c d out) × (out ≡ outputOf c d out)
-buffer-refused c d out buffer {k} {i} {p} l e =
-    ⊎-elim
-    (λ q. let r = first-refused c d out q in (sym r, sym (refused-output c d out r)))
-    (λ q. absurd (omega (arith, l, q .4, accepted-short 1 c (accepted-by-none Description 1 c (q .3)))))
-    (refused-why c buffer e)
+-- an accepted description is not refused
+pub buffer-taken : {A : Type 0} (c buffer : List ℕ) {n k i p : ℕ} → readingOf Description 1 c ≡ reading.Accepted n → length buffer ≡ 8192 → normaliseOf c buffer ≡ normal.Refused k i p → A
+buffer-taken c buffer {n} {k} {i} {p} r l e =
+    let y = normalised c buffer (record { total = n; read = r; room = omega (arith, l, accepted-short 1 c r) }) in
+    let w : _≡_ {A = ℕ} 0 1 = cc in
+    absurd (omega arith)
 
--- else its blocks are at the start of the buffer
+-- its blocks are at the start of the buffer
 pub buffer-normal : (c buffer : List ℕ) {k : ℕ} → normaliseOf c buffer ≡ normal.Normalised k → NormalOf c (take (512 * blocksFor plain k) (normalisedOf c buffer)) k
 buffer-normal c buffer {k} e =
     let r = normalised-ready c buffer e in

@@ -15,8 +15,8 @@ use Rattle.base.proofs.Tests.{and-left, and-right, eq-cases, eq-eqb, eqb-eq, ne
 use Rattle.blocks.proofs.Legal.{Legal}
 use Rattle.blocks.specs.Entries.{Bounded, formOk, kindOk, nameOk, nth, numberOk, packed, zeroEntry}
 use Rattle.blocks.specs.declared.Entry.{Entry}
-use Rattle.blocks.specs.declared.Schema.{Schema}
 use Rattle.blocks.specs.declared.Schema.the-variants.{Description}
+use Rattle.blocks.specs.declared.Schema.{Schema}
 use Rattle.compare.proofs.GroupSpans.{groups-extra, groups-plain, properties-extra, properties-plain}
 use Rattle.compare.proofs.Lookups.{find-none, find-some}
 use Rattle.compare.proofs.NormalTable.{normal-canonical, normal-table}
@@ -52,7 +52,8 @@ pub record Tables (c d : List Entry) (n : ℕ) (form : List ℕ) (k : ℕ) (link
   pub total : length (normalEntries c) ≡ k
   pub path : linksTo d n ≡ upFrom links m
   pub short : m ≤ 32
-  pub bounded : (j : ℕ) → 1 ≤ j → j ≤ n → Bounded (nth d j)
+  pub names : (i : ℕ) → getD links i 0 < 65536
+  pub last : Bounded (nth d n)
 
 -- ---- the entries of the words
 

@@ -1,9 +1,7 @@
-pub mod First
 pub mod Specimen
 pub mod Answer
 pub mod Cases
 pub mod Table
-pub mod Standing
 pub mod Laying
 pub mod Codes
 pub mod Prepared

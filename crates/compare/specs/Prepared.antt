@@ -1,16 +1,16 @@
--- What is known when the comparison begins: a normal form, a second description, and room. No public promise names these.
+-- What is known where an entry fails: a normal form, a second description, and room. No public promise names these.
 -- Assumes nothing.
-use Prim.Native.Nat.{_+_, _/_, _≤_, ℕ}
-use lib.Dec.{eqb}
-use lib.ListN.{getD, length}
-use mathlib.Core.Bool.{Bool, cond, false}
+use Prim.Native.Nat.{_+_, _≤_, ℕ}
+use lib.ListN.{length}
 use mathlib.Core.List.{List}
+use mathlib.Core.Logic.{_≢_}
 use mathlib.Core.Path.{_≡_}
 use Rattle.blocks.specs.Encoding.{encode}
 use Rattle.blocks.specs.Entries.{entriesOf}
 use Rattle.blocks.specs.Reading.{readingOf}
 use Rattle.blocks.specs.declared.Reading.the-variants as reading
 use Rattle.blocks.specs.declared.Schema.the-variants.{Description}
+use Rattle.compare.specs.Answer.{failing}
 use Rattle.normal.specs.Answer.{normalEntries}
 
 -- a description that is its own normal form, of k entries; a description of so many entries; and an output as long as both
@@ -27,6 +27,12 @@ pub record NormalOf (c normal : List ℕ) (k : ℕ) : Type 0 where
   pub blocks : normal ≡ encode (normalEntries (entriesOf c))
   pub total : k ≡ length (normalEntries (entriesOf c))
 
--- the first of k words is of kind 6 and of the top
-unfoldable pub nothingIn : List ℕ → ℕ → Bool
-nothingIn form k = cond (eqb k 0) false (eqb (getD form 0 0 / 4294967296) 6)
+-- both descriptions are accepted, the output is as long as both, and entry n is the first that fails
+pub record Denied (c d : List ℕ) (n : ℕ) (out : List ℕ) : Type 0 where
+  pub first : ℕ
+  pub second : ℕ
+  pub first-read : readingOf Description 1 c ≡ reading.Accepted first
+  pub second-read : readingOf Description 2 d ≡ reading.Accepted second
+  pub room : length c + length d ≤ length out
+  pub fails : failing (entriesOf c) (entriesOf d) ≡ n
+  pub some′ : n ≢ 0

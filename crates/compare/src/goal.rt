@@ -7,7 +7,7 @@ ghost use Rattle.fit.specs.Description.{Atom, atomOf};
 ghost use Rattle.normal.specs.Witness.{goalLinks, goalProperties, want};
 ghost use Rattle.compare.specs.Codes.{goalAt, goalBelow, upFrom};
 ghost use Rattle.compare.specs.Table.{nameOr};
-use crate::search::long;
+use crate::table::long;
 use blocks::Entry;
 
 // The property that is asked for: that of a 'lacks' at the end of the path; 65,536 for none.

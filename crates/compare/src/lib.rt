@@ -1,11 +1,10 @@
 // The comparison of two descriptions.
 mod goal;
+mod lookup;
 mod path;
 mod places;
 mod rows;
-mod search;
 mod specimen;
-mod support;
 mod table;
 mod verdict;
 

@@ -1,17 +1,17 @@
 // The links that lead to an entry, kept from the entry up.
 ghost use mathlib.Core.Path.{_≡_};
-ghost use Prim.Native.Nat.{_≤_};
-ghost use lib.ListN.{length};
+ghost use Prim.Native.Nat.{ℕ, _≤_, _<_};
+ghost use lib.ListN.{getD, length, replicate};
 ghost use Rattle.blocks.specs.Entries.{entriesOf};
 ghost use Rattle.fit.specs.Description.{linksTo};
 ghost use Rattle.normal.specs.Tables.{Owned};
 ghost use Rattle.compare.specs.Codes.{upFrom};
-use crate::search::wide;
+use crate::table::wide;
 
 // Stores the links of the owners of entry n, nearest first, and returns how many there are.
 pub(crate) fn links_up(d: &[u8], total: usize, n: usize, links: &mut [u16; 32]) -> usize
-    requires { ⌜ (total ≡ length (entriesOf (now d))) × Owned (entriesOf (now d)) × (length (linksTo (entriesOf (now d)) n) ≤ 32) × (1 ≤ n) × (n ≤ total) × (length (now links) ≡ 32) ⌝ }
-    ensures { λ r. ⌜ (r ≤ 32) × (linksTo (entriesOf (now (d .entry))) n ≡ upFrom (now (links .exit)) r) ⌝ }
+    requires { ⌜ (total ≡ length (entriesOf (now d))) × Owned (entriesOf (now d)) × (length (linksTo (entriesOf (now d)) n) ≤ 32) × (1 ≤ n) × (n ≤ total) × (now links ≡ replicate 32 0) ⌝ }
+    ensures { λ r. ⌜ (r ≤ 32) × (linksTo (entriesOf (now (d .entry))) n ≡ upFrom (now (links .exit)) r) × ((i : ℕ) → getD (now (links .exit)) i 0 < 65536) ⌝ }
 {
     let mut o = wide(blocks::nth_entry(d, total, n).owner);
     let mut m: usize = 0;

@@ -8,7 +8,7 @@ ghost use Rattle.normal.specs.SpecimenTree.{group};
 ghost use Rattle.compare.specs.Table.{Formed, entriesIn, namesFrom};
 ghost use Rattle.compare.specs.Laying.{Placed, Pushed, codes, jointRows, leafRows};
 ghost use Rattle.compare.specs.Codes.{groupsFrom, specimenNumber};
-use crate::support::place_below;
+use crate::lookup::place_below;
 use crate::table::name_in;
 use crate::table::number_in;
 use blocks::Entry;

@@ -7,7 +7,7 @@ ghost use lib.ListN.{getD, length, take};
 ghost use Rattle.normal.specs.Layout.{write};
 ghost use Rattle.compare.specs.Codes.{OnPath, Stepped, Writable, numbersBy, specimenNumber, treeBy};
 use crate::places::push_place;
-use crate::search::wide;
+use crate::table::wide;
 use blocks::Entry;
 
 // Pushes the rows of the place below row i, where row i leads to one.

@@ -75,8 +75,14 @@ pub mod AnswerLaws
 pub mod Answer
 pub mod ReadingNumbers
 pub mod Cases
+pub mod FirstLaws
 pub mod NormalAscends
 pub mod NormalDepth
 pub mod PassLaws
+pub mod SlotSearch
+pub mod BoundLaws
+pub mod HoldingLaws
+pub mod SlotStates
+pub mod UnheldLaws
 pub mod PassOrder
 pub mod NormalWritten

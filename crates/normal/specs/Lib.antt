@@ -18,3 +18,6 @@ pub mod Emitted
 pub mod Rules
 pub mod Answer
 pub mod Cases
+pub mod First
+pub mod Holding
+pub mod States

@@ -152,3 +152,8 @@ pub record Settled (d : List ℕ) (used : ℕ) (t bad full : List ℕ) : Type 0 
   pub apart : (i j : ℕ) → 1 ≤ i → i < j → j ≤ used → eqb (keyIn (getD t i 0)) (keyIn (getD t j 0)) ≡ false
   pub lower : (j : ℕ) → 1 ≤ j → j ≤ used → keyIn (getD t j 0) / 131072 < j
   pub bounded : (n : ℕ) → 1 ≤ n → n ≤ length (entriesOf d) → Bounded (nth (entriesOf d) n)
+
+-- the same, with the chains that find them
+pub record Chained (d : List ℕ) (used : ℕ) (t next head bad full : List ℕ) : Type 0 where
+  pub settled′ : Settled d used t bad full
+  pub kept : Kept t next head used

@@ -11,13 +11,24 @@ mod ordering;
 mod output;
 mod settle;
 mod slots;
+mod states;
 mod tables;
+mod unheld;
 mod walk;
 
 pub use output::normalise;
+pub use unheld::first_unheld;
 
 // What normalising answers: the number of entries of the normal form; or the refusal's number, the input and the place.
 pub enum NormalAnswer {
     Normalised(u16),
+    Refused(u8, u16, u16),
+}
+
+// Which entries of a second description the normal form of a first holds: all; all before this one; or the refusal's number, the input
+// and the place.
+pub enum Holding {
+    All,
+    Fails(u16),
     Refused(u8, u16, u16),
 }

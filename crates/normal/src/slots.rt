@@ -124,7 +124,7 @@ fn append(
 }
 
 // The key of a place, a class and a name.
-fn key_of(place: u64, link: bool, name: u64) -> u64
+pub(crate) fn key_of(place: u64, link: bool, name: u64) -> u64
     requires { ⌜ (place < 1024) × (name < 65536) ⌝ }
     ensures { λ r. ⌜ (r ≡ keyNumber place link name) × (r < 1073741824) ⌝ }
 {

@@ -10,13 +10,32 @@ ghost use Rattle.sorting.specs.Sorted.{sorted};
 ghost use Rattle.normal.specs.Layout.{write};
 ghost use Rattle.normal.specs.Normal.{nf};
 ghost use Rattle.normal.specs.Ordered.{runOf, tagNumbers};
-ghost use Rattle.normal.specs.Tables.{Owned, Settled};
+ghost use Rattle.normal.specs.Tables.{Chained, Owned, Settled};
 ghost use Rattle.normal.specs.Emitted.{NormalRows, Orderable, Pushed, allRows, keepIn};
 use crate::build::build;
 use crate::ordering::first_places;
 use crate::ordering::order_slots;
 use crate::settle::settle;
 use crate::walk::write_rows;
+
+// The slots of a description with `total` entries, settled, with the chains that find them; returns their number.
+pub(crate) fn chained_slots(
+    d: &[u8],
+    total: usize,
+    table: &mut [u64; 1009],
+    next: &mut [u16; 1009],
+    head: &mut [u16; 1021],
+    bad: &mut [u8; 1009],
+    full: &mut [u8; 1009],
+) -> usize
+    requires { ⌜ (total ≡ length (entriesOf (now d))) × (total ≤ 1008) × Owned (entriesOf (now d)) × (now table ≡ replicate 1009 0) × (now next ≡ replicate 1009 0) × (now head ≡ replicate 1021 0) × (now bad ≡ replicate 1009 0) × (now full ≡ replicate 1009 0) ⌝ }
+    ensures { λ r. ⌜ Chained (now (d .entry)) r (now (table .exit)) (now (next .exit)) (now (head .exit)) (now (bad .exit)) (now (full .exit)) ⌝ }
+{
+    let mut node = [0u16; 1009];
+    let used = build(d, total, table, next, head, &mut node);
+    settle(table, bad, full, used);
+    used
+}
 
 // The slots of a description with `total` entries, settled; returns their number.
 fn settled_slots(
@@ -31,10 +50,7 @@ fn settled_slots(
 {
     let mut next = [0u16; 1009];
     let mut head = [0u16; 1021];
-    let mut node = [0u16; 1009];
-    let used = build(d, total, table, &mut next, &mut head, &mut node);
-    settle(table, bad, full, used);
-    used
+    chained_slots(d, total, table, &mut next, &mut head, bad, full)
 }
 
 // Orders settled slots and writes the rows of all places; returns their number.

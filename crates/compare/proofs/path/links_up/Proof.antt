@@ -1,19 +1,20 @@
 -- `links_up` meets its contract: the links to the entry are those into the place of o, then the m that are kept.
-use Prim.Native.Nat.{_<_, _≤_}
+use Prim.Native.Nat.{_<_, _≤_, ℕ}
 use borrow.Author.Needs.{needs}
-use lib.ListN.{length, length-set}
+use lib.ListN.{getD, length, length-replicate, length-set}
 use mathlib.Core.Path.{_∙_, _≡_, ap}
 use native.Mathlib.Omega.{arith}
 use Rattle.blocks.proofs.EntryLaws.{of-nth}
 use Rattle.blocks.specs.Entries.{entriesOf, nth}
 use Rattle.blocks.specs.Owners.{ownerOf}
 use Rattle.blocks.specs.declared.Entry.{Entry}
-use Rattle.compare.proofs.PathLaws.{Climbed, climbed-more, climbed-room, climbed-start, climbed-top}
+use Rattle.compare.proofs.PathLaws.{Climbed, climbed-more, climbed-room, climbed-start, climbed-top, names-more, names-start}
+use Rattle.normal.specs.SpecimenTree.{total}
 use Rattle.compare.proofs.path.links_up.Statement.{statement}
 use Rattle.compare.proofs.path.links_up.Tie as tie
 
 abbrev Inv-loop : tie.InvT-loop
-Inv-loop d total n links₀ o₀ m₀ links o m = Climbed (entriesOf d) n links o m × (m ≤ 32) × (length links ≡ 32)
+Inv-loop d total n links₀ o₀ m₀ links o m = Climbed (entriesOf d) n links o m × (m ≤ 32) × (length links ≡ 32) × ((i : ℕ) → getD links i 0 < 65536)
 
 abbrev μ-loop : tie.MeasureT-loop
 μ-loop d total n links₀ o₀ m₀ links o m = o
@@ -33,7 +34,7 @@ loop-holds : tie.Need-loop-holds Inv-loop μ-loop
 loop-holds c =
     let p = c .before .before .before .pre in
     let e = c .before .nth-entry .ensures ∙ of-nth _ _ _ (p .0) in
-    (climbed-start (p .1) _ (p .3) (omega (arith, p)) (c .wide .ensures .0 ∙ ap (λ (x : Entry). x .owner) e), omega arith, p .5)
+    (climbed-start (p .1) _ (p .3) (omega (arith, p)) (c .wide .ensures .0 ∙ ap (λ (x : Entry). x .owner) e), omega arith, ap length (p .5) ∙ length-replicate {A = ℕ} 32 0, names-start (p .5))
 
 element-write-links : tie.Need-element-write-links Inv-loop μ-loop
 element-write-links c = omega (arith, room c)
@@ -59,10 +60,11 @@ loop-again c =
           (c .wide2 .ensures .0 ∙ ap (λ (x : Entry). x .owner) e) (i .0),
       omega (arith, b),
       simp length-set (i .2),
+      names-more (l .loop .links) (i .3) (omega (arith, b, i .2)) (let k = c .before .nth-entry2 .ok in omega (arith, k)),
     )
 
 returns : tie.Need-returns Inv-loop μ-loop
-returns c = let i = c .before .loop .inv in (i .1, climbed-top (c .loop-test .left) (i .0))
+returns c = let i = c .before .loop .inv in (i .1, climbed-top (c .loop-test .left) (i .0), i .3)
 
 pub links-up-spec : {M : Type 1} → statement M
 links-up-spec =

@@ -1,0 +1,93 @@
+/* The stack that each call of the library takes: the call runs on a stack filled with a pattern, and what is no longer the
+ * pattern afterwards was used. Each call gets the inputs that lead furthest down: all entries out of order, so that the sort
+ * halves to the end, and chains of owners of the greatest depth. */
+#define _GNU_SOURCE
+#include <stdio.h>
+#include <string.h>
+#include <ucontext.h>
+
+#include "goltximen.h"
+
+enum { STACK = 1 << 18, PATTERN = 0xa5, BLOCKS = 16, ENTRIES = 63 * BLOCKS, CHAIN = 33 };
+
+static uint8_t stack[STACK], wide[512 * BLOCKS], chain[512], groups[512], out[1024 * BLOCKS];
+static ucontext_t here, there;
+static uint64_t answer;
+
+static void put(uint8_t *at, unsigned word) {
+    at[0] = (uint8_t)word;
+    at[1] = (uint8_t)(word >> 8);
+}
+
+/* Entry n, counted from 1. */
+static void put_entry(uint8_t *s, unsigned n, unsigned kind, unsigned owner, unsigned name, unsigned number) {
+    uint8_t *e = s + 512 * ((n - 1) / 63) + 4 + 8 * ((n - 1) % 63);
+    put(e, kind);
+    put(e + 2, owner);
+    put(e + 4, name);
+    put(e + 6, number);
+}
+
+/* The frame of each block of a list of entries. */
+static void close_blocks(uint8_t *s, unsigned entries) {
+    for (unsigned b = 0; 63 * b < entries; b++, s += 512) {
+        unsigned sum = 0;
+        put(s, b + 1);
+        put(s + 2, entries - 63 * b < 63 ? entries - 63 * b : 63);
+        for (int i = 0; i < 510; i += 2)
+            sum += s[i] + 256u * s[i + 1];
+        put(s + 510, sum);
+    }
+}
+
+static void make_inputs(void) {
+    for (unsigned n = 1; n <= ENTRIES; n++)
+        put_entry(wide, n, 3, 0, n * 397 % 1009, 1);
+    for (unsigned n = 1; n <= CHAIN; n++) {
+        put_entry(chain, n, 5, n - 1, 1, 0);
+        put_entry(groups, n, 7, n - 1, 1, 0);
+    }
+    put_entry(chain, CHAIN + 1, 2, 0, 7, 0);
+    close_blocks(wide, ENTRIES);
+    close_blocks(chain, CHAIN + 1);
+    close_blocks(groups, CHAIN);
+}
+
+static void read_description(void) { answer = gx_read_description(wide, sizeof wide); }
+static void read_specimen(void) { answer = gx_read_specimen(groups, sizeof groups); }
+static void fit(void) { answer = gx_fit(groups, sizeof groups, chain, sizeof chain); }
+static void normal(void) { answer = gx_normal(wide, sizeof wide, out, sizeof out); }
+static void compare(void) { answer = gx_compare(wide, sizeof wide, chain, sizeof chain, out, sizeof out); }
+static void nothing(void) {}
+
+/* The bytes from the lowest that changed to the top. */
+static size_t used_by(void (*call)(void)) {
+    size_t kept = 0;
+    memset(stack, PATTERN, sizeof stack);
+    getcontext(&there);
+    there.uc_stack.ss_sp = stack;
+    there.uc_stack.ss_size = sizeof stack;
+    there.uc_link = &here;
+    makecontext(&there, call, 0);
+    swapcontext(&here, &there);
+    while (kept < sizeof stack && stack[kept] == PATTERN)
+        kept++;
+    return sizeof stack - kept;
+}
+
+static void show(const char *name, void (*call)(void)) {
+    size_t used = used_by(call);
+    printf("%s: %zu bytes (answer %u, %u, %u, %u)\n", name, used, GX_ANSWER(answer), GX_NUMBER(answer),
+           GX_FIRST(answer), GX_SECOND(answer));
+}
+
+int main(void) {
+    make_inputs();
+    printf("an empty call: %zu bytes\n", used_by(nothing));
+    show("gx_read_description", read_description);
+    show("gx_read_specimen", read_specimen);
+    show("gx_fit", fit);
+    show("gx_normal", normal);
+    show("gx_compare", compare);
+    return 0;
+}

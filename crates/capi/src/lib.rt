@@ -1,0 +1,58 @@
+// The library's calls for C and Rust: five functions under their plain names, each slice a pointer and a length. Each answers what the
+// call that it wraps answers, as one number of 64 bits; include/goltximen.h states the terms for a C program.
+//
+// The contracts cite specs/Packing, which has the table of these numbers, and the specs of the calls.
+ghost use mathlib.Core.Path.{_≡_};
+ghost use Rattle.blocks.specs.Reading.{readingOf};
+ghost use Rattle.blocks.specs.declared.Schema.{Schema};
+ghost use Rattle.capi.specs.Packing.{packComparison, packFit, packNormal, packReading};
+ghost use Rattle.compare.specs.Answer.{compareOf, outputOf};
+ghost use Rattle.fit.specs.Answer.{fitOf};
+ghost use Rattle.normal.specs.Answer.{normaliseOf, normalisedOf};
+use crate::packing::pack_comparison;
+use crate::packing::pack_fit;
+use crate::packing::pack_normal;
+use crate::packing::pack_reading;
+
+mod packing;
+
+// Reads a description as input 1: its number of entries, or the refusal.
+#[no_mangle]
+pub extern "C" fn gx_read_description(d: &[u8]) -> u64
+    ensures { λ r. ⌜ r ≡ packReading (readingOf Schema.Description 1 (now (d .entry))) ⌝ }
+{
+    pack_reading(blocks::read_description(d))
+}
+
+// Reads a specimen as input 1: its number of entries, or the refusal.
+#[no_mangle]
+pub extern "C" fn gx_read_specimen(s: &[u8]) -> u64
+    ensures { λ r. ⌜ r ≡ packReading (readingOf Schema.Specimen 1 (now (s .entry))) ⌝ }
+{
+    pack_reading(blocks::read_specimen(s))
+}
+
+// Whether the top item of a specimen, input 1, fits a description, input 2; or the refusal.
+#[no_mangle]
+pub extern "C" fn gx_fit(s: &[u8], d: &[u8]) -> u64
+    ensures { λ r. ⌜ r ≡ packFit (fitOf (now (s .entry)) (now (d .entry))) ⌝ }
+{
+    pack_fit(fit::fit(s, d))
+}
+
+// Writes the normal form of a description from the start of the output: its number of entries, or the refusal.
+#[no_mangle]
+pub extern "C" fn gx_normal(d: &[u8], out: &mut [u8]) -> u64
+    ensures { λ r. ⌜ (r ≡ packNormal (normaliseOf (now (d .entry)) (now (out .entry)))) × (now (out .exit) ≡ normalisedOf (now (d .entry)) (now (out .entry))) ⌝ }
+{
+    pack_normal(normal::normalise(d, out))
+}
+
+// Compares two descriptions: contained; not contained, and a specimen that shows it is written from the start of the output; or the
+// refusal.
+#[no_mangle]
+pub extern "C" fn gx_compare(c: &[u8], d: &[u8], out: &mut [u8]) -> u64
+    ensures { λ r. ⌜ (r ≡ packComparison (compareOf (now (c .entry)) (now (d .entry)) (now (out .entry)))) × (now (out .exit) ≡ outputOf (now (c .entry)) (now (d .entry)) (now (out .entry))) ⌝ }
+{
+    pack_comparison(compare::compare(c, d, out))
+}

@@ -1,0 +1,56 @@
+// The number of 64 bits that stands for an answer.
+ghost use mathlib.Core.Path.{_≡_};
+ghost use Rattle.capi.specs.Packing.{packComparison, packFit, packNormal, packReading, packed};
+use blocks::Reading;
+use compare::Comparison;
+use fit::FitAnswer;
+use normal::NormalAnswer;
+
+// Four fields as one number: bits 0 to 7, 8 to 15, 16 to 31, and 32 to 63.
+fn pack(answer: u8, number: u8, first: u16, second: u16) -> u64
+    ensures { λ r. ⌜ r ≡ packed answer number first second ⌝ }
+{
+    answer as u64 + 256 * (number as u64) + 65536 * (first as u64) + 4294967296 * (second as u64)
+}
+
+// What reading answers: the entries read, or the refusal.
+pub(crate) fn pack_reading(answer: Reading) -> u64
+    ensures { λ r. ⌜ r ≡ packReading answer ⌝ }
+{
+    match answer {
+        Reading::Accepted(total) => pack(1, 0, 0, total),
+        Reading::Refused(number, input, place) => pack(0, number, input, place),
+    }
+}
+
+// The fit answer: yes, no, or the refusal.
+pub(crate) fn pack_fit(answer: FitAnswer) -> u64
+    ensures { λ r. ⌜ r ≡ packFit answer ⌝ }
+{
+    match answer {
+        FitAnswer::Yes => pack(1, 0, 0, 0),
+        FitAnswer::No => pack(2, 0, 0, 0),
+        FitAnswer::Refused(number, input, place) => pack(0, number, input, place),
+    }
+}
+
+// What normalising answers: the entries written, or the refusal.
+pub(crate) fn pack_normal(answer: NormalAnswer) -> u64
+    ensures { λ r. ⌜ r ≡ packNormal answer ⌝ }
+{
+    match answer {
+        NormalAnswer::Normalised(count) => pack(1, 0, 0, count),
+        NormalAnswer::Refused(number, input, place) => pack(0, number, input, place),
+    }
+}
+
+// What comparing answers: contained; not contained, with the entry that fails and the entries of the specimen; or the refusal.
+pub(crate) fn pack_comparison(answer: Comparison) -> u64
+    ensures { λ r. ⌜ r ≡ packComparison answer ⌝ }
+{
+    match answer {
+        Comparison::Contained => pack(1, 0, 0, 0),
+        Comparison::NotContained(entry, entries) => pack(2, 0, entry, entries),
+        Comparison::Refused(number, input, place) => pack(0, number, input, place),
+    }
+}

@@ -1,0 +1,98 @@
+/*
+ * Goltximen: soil sample descriptions, what fits them, their normal form, and whether one holds another.
+ *
+ * The static library is target/staticlib/libcapi.a, for x86-64 Linux; `make lib` builds it. Its five functions are proved to
+ * answer what is said here for all bytes and lengths, to read and write no memory but that of their slices, and to return.
+ *
+ * Slices. A slice is a pointer and a length in bytes. Any bytes may stand in it. An input is only read. Inputs may be the same
+ * memory, or overlap each other; the output must overlap no input. Nobody else may write an input or touch the output during
+ * a call. An empty slice may come with any pointer, also a null pointer; any other slice must lie in memory of the caller's.
+ * Nothing is allocated and nothing is kept between calls, so any number of threads may call at once.
+ *
+ * Descriptions have 1 to 16 blocks of 512 bytes, specimens 1 to 32.
+ *
+ * The answer is one number of 64 bits, answer + 256 * number + 65,536 * first + 4,294,967,296 * second:
+ *
+ *     case            answer       number              first                 second
+ *                     (bits 0-7)   (bits 8-15)         (bits 16-31)          (bits 32-63)
+ *     refused         0            refusal's number    input                 place
+ *     yes; contained  1            0                   0                     0
+ *     no              2            0                   0                     0
+ *     not contained   2            0                   entry that fails      entries of the specimen
+ *     a count         1            0                   0                     the count
+ *
+ * The refusals, of which the first that applies is answered, input 1 before input 2 and both before 7; in one input 1, then
+ * the lowest block that breaks 2 or 3, 2 before 3, then the lowest entry that breaks 4, 5 or 6, in that order:
+ *
+ *     number   when                                                                              place
+ *     1        an input's length is 0, no multiple of 512, or over the limit                     0
+ *     2        a block's check is wrong                                                          block
+ *     3        a block's number, used count or a byte that is due to be zero is wrong            block
+ *     4        an entry's kind is not allowed, its byte 1 is not zero, or its name or number
+ *              is outside the table                                                              entry
+ *     5        an entry's owner is not an earlier entry of kind 5 (description) or 7 (specimen)  entry
+ *     6        an entry's depth is over 32                                                       entry
+ *     7        the output is too short                                                           0
+ *
+ * Blocks and entries count from 1. The input is 1 or 2, in the order of the arguments; it is 0 for number 7.
+ *
+ * Stack. The most that each call took of the caller's stack, on the inputs that lead furthest down (`make stack` measures it):
+ *
+ *     gx_read_description    2,152 bytes
+ *     gx_read_specimen       2,152 bytes
+ *     gx_fit                22,856 bytes
+ *     gx_normal             40,648 bytes
+ *     gx_compare            77,240 bytes
+ *
+ * The library calls memset and memcpy; a program that binds them at their first call took up to 1,072 bytes more there. A
+ * thread with 96 KiB of stack has room for each call.
+ */
+#ifndef GOLTXIMEN_H
+#define GOLTXIMEN_H
+
+#include <stddef.h>
+#include <stdint.h>
+
+#ifdef __cplusplus
+extern "C" {
+#endif
+
+/* The fields of an answer. */
+#define GX_ANSWER(r) ((unsigned)((r) & 0xff))
+#define GX_NUMBER(r) ((unsigned)((r) >> 8 & 0xff))
+#define GX_FIRST(r) ((unsigned)((r) >> 16 & 0xffff))
+#define GX_SECOND(r) ((unsigned)((r) >> 32 & 0xffffffff))
+
+/* The cases of an answer. */
+#define GX_REFUSED 0
+#define GX_YES 1
+#define GX_NO 2
+
+/* Reads the description d: a count, its number of entries; or refused. */
+uint64_t gx_read_description(const uint8_t *d, size_t d_len);
+
+/* Reads the specimen s: a count, its number of entries; or refused. */
+uint64_t gx_read_specimen(const uint8_t *s, size_t s_len);
+
+/* Whether the top item of the specimen s, input 1, fits the description d, input 2: yes or no; or refused. */
+uint64_t gx_fit(const uint8_t *s, size_t s_len, const uint8_t *d, size_t d_len);
+
+/*
+ * Writes the normal form of the description d in blocks from the start of out: a count, the number of entries written; or
+ * refused. Later bytes of out stay. Refused with 7 where out is shorter than d. Where refused, out is unchanged.
+ */
+uint64_t gx_normal(const uint8_t *d, size_t d_len, uint8_t *out, size_t out_len);
+
+/*
+ * Whether in every finite record each item that fits the description c, input 1, fits the description d, input 2: contained
+ * or not contained; or refused. Not contained comes with the number of the first entry of d that fails, and with a specimen,
+ * whose top item fits c and not d: its blocks are written from the start of out, and later bytes of out stay. Refused with 7
+ * where out is shorter than c and d together. Where contained or refused, out is unchanged.
+ */
+uint64_t gx_compare(const uint8_t *c, size_t c_len, const uint8_t *d, size_t d_len, uint8_t *out, size_t out_len);
+
+#ifdef __cplusplus
+}
+#endif
+
+#endif

@@ -1,0 +1,191 @@
+//! Soil sample descriptions: what fits them, their normal form, and whether one holds another.
+//!
+//! This crate calls the proved library. Build that first, by `make lib` in the repository's folder.
+//!
+//! A description and a specimen are bytes in blocks of 512: the block's number, how many of its 63 entries are used, the
+//! entries of 8 bytes, two zero bytes, and the check, which is the sum of all other words of two bytes. Any bytes may be
+//! handed over; those that break a rule are refused. No call panics, allocates or keeps anything.
+//!
+//! A thread with 96 KiB of stack has room for each call; `include/goltximen.h` has what was measured.
+//!
+//! ```
+//! use goltximen::{compare, Comparison};
+//!
+//! // A description of one block: block number 1, one entry used, "has property 7", and the check.
+//! let mut has_7 = [0u8; 512];
+//! (has_7[0], has_7[2], has_7[4], has_7[8]) = (1, 1, 1, 7);
+//! has_7[510] = 1 + 1 + 1 + 7;
+//!
+//! // The empty description, which every item fits.
+//! let mut empty = [0u8; 512];
+//! (empty[0], empty[510]) = (1, 1);
+//!
+//! let mut out = [0u8; 1024];
+//! assert_eq!(compare(&has_7, &empty, &mut out), Ok(Comparison::Contained));
+//! ```
+
+#![deny(missing_docs)]
+#![deny(unsafe_code)]
+
+#[allow(unsafe_code)]
+mod ffi;
+mod packed;
+mod refusal;
+
+pub use refusal::{Reason, Refusal};
+
+/// The fit answer.
+#[derive(Clone, Copy, Debug, PartialEq, Eq, Hash)]
+pub enum Fit {
+    /// The top item of the specimen fits the description.
+    Yes,
+    /// It does not.
+    No,
+}
+
+/// The answer of the comparison.
+#[derive(Clone, Copy, Debug, PartialEq, Eq, Hash)]
+pub enum Comparison {
+    /// In every finite record each item that fits the first description fits the second.
+    Contained,
+    /// Some item of some finite record fits the first and not the second. The output begins with the blocks of a specimen
+    /// whose top item is one.
+    NotContained {
+        /// The number of the first entry of the second description that fails, counted from 1.
+        entry: u16,
+        /// The number of entries of the specimen.
+        entries: u16,
+    },
+}
+
+/// Reads a description, 1 to 16 blocks of entries of kinds 1 to 6, and returns its number of entries.
+///
+/// ```
+/// use goltximen::{read_description, Reason, Refusal};
+///
+/// let mut d = [0u8; 512];
+/// (d[0], d[510]) = (1, 1);
+/// assert_eq!(read_description(&d), Ok(0));
+///
+/// d[510] = 2;
+/// let refusal = Refusal { reason: Reason::Check, input: 1, place: 1 };
+/// assert_eq!(read_description(&d), Err(refusal));
+/// assert_eq!(refusal.to_string(), "refused 2 input 1 place 1");
+/// ```
+///
+/// # Errors
+///
+/// The refusal by the first row of the table that applies.
+pub fn read_description(d: &[u8]) -> Result<u16, Refusal> {
+    packed::count(ffi::read_description(d))
+}
+
+/// Reads a specimen, 1 to 32 blocks of entries of kinds 1 and 7, and returns its number of entries.
+///
+/// ```
+/// use goltximen::{read_specimen, Reason};
+///
+/// // One block with one entry: the top item has property 7.
+/// let mut s = [0u8; 512];
+/// (s[0], s[2], s[4], s[8]) = (1, 1, 1, 7);
+/// s[510] = 1 + 1 + 1 + 7;
+/// assert_eq!(read_specimen(&s), Ok(1));
+/// assert_eq!(read_specimen(&[]).unwrap_err().reason, Reason::Length);
+/// ```
+///
+/// # Errors
+///
+/// The refusal by the first row of the table that applies.
+pub fn read_specimen(s: &[u8]) -> Result<u16, Refusal> {
+    packed::count(ffi::read_specimen(s))
+}
+
+/// Whether the top item of a specimen, input 1, fits a description, input 2.
+///
+/// ```
+/// use goltximen::{fit, Fit};
+///
+/// // "has property 7", which is a specimen and a description.
+/// let mut has_7 = [0u8; 512];
+/// (has_7[0], has_7[2], has_7[4], has_7[8]) = (1, 1, 1, 7);
+/// has_7[510] = 1 + 1 + 1 + 7;
+///
+/// // "lacks property 7".
+/// let mut lacks_7 = has_7;
+/// (lacks_7[4], lacks_7[510]) = (2, 1 + 1 + 2 + 7);
+///
+/// assert_eq!(fit(&has_7, &has_7), Ok(Fit::Yes));
+/// assert_eq!(fit(&has_7, &lacks_7), Ok(Fit::No));
+/// ```
+///
+/// # Errors
+///
+/// The refusal of the specimen, and if it is accepted, of the description.
+pub fn fit(specimen: &[u8], description: &[u8]) -> Result<Fit, Refusal> {
+    let fields = packed::fields(ffi::fit(specimen, description))?;
+    Ok(match fields.answer {
+        1 => Fit::Yes,
+        _ => Fit::No,
+    })
+}
+
+/// Writes the normal form of a description in blocks from the start of the output, and returns its number of entries. Later
+/// bytes of the output stay.
+///
+/// ```
+/// use goltximen::normal_form;
+///
+/// // "at least 0 by link 3" says nothing, so the normal form is empty.
+/// let mut d = [0u8; 512];
+/// (d[0], d[2], d[4], d[8]) = (1, 1, 3, 3);
+/// d[510] = 1 + 1 + 3 + 3;
+///
+/// let mut out = [9u8; 513];
+/// assert_eq!(normal_form(&d, &mut out), Ok(0));
+/// assert_eq!((out[0], out[2], out[510], out[512]), (1, 0, 1, 9));
+/// ```
+///
+/// # Errors
+///
+/// The refusal of the description; if it is accepted, [`Reason::Output`] where the output is shorter than the description.
+/// The output is then unchanged.
+pub fn normal_form(description: &[u8], out: &mut [u8]) -> Result<u16, Refusal> {
+    packed::count(ffi::normal(description, out))
+}
+
+/// Compares two descriptions: whether in every finite record each item that fits `c`, input 1, fits `d`, input 2.
+///
+/// Where one does not, the blocks of a specimen that shows it are written from the start of the output. Later bytes stay.
+/// Where the answer is [`Comparison::Contained`] the output is unchanged.
+///
+/// ```
+/// use goltximen::{compare, fit, Comparison, Fit};
+///
+/// // "has property 7", and "has property 8".
+/// let mut c = [0u8; 512];
+/// (c[0], c[2], c[4], c[8]) = (1, 1, 1, 7);
+/// c[510] = 1 + 1 + 1 + 7;
+/// let mut d = c;
+/// (d[8], d[510]) = (8, 1 + 1 + 1 + 8);
+///
+/// let mut out = [0u8; 1024];
+/// let shown = Comparison::NotContained { entry: 1, entries: 1 };
+/// assert_eq!(compare(&c, &d, &mut out), Ok(shown));
+/// assert_eq!(fit(&out[..512], &c), Ok(Fit::Yes));
+/// assert_eq!(fit(&out[..512], &d), Ok(Fit::No));
+/// ```
+///
+/// # Errors
+///
+/// The refusal of `c`; if it is accepted, that of `d`; then [`Reason::Output`] where the output is shorter than both together.
+/// The output is then unchanged.
+pub fn compare(c: &[u8], d: &[u8], out: &mut [u8]) -> Result<Comparison, Refusal> {
+    let fields = packed::fields(ffi::compare(c, d, out))?;
+    Ok(match fields.answer {
+        1 => Comparison::Contained,
+        _ => Comparison::NotContained {
+            entry: fields.first,
+            entries: fields.second,
+        },
+    })
+}

@@ -1,0 +1,75 @@
+//! What a refused call answers.
+
+use std::error::Error;
+use std::fmt;
+
+/// Why an input or an output is refused: a row of the table of refusals.
+#[derive(Clone, Copy, Debug, PartialEq, Eq, Hash)]
+pub enum Reason {
+    /// 1: the input's length is 0, no multiple of 512, or over the limit.
+    Length,
+    /// 2: a block's check is wrong.
+    Check,
+    /// 3: a block's number, its used count or a byte that is due to be zero is wrong.
+    Frame,
+    /// 4: an entry's kind is not allowed, its byte 1 is not zero, or its name or number is outside the table.
+    Form,
+    /// 5: an entry's owner is not earlier, or cannot own.
+    Owner,
+    /// 6: an entry's depth is over 32.
+    Depth,
+    /// 7: the output is too short.
+    Output,
+}
+
+impl Reason {
+    /// The reason with a number of the table. The library answers no other number than 1 to 7.
+    pub(crate) fn from_number(number: u8) -> Reason {
+        match number {
+            1 => Reason::Length,
+            2 => Reason::Check,
+            3 => Reason::Frame,
+            4 => Reason::Form,
+            5 => Reason::Owner,
+            6 => Reason::Depth,
+            _ => Reason::Output,
+        }
+    }
+
+    /// The number in the table of refusals, 1 to 7.
+    pub fn number(self) -> u8 {
+        match self {
+            Reason::Length => 1,
+            Reason::Check => 2,
+            Reason::Frame => 3,
+            Reason::Form => 4,
+            Reason::Owner => 5,
+            Reason::Depth => 6,
+            Reason::Output => 7,
+        }
+    }
+}
+
+/// A refusal: why, of which input, and at which place.
+#[derive(Clone, Copy, Debug, PartialEq, Eq, Hash)]
+pub struct Refusal {
+    /// Why.
+    pub reason: Reason,
+    /// The input, 1 or 2 in the order of the call's arguments; 0 where the output is too short.
+    pub input: u16,
+    /// The block or the entry, counted from 1 in that input; 0 where the reason has no place.
+    pub place: u16,
+}
+
+impl fmt::Display for Refusal {
+    fn fmt(&self, f: &mut fmt::Formatter<'_>) -> fmt::Result {
+        let number = self.reason.number();
+        write!(
+            f,
+            "refused {number} input {} place {}",
+            self.input, self.place
+        )
+    }
+}
+
+impl Error for Refusal {}
