@@ -1,15 +1,15 @@
-# make run: the reader on a shipped example. make lib: the static library for C and Rust. make test: the gate, then the library
+# make run: compares two shipped descriptions. make lib: the static library for C and Rust. make test: the gate, then the library
 # from C and from Rust. make bench: how long a run of each program takes. make stack: the stack that each call of the library takes.
 .PHONY: run lib test bench stack
 
 CC = gcc
 CFLAGS = -O2 -Wall -Wextra -Werror -Iinclude
 
-run: target/bin/inspect
-	target/bin/inspect < examples/supplier.blocks
+run: target/bin/goltximen
+	target/bin/goltximen < examples/pair.blocks
 
-target/bin/inspect: crates.txt $(shell find crates/base crates/blocks crates/inspect -type f)
-	rt check inspect
+target/bin/goltximen: crates.txt $(shell find crates -type f)
+	rt check goltximen
 
 lib:
 	rt staticlib capi
@@ -23,7 +23,7 @@ test:
 	cargo test --quiet --manifest-path rust/bindings/Cargo.toml
 
 bench:
-	rt check inspect normals fits
+	rt check inspect normals fits goltximen
 	bash bench/run
 
 stack: lib

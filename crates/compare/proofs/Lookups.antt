@@ -1,7 +1,7 @@
 -- Looking entries up by owner, kind and name: what a place lists, and the place below a link, by the first entry that matches.
 -- Assumes nothing.
 use Prim.Native.Nat.{_+_, _-_, _<_, _≤_, suc, zero, ℕ}
-use lib.Dec.{eqb, leb, ltb}
+use lib.Dec.{eqb}
 use lib.ListN.{getD, length}
 use mathlib.Core.Bool.{Bool, _&&_, cond, false, true}
 use mathlib.Core.List.{List, [], _∷_, map}
@@ -9,9 +9,9 @@ use mathlib.Core.Logic.{_≢_}
 use mathlib.Core.Option.{Option, none, some}
 use mathlib.Core.Path.{_∙_, _≡_, refl, sym}
 use native.Mathlib.Omega.{arith}
-use Rattle.base.proofs.Tests.{and-both, and-left, and-right, and-zero, bool-cases, eq-cases, eq-eqb, eqb-eq, leb-le, ltb-lt, ne-eqb, tests}
+use Rattle.base.proofs.Tests.{and-both, and-left, and-right, and-zero, bool-cases, eq-cases, eq-eqb, eqb-eq, ne-eqb, tests}
 use Rattle.blocks.proofs.Legal.{Legal, owner-earlier}
-use Rattle.blocks.specs.Entries.{formOk, kindOk, nth, zeroEntry}
+use Rattle.blocks.specs.Entries.{formOk, nth, zeroEntry}
 use Rattle.blocks.specs.Owners.{ownerOf}
 use Rattle.blocks.specs.declared.Entry.{Entry}
 use Rattle.blocks.specs.declared.Schema.the-variants.{Description}
@@ -19,6 +19,7 @@ use Rattle.compare.specs.Table.{entryFor, firstMatch, placeBelow}
 use Rattle.fit.proofs.Places.{early-rows, tree-skip}
 use Rattle.fit.specs.Description.{Kind, has, kindOf, lacks, least, most, nothing, placeOf, rowOf}
 use Rattle.fit.specs.Tree.{Early, end, tree}
+use Rattle.normal.proofs.HoldingLaws.{form-kind}
 use Rattle.normal.specs.Normal.{find, rank, sub}
 
 -- ---- the first entry that matches
@@ -205,13 +206,6 @@ tree-none i (e ∷ es) v h =
     bool-cases (eqb (e .kind) 5) (λ q. rw (q, z, ih)) (λ q. rw (q, z, ih))
 
 -- ---- a description
-
--- a kind that is allowed is a number of the table
-form-kind : (e : Entry) → formOk Description e ≡ true → (1 ≤ e .kind) × (e .kind ≤ 6)
-unfolding formOk
-form-kind e h =
-    let k : (ltb 0 (e .kind) && leb (e .kind) 6) ≡ true = and-left (kindOk Description (e .kind)) _ h in
-    (ltb-lt (and-left (ltb 0 (e .kind)) (leb (e .kind) 6) k), leb-le (and-right (ltb 0 (e .kind)) (leb (e .kind) 6) k))
 
 kinds-of : (es : List Entry) → ((p : ℕ) → p < length es → formOk Description (getD es p zeroEntry) ≡ true) → Kinds es
 kinds-of [] h = tt

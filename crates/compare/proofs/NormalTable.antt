@@ -1,26 +1,23 @@
--- The table of a normal form: its words ascend as its entries do; and the first word tells whether nothing fits.
+-- The table of a normal form: its words ascend as its entries do.
 -- Assumes nothing.
-use Prim.Native.Nat.{_*_, _+_, _/_, _<_, _≤_, suc, zero, ℕ}
+use Prim.Native.Nat.{_<_, _≤_, suc, zero, ℕ}
 use lib.Dec.{eqb, ltb}
 use lib.ListN.{getD, length}
 use mathlib.Core.Bool.{Bool, _&&_, false, true}
 use mathlib.Core.List.{List, [], _∷_}
-use mathlib.Core.Logic.{_≢_}
-use mathlib.Core.Path.{_∙_, _≡_, ap, refl, sym}
+use mathlib.Core.Path.{_≡_}
 use native.Mathlib.Omega.{arith}
-use Rattle.base.proofs.Split.{row-of}
-use Rattle.base.proofs.Tests.{and-left, and-right, eq-cases, eq-eqb, ne-eqb, or-cases, tests}
+use Rattle.base.proofs.Tests.{and-left, and-right, or-cases, tests}
 use Rattle.blocks.proofs.Legal.{Legal, owner-earlier}
 use Rattle.blocks.specs.Entries.{Bounded, nth, zeroEntry}
 use Rattle.blocks.specs.Owners.{ownerOf}
 use Rattle.blocks.specs.declared.Entry.{Entry}
 use Rattle.blocks.specs.declared.Schema.the-variants.{Description}
-use Rattle.compare.proofs.Lookups.{kind-range, rank-kind}
+use Rattle.compare.proofs.Lookups.{kind-range}
 use Rattle.compare.specs.Table.{Narrow, Table, Unpacked, wordOf}
 use Rattle.fit.proofs.Kept.{lawful-unrestricted}
 use Rattle.fit.specs.Background.{unrestricted}
-use Rattle.fit.specs.Description.{placeOf, rowOf}
-use Rattle.fit.specs.Tree.{tree}
+use Rattle.fit.specs.Description.{placeOf}
 use Rattle.normal.proofs.Normal.{alive}
 use Rattle.normal.proofs.NormalAscends.{normal-ascends}
 use Rattle.normal.proofs.NormalEntries.{normal-fewer, normal-place}
@@ -31,6 +28,7 @@ use Rattle.normal.specs.Canonical.{Canonical}
 use Rattle.normal.specs.Normal.{before, dead}
 use Rattle.normal.specs.Rows.{entryBefore}
 use Rattle.normal.specs.Sorted.{AllAfter, Sorted}
+use Rattle.sorting.specs.Sorted.{sorted}
 
 -- ---- words that ascend
 
@@ -97,54 +95,8 @@ pub normal-table : (c : List Entry) → Legal Description c → length c ≤ 100
 normal-table c L few total u =
     sorted-table (normalEntries c) (normal-legal c L) (omega (arith, normal-fewer c)) (normal-ascends c) total u
 
--- ---- whether nothing fits
+-- ---- its top
 
 -- the top of a normal form is normal, unless nothing fits it
 pub normal-canonical : (c : List Entry) → dead (placeOf (normalEntries c) 0) ≡ false → Canonical unrestricted (placeOf (normalEntries c) 0)
 normal-canonical c h = alive lawful-unrestricted (placeOf (normalEntries c) 0) (rw normal-place (plain-normal (placeOf c 0))) h
-
--- a word without its name and number
-word-kind : (e : Entry) → Narrow e → wordOf e / 4294967296 ≡ 8 * e .owner + e .kind
-unfolding wordOf
-word-kind e b =
-    ap (λ (x : ℕ). x / 4294967296) (omega arith)
-    ∙ row-of {r = 4294967296} (8 * e .owner + e .kind) (65536 * e .name + e .number) (omega arith)
-
--- no entry says that nothing fits where there is none
-alive-none : (es : List Entry) → length es ≡ 0 → dead (placeOf es 0) ≡ false
-unfolding dead placeOf tree
-alive-none [] z = refl
-alive-none (e ∷ es) z = absurd (omega arith)
-
--- the first entry is the top's first
-dead-top : (es : List Entry) → Legal Description es → 1 ≤ length es → dead (placeOf es 0) ≡ eqb 6 (nth es 1 .kind)
-unfolding dead placeOf tree rowOf nth ownerOf
-dead-top [] legal some = absurd (omega arith)
-dead-top (e ∷ es) legal some =
-    let o = owner-earlier legal 1 (omega arith) (omega arith) in
-    let top : eqb 0 (e .owner) ≡ true = omega tests in
-    let range = kind-range (e ∷ es) legal 1 (omega arith) (omega arith) in
-    eq-cases (e .kind) 5
-    (λ q. rw (eq-eqb q, top, q))
-    (λ q. rw (ne-eqb q, top, rank-kind (e .kind) (range .0) (range .1) q))
-
-module _ (es : List Entry) (legal : Legal Description es) {form : List ℕ} {k : ℕ} (table : Table es form k) where
-  -- the kind in the first word
-  first-kind : 1 ≤ k → getD form 0 0 / 4294967296 ≡ nth es 1 .kind
-  unfolding ownerOf
-  first-kind some =
-      let w : getD form 0 0 / 4294967296 ≡ 8 * nth es 1 .owner + nth es 1 .kind
-      = ap (λ (x : ℕ). x / 4294967296) (table .words 0 some) ∙ word-kind (nth es 1) (table .narrow 1 (omega arith) some) in
-      let o = owner-earlier legal 1 (omega arith) (omega (arith, table .total)) in
-      omega arith
-
-  -- nothing fits if the first word is of kind 6
-  pub dead-table : 1 ≤ k → getD form 0 0 / 4294967296 ≡ 6 → dead (placeOf es 0) ≡ true
-  dead-table some e = dead-top es legal (omega (arith, table .total)) ∙ eq-eqb (sym e ∙ first-kind some)
-
-  -- but not if there is none, or one of another kind
-  pub alive-empty : k ≡ 0 → dead (placeOf es 0) ≡ false
-  alive-empty z = alive-none es (table .total ∙ z)
-
-  pub alive-other : 1 ≤ k → getD form 0 0 / 4294967296 ≢ 6 → dead (placeOf es 0) ≡ false
-  alive-other some z = dead-top es legal (omega (arith, table .total)) ∙ ne-eqb (λ e. z (first-kind some ∙ sym e))

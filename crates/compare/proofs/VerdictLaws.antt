@@ -194,9 +194,6 @@ module _ {c normal : List ℕ} {k : ℕ} (f : NormalOf c normal k) where
       (omega (arith, normal-fewer (entriesOf c), length-entries c, total-bound (normal-sound .blocks))) in
       omega (arith, ap length (f .blocks), length-encode (normalEntries (entriesOf c)), short, whole-blocks Description c (normal-sound .blocks .length))
 
-  pub first-short : length c ≤ 8192
-  first-short = accepted-short 1 c (f .read)
-
   -- the answer for the normal form is the answer
   same-normal : normalOf (entriesOf normal) ≡ normalOf (entriesOf c)
   unfolding normalOf

@@ -14,12 +14,6 @@ use Rattle.normal.specs.Layout.{Queue, done, job}
 pub data Joint (B : Type 0) : Type 0 where
   joint : B → ℕ → Joint B
 
-abbrev pub labelOf : {B : Type 0} → Joint B → B
-labelOf (joint b c) = b
-
-abbrev pub codeOf : {B : Type 0} → Joint B → ℕ
-codeOf (joint b c) = c
-
 module _ {A B : Type 0} where
   -- leaves before the rest
   unfoldable pub leaves : List A → Tree A B → Tree A B

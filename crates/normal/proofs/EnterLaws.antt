@@ -16,7 +16,6 @@ use Rattle.normal.proofs.SearchLaws.{keysOf}
 use Rattle.normal.proofs.TableLaws.{key-made, position-found, position-none, slot-made, slots-last, slots-other, tighten-found, tighten-none}
 use Rattle.normal.specs.Chain.{Chains, changed, scan}
 use Rattle.normal.specs.Normal.{found, same}
-use Rattle.normal.specs.Slots.{slots}
 use Rattle.normal.specs.Tables.{Entered, Kept, hashOf, highIn, highPart, keyIn, keyNumber, lowPart, slotNumber}
 
 -- ---- what a search finds

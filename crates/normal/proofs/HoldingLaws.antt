@@ -209,7 +209,7 @@ module _ (rs : List (Row Atom ℕ)) (few : length (slots rs) ≤ 1008) where
 -- ---- the entries that hold
 
 -- a kind that is allowed is a number of the table
-form-kind : (e : Entry) → formOk Description e ≡ true → (1 ≤ e .kind) × (e .kind ≤ 6)
+pub form-kind : (e : Entry) → formOk Description e ≡ true → (1 ≤ e .kind) × (e .kind ≤ 6)
 unfolding formOk
 form-kind e h =
     let k : (ltb 0 (e .kind) && leb (e .kind) 6) ≡ true = and-left (kindOk Description (e .kind)) _ h in

@@ -6,15 +6,15 @@ use lib.ListN.{length}
 use mathlib.Core.Bool.{Bool, _&&_, _||_, cond, false, false≢true, true}
 use mathlib.Core.List.{List, [], _∷_}
 use mathlib.Core.Option.{Option, none, some}
-use mathlib.Core.Path.{_∙_, _≡_, refl, sym}
+use mathlib.Core.Path.{_∙_, _≡_, refl}
 use native.Mathlib.Omega.{arith}
 use Rattle.base.proofs.Cases.{opt-cases}
-use Rattle.base.proofs.Tests.{and-both, and-left, and-right, and-zero, bool-cases, eq-eqb, iff-eq, neither-left, neither-right, or-cases, or-left, or-right, tests}
+use Rattle.base.proofs.Tests.{and-both, and-left, and-right, bool-cases, eq-eqb, iff-eq, neither-left, neither-right, tests}
 use Rattle.fit.specs.Description.{Atom, Kind, atom, has, lacks, least, most, nothing}
 use Rattle.fit.specs.Record.{bit}
 use Rattle.fit.specs.Tree.{Row, leafRow, nodeRow}
 use Rattle.normal.proofs.ChainLaws.{scan-found, scan-gap}
-use Rattle.normal.proofs.Order.{before-cases, before-eq, before-lt}
+use Rattle.normal.proofs.Order.{before-eq, before-lt}
 use Rattle.normal.proofs.SlotLaws.{key-name, key-place, name-class, name-eq, position-from}
 use Rattle.normal.proofs.SlotNumbers.{position-key, position-range}
 use Rattle.normal.specs.Chain.{scan}

@@ -1,10 +1,9 @@
 -- The fast normal form of small descriptions, by computing.
 -- Assumes nothing.
-use Prim.Native.Nat.{ℕ}
-use mathlib.Core.List.{List, [], _∷_}
+use mathlib.Core.List.{[], _∷_}
 use mathlib.Core.Path.{_≡_, refl}
-use Rattle.fit.specs.Description.{Atom, atom, has, lacks, least, most, nothing}
-use Rattle.fit.specs.Tree.{Row, leafRow, nodeRow}
+use Rattle.fit.specs.Description.{atom, has, lacks, least, most, nothing}
+use Rattle.fit.specs.Tree.{leafRow, nodeRow}
 use Rattle.normal.specs.Layout.{later}
 use Rattle.normal.specs.Pipeline.{normalRows, outEvery, outKind, rowsFrom, sortedCells, walk}
 use Rattle.normal.specs.Slots.{build, cells, dies, position, says, settled, slots, tighten}

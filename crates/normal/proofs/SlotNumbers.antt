@@ -1,20 +1,20 @@
 -- Slots by their numbers: the slot of a key, and what a place lists of it.
 -- Assumes nothing.
-use Prim.Native.Nat.{_+_, _<_, _≤_, suc, ℕ}
+use Prim.Native.Nat.{_+_, _<_, suc, ℕ}
 use lib.Dec.{eqb}
 use lib.ListN.{length}
 use mathlib.Core.Bool.{Bool, _&&_, cond, false, false≢true, true}
 use mathlib.Core.List.{List, [], _∷_}
 use mathlib.Core.Option.{Option, none, some}
-use mathlib.Core.Path.{_∙_, _≡_, ap, refl, sym}
+use mathlib.Core.Path.{_∙_, _≡_, ap, refl}
 use native.Mathlib.Omega.{arith}
-use Rattle.base.proofs.Tests.{and-both, bool-cases, eqb-self, eqb-sym, tests}
-use Rattle.fit.specs.Description.{Atom, Kind, Place}
+use Rattle.base.proofs.Tests.{bool-cases, eqb-self, eqb-sym, tests}
+use Rattle.fit.specs.Description.{Atom, Kind}
 use Rattle.fit.specs.Tree.{Row, end}
 use Rattle.normal.proofs.FormNormal.{form-find, form-sub}
 use Rattle.normal.proofs.Forms.{form}
 use Rattle.normal.proofs.SlotLaws.{key-name, key-place, name-class, name-eq, position-from}
-use Rattle.normal.proofs.WrittenLists.{below, listed, value-none}
+use Rattle.normal.proofs.WrittenLists.{value-none}
 use Rattle.normal.specs.Keys.{packedKey, slotKey}
 use Rattle.normal.specs.Normal.{atMost, find, sub}
 use Rattle.normal.specs.Slots.{Cell, Slot, cell, cells, dies, isLink, lookup, position, sameKey, sameName, settled, shut, slot, slotAt, slotHigh, slotLow, slots, taken, value}
