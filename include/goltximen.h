@@ -41,8 +41,8 @@
  *     gx_read_description    2,152 bytes
  *     gx_read_specimen       2,152 bytes
  *     gx_fit                22,856 bytes
- *     gx_normal             40,648 bytes
- *     gx_compare            77,240 bytes
+ *     gx_normal             40,680 bytes
+ *     gx_compare            79,288 bytes
  *
  * The library calls memset and memcpy; a program that binds them at their first call took up to 1,072 bytes more there. A
  * thread with 96 KiB of stack has room for each call.

@@ -1,4 +1,10 @@
-// The comparison of two descriptions.
+// The comparison of two descriptions, and the specimen that shows where the first is not contained in the second. Which entries of the
+// second hold is asked of the layer of the normal form; where one fails, the first is normalised, and the specimen is written place by
+// place from the table of its normal form, with what the path to the failing entry asks for.
+//
+// The contracts cite specs/: Answer says what is answered and written, Specimen what the specimen is; Table, Codes, Laying and Prepared
+// mirror the code, and no public promise names them. What the answer means in every finite record is proved in proofs/: Contained,
+// NotContained, Answer.
 mod goal;
 mod lookup;
 mod path;

@@ -8,10 +8,13 @@ use mathlib.Core.Logic.{_≢_}
 use mathlib.Core.Path.{_∙_, _≡_, ap, refl, sym}
 use native.Mathlib.Omega.{arith}
 use Rattle.base.proofs.Tests.{eq-cases, eq-eqb, ne-eqb}
-use Rattle.blocks.proofs.Accepting.{none-of-accepted, sound-of-accepted}
+use Rattle.base.specs.Range.{all}
+use Rattle.blocks.proofs.Accepting.{accepted-by-none, none-of-accepted, refused-by-first, sound-of-accepted}
 use Rattle.blocks.proofs.Faithful.{entries-limit}
+use Rattle.blocks.proofs.FirstFault.{FirstOf, None}
 use Rattle.blocks.proofs.Legal.{owner-earlier, owner-kind}
 use Rattle.blocks.specs.Entries.{entriesOf}
+use Rattle.blocks.specs.Faults.{faults}
 use Rattle.blocks.specs.Reading.{readingOf}
 use Rattle.blocks.specs.declared.Reading.{Reading}
 use Rattle.normal.specs.declared.Holding.the-variants.{All, Fails, Refused}
@@ -22,7 +25,7 @@ use Rattle.normal.proofs.HoldingLaws.{dead-first, slots-first}
 use Rattle.normal.proofs.TableLaws.{length-slots}
 use Rattle.normal.proofs.Written.{kept}
 use Rattle.normal.specs.First.{firstFrom}
-use Rattle.normal.specs.Holding.{heldBy, holdingOf, unheld}
+use Rattle.normal.specs.Holding.{heldBy, holdingOf, holdingReturned, unheld}
 use Rattle.normal.specs.Slots.{Slot, dies, settled, slot, slots}
 use Rattle.normal.specs.States.{Indexed, heldIn}
 use Rattle.normal.specs.Tables.{Chained, Owned}
@@ -102,6 +105,25 @@ module _ (c d : List ℕ) where
       (λ r. eq-cases (unheld c d) 0
       (λ z. let y = held-all r z in let w : _≡_ {A = ℕ} 0 1 = cc in absurd (omega arith))
       (λ z. let y = held-fails r z in let f : unheld c d ≡ n = cc in (r, f, λ q. z (f ∙ q))))
+
+-- ---- the paper's numbers
+
+module _ (c d : List ℕ) where
+  -- "In one input: .." of input 1
+  pub returned-first : {k p : ℕ} → FirstOf (faults Description c) k p
+      → holdingReturned (holdingOf c d) ≡ record { all = false; entry = 0; number = k; input = 1; place = p }
+  returned-first f = ap holdingReturned (first-refused c d (refused-by-first Description 1 c f))
+
+  -- of input 2, where input 1 is accepted
+  pub returned-second : {k p : ℕ} → None (faults Description c) → FirstOf (faults Description d) k p
+      → holdingReturned (holdingOf c d) ≡ record { all = false; entry = 0; number = k; input = 2; place = p }
+  returned-second n f = ap holdingReturned (second-refused c d (accepted-by-none Description 1 c n) (refused-by-first Description 2 d f))
+
+  -- otherwise the number of the first that fails
+  pub returned-unheld : None (faults Description c) → None (faults Description d) → holdingReturned (holdingOf c d) .entry ≡ unheld c d
+  returned-unheld n m =
+      rw (both-read c d (accepted-by-none Description 1 c n) (accepted-by-none Description 2 d m))
+      (eq-cases (unheld c d) 0 (λ z. rw (eq-eqb z, z)) (λ z. rw (ne-eqb z)))
 
 -- ---- two descriptions
 
