@@ -1,9 +1,12 @@
 # make run: compares two shipped descriptions. make lib: the static library for C and Rust. make test: the gate, then the library
-# from C and from Rust. make bench: how long a run of each program takes. make stack: the stack that each call of the library takes.
-.PHONY: run lib test bench stack
+# from C and from Rust, and against the reference. make fuzz: the library against the reference on drawn cases, for SECONDS from SEED.
+# make bench: how long a run of each program takes. make stack: the stack that each call of the library takes.
+.PHONY: run lib test fuzz bench stack
 
 CC = gcc
 CFLAGS = -O2 -Wall -Wextra -Werror -Iinclude
+SECONDS = 600
+SEED = $(shell date +%s)
 
 run: target/bin/goltximen
 	target/bin/goltximen < examples/pair.blocks
@@ -21,6 +24,10 @@ test:
 	$(CC) $(CFLAGS) examples/compare.c target/staticlib/libcapi.a -o target/c/compare
 	test "$$(target/c/compare)" = "not contained, entry 1; specimen of 2 entries"
 	cargo test --quiet --manifest-path rust/bindings/Cargo.toml
+	cargo test --release --quiet --manifest-path rust/differential/Cargo.toml
+
+fuzz: lib
+	cargo run --release --quiet --manifest-path rust/differential/Cargo.toml --bin fuzz -- $(SECONDS) $(SEED)
 
 bench:
 	rt check inspect normals fits goltximen

@@ -1,0 +1,214 @@
+//! Bytes with one fault or several, for refusals 1 to 6.
+
+use reference::{encode, Entry};
+
+use crate::chance::Chance;
+use crate::draw::entry;
+use crate::{word, BLOCK, BLOCK_ENTRIES, MOST_DESCRIPTION, MOST_SPECIMEN};
+
+/// The two sorts of input.
+#[derive(Clone, Copy, Debug, PartialEq, Eq)]
+pub enum Sort {
+    /// A description.
+    Description,
+    /// A specimen.
+    Specimen,
+}
+
+impl Sort {
+    /// The most entries.
+    pub fn most(self) -> usize {
+        match self {
+            Sort::Description => MOST_DESCRIPTION,
+            Sort::Specimen => MOST_SPECIMEN,
+        }
+    }
+
+    /// The kind of entries that own a place.
+    pub fn owner_kind(self) -> u8 {
+        match self {
+            Sort::Description => 5,
+            Sort::Specimen => 7,
+        }
+    }
+}
+
+/// The entries as bytes, with one to four faults.
+pub fn damaged(chance: &mut Chance, sort: Sort, entries: &[Entry]) -> Vec<u8> {
+    let mut entries = entries.to_vec();
+    let mut faults: Vec<usize> = (0..=chance.below(4)).map(|_| chance.below(16)).collect();
+    faults.sort_unstable();
+    for fault in &faults {
+        match fault {
+            0..=3 => break_form(chance, &mut entries),
+            4..=6 => break_owner(chance, &mut entries),
+            7..=8 => break_depth(chance, sort, &mut entries),
+            _ => (),
+        }
+    }
+    let mut bytes = if faults.contains(&9) {
+        uneven(chance, &entries)
+    } else {
+        encode(&entries)
+    };
+    for fault in faults {
+        match fault {
+            10..=11 => break_frame(chance, &mut bytes),
+            12 => exchange_words(chance, &mut bytes),
+            13..=14 => break_check(chance, &mut bytes),
+            15 => break_length(chance, sort, &mut bytes),
+            _ => (),
+        }
+    }
+    bytes
+}
+
+/// A fault of row 4 in a drawn entry; a list without entries gets one.
+pub fn break_form(chance: &mut Chance, entries: &mut Vec<Entry>) {
+    if entries.is_empty() {
+        entries.push(Entry::default());
+    }
+    let at = chance.below(entries.len());
+    let e = &mut entries[at];
+    match chance.below(6) {
+        0 => e.kind = chance.one_of([0, 6, 7, 8, 9, 128, 255]),
+        1 => e.kind = chance.one_of([1, 2, 3, 4, 5, 7]),
+        2 => e.zero = chance.one_of([1, 2, 128, 255]),
+        3 => e.name = 0,
+        4 => e.name = chance.word(),
+        _ => e.number = chance.one_of([1, 256, 32_768, 65_535]),
+    }
+}
+
+/// An owner of a drawn entry that is, most likely, not one by row 5; a list without entries gets one.
+pub fn break_owner(chance: &mut Chance, entries: &mut Vec<Entry>) {
+    if entries.is_empty() {
+        entries.push(entry(1, 0, 7, 0));
+    }
+    let at = chance.below(entries.len());
+    let number = word(at + 1);
+    let nothing = entries[..at].iter().position(|e| e.kind == 6);
+    entries[at].owner = match chance.below(7) {
+        0 => number,
+        1 => number + 1,
+        2 => word(entries.len()),
+        3 => chance.one_of([65_535, 32_768, 2017, 1009]),
+        4 => chance.word(),
+        5 => nothing.map_or(number, |earlier| word(earlier + 1)),
+        _ => chance.up_to(number),
+    };
+}
+
+/// Puts a chain of owners at the end that is up to six entries too deep, and some entries after it.
+pub fn break_depth(chance: &mut Chance, sort: Sort, entries: &mut Vec<Entry>) {
+    entries.truncate(sort.most() - 48);
+    let mut owner = 0;
+    for _ in 0..33 + chance.below(7) {
+        entries.push(entry(sort.owner_kind(), owner, chance.from_1_to(3), 0));
+        owner = word(entries.len());
+    }
+    for _ in 0..chance.below(8) {
+        let back = chance.up_to(6);
+        entries.push(entry(1, owner.saturating_sub(back), 7, 0));
+    }
+}
+
+/// Writes the check that is right for the block.
+pub fn seal(block: &mut [u8]) {
+    let words = block.chunks_exact(2).take(255);
+    let sum = words.fold(0u16, |sum, pair| {
+        sum.wrapping_add(u16::from_le_bytes([pair[0], pair[1]]))
+    });
+    if let Some(check) = block.get_mut(510..512) {
+        check.copy_from_slice(&sum.to_le_bytes());
+    }
+}
+
+/// A drawn block, if there is a whole one.
+fn any_block<'a>(chance: &mut Chance, bytes: &'a mut [u8]) -> Option<&'a mut [u8]> {
+    let blocks = bytes.len() / BLOCK;
+    bytes.chunks_exact_mut(BLOCK).nth(chance.below(blocks))
+}
+
+/// A wrong number, used count or byte due to be zero in a drawn block, with the check that is right for it.
+pub fn break_frame(chance: &mut Chance, bytes: &mut [u8]) {
+    let Some(block) = any_block(chance, bytes) else {
+        return;
+    };
+    let any_byte = chance.one_of([1, 2, 64, 128, 255]);
+    match chance.below(8) {
+        0 => block[0] ^= any_byte,
+        1 => block[1] ^= any_byte,
+        2 => block[2] = chance.one_of([0, 1, 61, 62, 63, 64, 65, 255]),
+        3 => block[3] ^= any_byte,
+        4 => block[508] ^= any_byte,
+        5 => block[509] ^= any_byte,
+        6 => block[507 - chance.below(16)] ^= any_byte,
+        _ => block[4 + chance.below(504)] ^= any_byte,
+    }
+    seal(block);
+}
+
+/// The entries in blocks with right numbers and checks, of which one uses fewer entries than it is due to, or none.
+pub fn uneven(chance: &mut Chance, entries: &[Entry]) -> Vec<u8> {
+    let whole = entries.len() / BLOCK_ENTRIES;
+    // With all entries in full blocks, or with the last block as it comes.
+    let kept = chance.one_of([entries.len(), whole * BLOCK_ENTRIES]);
+    let at = BLOCK_ENTRIES * chance.below(whole + 1);
+    let (before, after) = entries[..kept].split_at(at);
+    let fewer = chance.one_of([0, 0, 1, 62]).min(after.len());
+    let (few, rest) = after.split_at(fewer);
+    let mut used: Vec<&[Entry]> = before.chunks(BLOCK_ENTRIES).collect();
+    used.push(few);
+    used.extend(rest.chunks(BLOCK_ENTRIES));
+    framed(&used)
+}
+
+/// Blocks with right numbers and checks, which use these entries, at most 63 each.
+pub fn framed(used: &[&[Entry]]) -> Vec<u8> {
+    let mut bytes = Vec::new();
+    for (number, entries) in (1..).zip(used) {
+        let mut block = encode(entries);
+        block.truncate(BLOCK);
+        block[..2].copy_from_slice(&word(number).to_le_bytes());
+        seal(&mut block);
+        bytes.extend(block);
+    }
+    bytes
+}
+
+/// Exchanges two words of a drawn block, which its check does not notice.
+pub fn exchange_words(chance: &mut Chance, bytes: &mut [u8]) {
+    if let Some(block) = any_block(chance, bytes) {
+        let (one, other) = (2 * chance.below(255), 2 * chance.below(255));
+        block.swap(one, other);
+        block.swap(one + 1, other + 1);
+    }
+}
+
+/// Changes one bit of a drawn block, so that its check is wrong.
+pub fn break_check(chance: &mut Chance, bytes: &mut [u8]) {
+    let (bit, any) = (chance.below(8), chance.below(BLOCK));
+    let at = chance.one_of([510, 511, any]);
+    if let Some(block) = any_block(chance, bytes) {
+        block[at] ^= 1 << bit;
+    }
+}
+
+/// A length that is 0, no multiple of 512, or over the limit.
+pub fn break_length(chance: &mut Chance, sort: Sort, bytes: &mut Vec<u8>) {
+    let part = 1 + chance.below(511);
+    match chance.below(5) {
+        0 => bytes.clear(),
+        1 => bytes.truncate(bytes.len().saturating_sub(part)),
+        2 => bytes.truncate(part),
+        3 => bytes.extend(chance.noise(part)),
+        _ => {
+            let limit = crate::length_of(sort.most());
+            let last = bytes.clone();
+            while bytes.len() <= limit && !last.is_empty() {
+                bytes.extend(&last);
+            }
+        }
+    }
+}

@@ -1,0 +1,47 @@
+//! The proved library against the reference, which is a plain version by other hands.
+//!
+//! Drawn descriptions and specimens are handed to both. Answers, places and every byte of the outputs have to be the same. What
+//! the paper says of an answer is looked at as well, without the reference: a specimen has to show its 'not contained', a normal
+//! form has to be its own normal form, and 'contained' has to be true in small records.
+//!
+//! | Module | Subject |
+//! |---|---|
+//! | [`chance`] | drawn numbers, the same for the same seed |
+//! | [`draw`] | accepted descriptions and specimens of many shapes |
+//! | [`pairs`] | descriptions made from others: weaker, in another order, wrong by one entry |
+//! | [`damage`] | bytes with one fault or several |
+//! | [`agree`] | the five calls on both sides, compared |
+//! | [`small`] | small records, to look for an item by trying all |
+//! | [`rounds`] | rounds of cases, and how often each answer came |
+
+#![forbid(unsafe_code)]
+#![deny(missing_docs)]
+
+pub mod agree;
+pub mod chance;
+pub mod damage;
+pub mod draw;
+pub mod pairs;
+pub mod rounds;
+pub mod small;
+
+/// The bytes of one block.
+pub const BLOCK: usize = 512;
+/// The entries of one block.
+pub const BLOCK_ENTRIES: usize = 63;
+/// The most entries of a description.
+pub const MOST_DESCRIPTION: usize = 1008;
+/// The most entries of a specimen.
+pub const MOST_SPECIMEN: usize = 2016;
+/// The most depth of an entry.
+pub const MOST_DEPTH: usize = 32;
+
+/// The bytes of the blocks that hold so many entries.
+pub fn length_of(entries: usize) -> usize {
+    BLOCK * entries.div_ceil(BLOCK_ENTRIES).max(1)
+}
+
+/// The low two bytes of a number. Entry numbers here are at most 2,016.
+pub(crate) fn word(number: usize) -> u16 {
+    (number & 0xffff) as u16
+}

@@ -1,0 +1,360 @@
+//! Rounds of cases, and how often each answer came.
+
+use std::collections::BTreeMap;
+use std::fmt;
+
+use reference::{encode, Entry};
+
+use crate::agree::{self, Answer, Difference};
+use crate::chance::Chance;
+use crate::damage::{damaged, Sort};
+use crate::draw::{self, Shape};
+use crate::pairs;
+use crate::small::{confirm, confirm_fit, Pool, Size};
+
+/// What a round gives: nothing, or the difference that it found.
+pub type Found = Result<(), Difference>;
+
+/// How often each answer came of each call.
+#[derive(Clone, Debug, Default)]
+pub struct Tally(BTreeMap<(&'static str, String), u64>);
+
+impl Tally {
+    /// Counts an answer.
+    fn add(&mut self, call: &'static str, answer: Answer) {
+        let name = match answer {
+            Answer::Refused(number, input) => format!("refused {number} input {input}"),
+            Answer::Count(_) => "count".to_string(),
+            Answer::Yes => "yes".to_string(),
+            Answer::No => "no".to_string(),
+            Answer::Contained => "contained".to_string(),
+            Answer::NotContained(..) => "not contained".to_string(),
+        };
+        *self.0.entry((call, name)).or_insert(0) += 1;
+    }
+
+    /// How often this answer came of this call.
+    pub fn count(&self, call: &'static str, answer: &str) -> u64 {
+        let key = (call, answer.to_string());
+        self.0.get(&key).copied().unwrap_or(0)
+    }
+}
+
+impl fmt::Display for Tally {
+    fn fmt(&self, f: &mut fmt::Formatter<'_>) -> fmt::Result {
+        for ((call, answer), count) in &self.0 {
+            writeln!(f, "{call:<17} {answer:<18} {count:>10}")?;
+        }
+        Ok(())
+    }
+}
+
+/// So many items, two properties and two links.
+fn size(items: usize) -> Size {
+    Size {
+        items,
+        properties: 2,
+        links: 2,
+    }
+}
+
+/// A run of rounds.
+pub struct Rounds {
+    /// What is drawn from.
+    pub chance: Chance,
+    /// How often each answer came.
+    pub tally: Tally,
+    pool: Pool,
+}
+
+impl Rounds {
+    /// A run with this seed, and with a pool of all records of one or two items.
+    pub fn from_seed(seed: u64) -> Rounds {
+        let mut pool = Pool::empty();
+        pool.add_all(size(1));
+        pool.add_all(size(2));
+        Rounds {
+            chance: Chance::from_seed(seed),
+            tally: Tally::default(),
+            pool,
+        }
+    }
+
+    /// One round of a drawn sort.
+    ///
+    /// # Errors
+    ///
+    /// The difference.
+    pub fn any(&mut self) -> Found {
+        match self.chance.below(64) {
+            0..=19 => self.pair(),
+            20..=27 => self.normal(),
+            28..=37 => self.fits(),
+            38..=54 => self.damage(),
+            55..=57 => self.outputs(),
+            58..=62 => self.small(),
+            _ => self.full(),
+        }
+    }
+
+    fn description(&mut self) -> Vec<Entry> {
+        let shape = draw::shape(&mut self.chance);
+        draw::description(&mut self.chance, &shape)
+    }
+
+    fn compare(&mut self, c: &[u8], d: &[u8], length: usize) -> Result<Answer, Difference> {
+        let answer = agree::compare(&mut self.chance, c, d, length)?;
+        self.tally.add("compare", answer);
+        Ok(answer)
+    }
+
+    fn compare_entries(&mut self, c: &[Entry], d: &[Entry]) -> Result<Answer, Difference> {
+        let (c, d) = (encode(c), encode(d));
+        let longer = self.chance.one_of([0, 0, 1, 511, 513]);
+        self.compare(&c, &d, c.len() + d.len() + longer)
+    }
+
+    fn contained(&mut self, c: &[Entry], d: &[Entry]) -> Found {
+        let answer = agree::contained(&mut self.chance, c, d)?;
+        self.tally.add("compare", answer);
+        Ok(())
+    }
+
+    fn fit(&mut self, s: &[u8], d: &[u8]) -> Result<Answer, Difference> {
+        let answer = agree::fit(s, d)?;
+        self.tally.add("fit", answer);
+        Ok(answer)
+    }
+
+    fn normal_form(&mut self, d: &[u8], length: usize) -> Result<Answer, Difference> {
+        let answer = agree::normal_form(&mut self.chance, d, length)?;
+        self.tally.add("normal form", answer);
+        Ok(answer)
+    }
+
+    /// Reads the bytes as a description and as a specimen.
+    ///
+    /// # Errors
+    ///
+    /// The difference.
+    pub fn read(&mut self, bytes: &[u8]) -> Found {
+        self.tally
+            .add("read description", agree::read_description(bytes)?);
+        self.tally
+            .add("read specimen", agree::read_specimen(bytes)?);
+        Ok(())
+    }
+
+    /// A description compared with others: one drawn on its own, a weaker one, and one that misses by an entry.
+    ///
+    /// # Errors
+    ///
+    /// The difference.
+    pub fn pair(&mut self) -> Found {
+        let c = self.description();
+        let other = self.description();
+        self.compare_entries(&c, &other)?;
+        self.weaker_and_missed(&c)
+    }
+
+    /// A description compared with weaker ones, and with ones that miss by an entry.
+    fn weaker_and_missed(&mut self, c: &[Entry]) -> Found {
+        let chance = &mut self.chance;
+        let mut d = pairs::weaker(chance, c);
+        if chance.once_in(2) {
+            d = pairs::reordered(chance, &d);
+        }
+        let missed = pairs::missed(chance, &d);
+        let past = pairs::past_at_most_0(chance, c);
+        self.contained(c, &d)?;
+        self.compare_entries(c, &missed)?;
+        self.compare_entries(&missed, c)?;
+        past.map_or(Ok(()), |past| self.contained(c, &past))
+    }
+
+    /// The normal form of a description; each of the two is contained in the other.
+    ///
+    /// # Errors
+    ///
+    /// The difference.
+    pub fn normal(&mut self) -> Found {
+        let d = self.description();
+        self.normal_of(&d)
+    }
+
+    fn normal_of(&mut self, d: &[Entry]) -> Found {
+        let bytes = encode(d);
+        let longer = self.chance.one_of([0, 1, 511, 512, 1500]);
+        self.normal_form(&bytes, bytes.len() + longer)?;
+        let mut out = vec![0; bytes.len()];
+        let entries = goltximen::normal_form(&bytes, &mut out).map_or(0, usize::from);
+        let normal = reference::decode(out.get(..crate::length_of(entries)).unwrap_or(&[]));
+        self.contained(d, &normal)?;
+        self.contained(&normal, d)
+    }
+
+    /// Specimens against descriptions: drawn on their own, and made for the description and then changed a little.
+    ///
+    /// # Errors
+    ///
+    /// The difference.
+    pub fn fits(&mut self) -> Found {
+        let shape = draw::shape(&mut self.chance);
+        let d = draw::description(&mut self.chance, &shape);
+        let alone = draw::specimen(&mut self.chance, &shape);
+        self.fit(&encode(&alone), &encode(&d))?;
+        let made = self.specimen_for(&d);
+        self.fit(&encode(&made), &encode(&d))?;
+        let changed = changed(&mut self.chance, &made);
+        self.fit(&encode(&changed), &encode(&d))?;
+        Ok(())
+    }
+
+    /// A specimen whose top item fits the description, if there is one: the one that shows that it is not contained in 'nothing
+    /// fits'.
+    fn specimen_for(&mut self, d: &[Entry]) -> Vec<Entry> {
+        let (d, nothing) = (encode(d), encode(&[draw::entry(6, 0, 0, 0)]));
+        let mut out = vec![0; d.len() + nothing.len()];
+        let entries = match goltximen::compare(&d, &nothing, &mut out) {
+            Ok(goltximen::Comparison::NotContained { entries, .. }) => usize::from(entries),
+            _ => return Vec::new(),
+        };
+        reference::decode(out.get(..crate::length_of(entries)).unwrap_or(&[]))
+    }
+
+    /// Damaged bytes in each call, alone and with an input that is accepted or damaged too.
+    ///
+    /// # Errors
+    ///
+    /// The difference.
+    pub fn damage(&mut self) -> Found {
+        let shape = draw::shape(&mut self.chance);
+        let chance = &mut self.chance;
+        let entries = draw::description(chance, &shape);
+        let good = encode(&entries);
+        let bad = damaged(chance, Sort::Description, &entries);
+        let worse = damaged(chance, Sort::Description, &entries);
+        let entries = draw::specimen(chance, &shape);
+        let specimen = encode(&entries);
+        let bad_specimen = damaged(chance, Sort::Specimen, &entries);
+        self.read(&bad)?;
+        self.read(&bad_specimen)?;
+        for (c, d) in [(&bad, &good), (&good, &bad), (&bad, &worse)] {
+            let length = self.chance.one_of([0, c.len() + d.len()]);
+            self.compare(c, d, length)?;
+        }
+        for (s, d) in [
+            (&bad_specimen, &good),
+            (&specimen, &bad),
+            (&bad_specimen, &bad),
+        ] {
+            self.fit(s, d)?;
+        }
+        let length = self.chance.one_of([0, bad.len()]);
+        self.normal_form(&bad, length)?;
+        Ok(())
+    }
+
+    /// Outputs of lengths around the ones that are needed.
+    ///
+    /// # Errors
+    ///
+    /// The difference.
+    pub fn outputs(&mut self) -> Found {
+        let (c, d) = (self.description(), self.description());
+        let (c, d) = (encode(&c), encode(&d));
+        let both = c.len() + d.len();
+        for length in [
+            0,
+            1,
+            c.len().max(d.len()),
+            both - 512,
+            both - 1,
+            both,
+            both + 1,
+            both + 512,
+        ] {
+            self.compare(&c, &d, length)?;
+        }
+        for length in [
+            0,
+            1,
+            c.len() - 512,
+            c.len() - 1,
+            c.len(),
+            c.len() + 1,
+            c.len() + 512,
+        ] {
+            self.normal_form(&c, length)?;
+        }
+        Ok(())
+    }
+
+    /// Small descriptions, with their answers looked at in records.
+    ///
+    /// # Errors
+    ///
+    /// The difference.
+    pub fn small(&mut self) -> Found {
+        let chance = &mut self.chance;
+        let entries = chance.below(draw::SMALL.entries + 1);
+        let shape = Shape {
+            entries,
+            ..draw::SMALL
+        };
+        let c = draw::description(chance, &shape);
+        let weaker = pairs::weaker(chance, &c);
+        let missed = pairs::missed(chance, &weaker);
+        let other = draw::description(chance, &shape);
+        let s = draw::specimen(chance, &shape);
+        let mut pool = self.pool.some(chance, 1000);
+        pool.add_drawn(chance, size(3), 1000);
+        for d in [&weaker, &missed, &other] {
+            let answer = self.compare_entries(&c, d)?;
+            confirm(&pool, &c, d, answer)?;
+        }
+        let made = self.specimen_for(&c);
+        let changed = changed(&mut self.chance, &made);
+        for s in [&s, &made, &changed] {
+            let answer = self.fit(&encode(s), &encode(&c))?;
+            confirm_fit(s, &c, answer)?;
+        }
+        Ok(())
+    }
+
+    /// Descriptions and specimens at the limit.
+    ///
+    /// # Errors
+    ///
+    /// The difference.
+    pub fn full(&mut self) -> Found {
+        let shape = draw::full_shape(&mut self.chance);
+        let c = draw::description(&mut self.chance, &shape);
+        let d = draw::description(&mut self.chance, &shape);
+        let s = draw::full_specimen(&mut self.chance);
+        self.normal_of(&c)?;
+        self.compare_entries(&c, &d)?;
+        self.weaker_and_missed(&c)?;
+        self.read(&encode(&s))?;
+        self.fit(&encode(&s), &encode(&c))?;
+        let made = self.specimen_for(&c);
+        self.fit(&encode(&made), &encode(&c))?;
+        Ok(())
+    }
+}
+
+/// The specimen with one entry changed, or with one entry more.
+fn changed(chance: &mut Chance, s: &[Entry]) -> Vec<Entry> {
+    let mut s = s.to_vec();
+    let at = chance.below(s.len());
+    match s.get_mut(at) {
+        Some(e) if chance.once_in(3) => e.name = chance.from_1_to(3),
+        Some(e) if e.kind == 7 && chance.once_in(2) => e.number = e.number.saturating_sub(1),
+        Some(e) => {
+            let more = *e;
+            s.push(more);
+        }
+        None => s.push(draw::entry(1, 0, 1, 0)),
+    }
+    s
+}

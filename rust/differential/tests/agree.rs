@@ -1,0 +1,293 @@
+//! A fixed number of drawn cases, and sweeps over every byte, place and length that decides.
+
+use differential::agree::{self, Answer, Difference};
+use differential::chance::Chance;
+use differential::damage::{framed, seal, Sort};
+use differential::draw::{self, entry, Shape};
+use differential::rounds::{Found, Rounds};
+use differential::small::{confirm, tiny_descriptions, Pool, Size};
+use differential::{length_of, BLOCK, MOST_DEPTH};
+use reference::{encode, Entry};
+
+/// Makes so many rounds, each with its own seed, and gives what was counted.
+fn made(rounds: u64, round: fn(&mut Rounds) -> Found) -> Rounds {
+    let mut run = Rounds::from_seed(0);
+    for seed in 0..rounds {
+        run.chance = Chance::from_seed(seed);
+        if let Err(difference) = round(&mut run) {
+            panic!("seed {seed}: {difference}");
+        }
+    }
+    run
+}
+
+/// The answer; a difference fails the test.
+fn agreed(answer: Result<Answer, Difference>) -> Answer {
+    answer.unwrap_or_else(|difference| panic!("{difference}"))
+}
+
+/// A description of so many entries with entries of each kind, without contradictions.
+fn mixed(entries: usize) -> Vec<Entry> {
+    let shape = Shape {
+        entries,
+        conflicts: 0,
+        depth: 6,
+        ..draw::WIDE
+    };
+    draw::description(&mut Chance::from_seed(11), &shape)
+}
+
+/// A specimen of so many entries.
+fn mixed_specimen(entries: usize) -> Vec<Entry> {
+    let shape = Shape {
+        entries,
+        ..draw::WIDE
+    };
+    draw::specimen(&mut Chance::from_seed(12), &shape)
+}
+
+#[test]
+fn pairs() {
+    let run = made(6000, Rounds::pair);
+    assert!(run.tally.count("compare", "contained") > 5000);
+    assert!(run.tally.count("compare", "not contained") > 5000);
+}
+
+#[test]
+fn normal_forms() {
+    let run = made(4000, Rounds::normal);
+    assert_eq!(run.tally.count("normal form", "count"), 4000);
+}
+
+#[test]
+fn fits() {
+    let run = made(5000, Rounds::fits);
+    assert!(run.tally.count("fit", "yes") > 3000);
+    assert!(run.tally.count("fit", "no") > 3000);
+}
+
+#[test]
+fn damaged_bytes() {
+    let run = made(6000, Rounds::damage);
+    for number in 1..=6 {
+        for (call, inputs) in [("compare", 2), ("fit", 2), ("normal form", 1)] {
+            for input in 1..=inputs {
+                let answer = format!("refused {number} input {input}");
+                assert!(run.tally.count(call, &answer) > 100, "{call} {answer}");
+            }
+        }
+        for call in ["read description", "read specimen"] {
+            let answer = format!("refused {number} input 1");
+            assert!(run.tally.count(call, &answer) > 100, "{call} {answer}");
+        }
+    }
+}
+
+#[test]
+fn outputs_around_the_needed_length() {
+    let run = made(600, Rounds::outputs);
+    assert!(run.tally.count("compare", "refused 7 input 0") > 1000);
+    assert!(run.tally.count("normal form", "refused 7 input 0") > 1000);
+}
+
+#[test]
+fn at_the_limit() {
+    let run = made(60, Rounds::full);
+    assert!(run.tally.count("compare", "contained") > 60);
+    assert!(run.tally.count("compare", "not contained") > 60);
+}
+
+#[test]
+fn small_ones_in_records() {
+    let run = made(700, Rounds::small);
+    assert!(run.tally.count("compare", "contained") > 500);
+    assert!(run.tally.count("compare", "not contained") > 500);
+}
+
+/// All pairs of descriptions of at most two entries over one property and one link, against all records of at most three items.
+#[test]
+fn all_tiny_pairs_in_all_records() {
+    let mut pool = Pool::empty();
+    for items in 1..=3 {
+        pool.add_all(Size {
+            items,
+            properties: 1,
+            links: 1,
+        });
+    }
+    let all = tiny_descriptions();
+    assert_eq!(all.len(), 121);
+    let fitting: Vec<Vec<bool>> = all.iter().map(|d| pool.fitting(d)).collect();
+    let mut chance = Chance::from_seed(3);
+    for (c, fit_c) in all.iter().zip(&fitting) {
+        for (d, fit_d) in all.iter().zip(&fitting) {
+            let answer = agreed(agree::compare(&mut chance, &encode(c), &encode(d), 1024));
+            let found = fit_c.iter().zip(fit_d).any(|(&c, &d)| c && !d);
+            assert!(answer != Answer::Contained || !found, "{c:?} {d:?}");
+            // What 'not contained' claims is looked at in the specimen's record.
+            if let Err(difference) = confirm(&Pool::empty(), c, d, answer) {
+                panic!("{difference}");
+            }
+        }
+    }
+}
+
+/// Each byte of blocks changed, with the check as it was and with the check that is right for the block.
+#[test]
+fn each_byte() {
+    for whole in [
+        encode(&mixed(100)),
+        encode(&mixed_specimen(100)),
+        encode(&mixed(0)),
+    ] {
+        let mut run = Rounds::from_seed(0);
+        for at in 0..whole.len() {
+            for change in [1, 0x80, 0xff] {
+                let mut bytes = whole.clone();
+                bytes[at] ^= change;
+                run.read(&bytes)
+                    .unwrap_or_else(|difference| panic!("{difference}"));
+                let block = at / BLOCK * BLOCK;
+                seal(&mut bytes[block..block + BLOCK]);
+                run.read(&bytes)
+                    .unwrap_or_else(|difference| panic!("{difference}"));
+            }
+        }
+    }
+}
+
+/// Each entry of a description and of a specimen at the limit made wrong in each of the ways of rows 4 and 5.
+#[test]
+fn each_entry() {
+    let faults: [fn(&mut Entry, u16); 7] = [
+        |e, _| e.kind = 0,
+        |e, _| e.kind = 8,
+        |e, _| e.zero = 1,
+        |e, _| e.name = u16::from(e.kind == 6),
+        |e, number| e.owner = number,
+        |e, number| e.owner = number + 1,
+        |e, _| e.owner = u16::MAX,
+    ];
+    let mut run = Rounds::from_seed(0);
+    for whole in [mixed(1008), mixed_specimen(2016)] {
+        for (number, at) in (1..).zip(0..whole.len()).step_by(5) {
+            for fault in faults {
+                let mut entries = whole.clone();
+                fault(&mut entries[at], number);
+                run.read(&encode(&entries))
+                    .unwrap_or_else(|difference| panic!("{difference}"));
+            }
+        }
+    }
+}
+
+/// An entry owned by one of each kind, next to it or far from it: only 'every' and groups own.
+#[test]
+fn each_kind_of_owner() {
+    let mut run = Rounds::from_seed(0);
+    for kind in 1..=7 {
+        for far in 0..130 {
+            let name = u16::from(kind != 6);
+            let mut entries = vec![entry(kind, 0, name, 0)];
+            entries.extend(vec![entry(1, 0, 7, 0); far]);
+            entries.push(entry(1, 1, 7, 0));
+            run.read(&encode(&entries))
+                .unwrap_or_else(|difference| panic!("{difference}"));
+        }
+    }
+    // A description allows kinds 1 to 6 and the owner 5, a specimen kinds 1 and 7 and the owner 7.
+    for (call, wrong_owner) in [("read description", 5 * 130), ("read specimen", 130)] {
+        assert_eq!(run.tally.count(call, "count"), 130);
+        assert_eq!(run.tally.count(call, "refused 5 input 1"), wrong_owner);
+    }
+}
+
+/// A chain of owners that begins after so many other entries; depth 32 is accepted and 33 refused at its entry.
+#[test]
+fn each_depth() {
+    for sort in [Sort::Description, Sort::Specimen] {
+        let read = match sort {
+            Sort::Description => agree::read_description,
+            Sort::Specimen => agree::read_specimen,
+        };
+        for before in (0..sort.most() - 40).step_by(7) {
+            let mut entries = vec![entry(1, 0, 7, 0); before];
+            let mut owner = 0;
+            for _ in 0..=MOST_DEPTH {
+                entries.push(entry(sort.owner_kind(), owner, 1, 0));
+                owner = entries.len() as u16;
+            }
+            let count = Answer::Count(entries.len());
+            assert_eq!(agreed(read(&encode(&entries))), count);
+            entries.push(entry(1, owner, 7, 0));
+            assert_eq!(agreed(read(&encode(&entries))), Answer::Refused(6, 1));
+        }
+    }
+}
+
+/// All lengths around whole blocks, up to over the limits.
+#[test]
+fn each_length() {
+    let bytes = encode(&vec![entry(1, 0, 7, 0); 34 * 63]);
+    let mut run = Rounds::from_seed(0);
+    for blocks in 0..=33 {
+        let whole = blocks * BLOCK;
+        for length in [whole, whole + 1, whole + 2, whole + 256, whole + 511] {
+            run.read(&bytes[..length])
+                .unwrap_or_else(|difference| panic!("{difference}"));
+        }
+    }
+    // 1 to 16 whole blocks are a description, 1 to 32 a specimen.
+    assert_eq!(run.tally.count("read description", "count"), 16);
+    assert_eq!(run.tally.count("read specimen", "count"), 32);
+}
+
+/// Each number of used entries in each of up to three blocks, the others full.
+#[test]
+fn each_used_count() {
+    let full = [entry(1, 0, 7, 0); 63];
+    let mut run = Rounds::from_seed(0);
+    for blocks in 1..=3 {
+        for at in 0..blocks {
+            for used in 0..=63 {
+                let mut parts = vec![&full[..]; blocks];
+                parts[at] = &full[..used];
+                run.read(&framed(&parts))
+                    .unwrap_or_else(|difference| panic!("{difference}"));
+            }
+        }
+    }
+    // The only block uses 0 to 63; the last of several 1 to 63, the others 63.
+    let accepted = 64 + (1 + 63) + (1 + 1 + 63);
+    assert_eq!(run.tally.count("read description", "count"), accepted);
+    assert_eq!(run.tally.count("read specimen", "count"), accepted);
+}
+
+/// A full description against a chain: the specimen has more blocks than either of them.
+#[test]
+fn a_specimen_longer_than_both() {
+    let c: Vec<Entry> = (1..=1008).map(|link| entry(3, 0, link, 65_535)).collect();
+    let mut d: Vec<Entry> = (0..32).map(|owner| entry(5, owner, 2000, 0)).collect();
+    d.push(entry(4, 32, 1, 65_535));
+    let (c, d) = (encode(&c), encode(&d));
+    let mut chance = Chance::from_seed(5);
+    for length in [c.len() + d.len(), c.len() + d.len() + 700] {
+        let answer = agreed(agree::compare(&mut chance, &c, &d, length));
+        assert_eq!(answer, Answer::NotContained(33, 1041));
+    }
+    let short = agreed(agree::compare(&mut chance, &c, &d, c.len() + d.len() - 1));
+    assert_eq!(short, Answer::Refused(7, 0));
+    assert_eq!(length_of(1041), 17 * BLOCK);
+}
+
+/// Many groups and many 'every' of one link, at the limits.
+#[test]
+fn fit_of_many_groups_of_one_link() {
+    let every = |n: u16| [entry(5, 0, 1, 0), entry(1, 2 * n + 1, 7, 0)];
+    let group = |n: u16| [entry(7, 0, 1, u16::MAX), entry(1, 2 * n + 1, 7, 0)];
+    let d: Vec<Entry> = (0..504).flat_map(every).collect();
+    let mut s: Vec<Entry> = (0..1008).flat_map(group).collect();
+    assert_eq!(agreed(agree::fit(&encode(&s), &encode(&d))), Answer::Yes);
+    s[2015].name = 8;
+    assert_eq!(agreed(agree::fit(&encode(&s), &encode(&d))), Answer::No);
+}
