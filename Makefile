@@ -1,6 +1,7 @@
 # make run: compares two shipped descriptions. make lib: the static library for C and Rust. make test: the gate, then the library
 # from C and from Rust, and against the reference. make fuzz: the library against the reference on drawn cases, for SECONDS from SEED.
-# make bench: how long a run of each program takes. make stack: the stack that each call of the library takes.
+# make bench: how long a run of each program takes, and each call of the library beside plain Rust (docs/BENCHMARKS.md). make stack:
+# the stack that each call of the library takes.
 .PHONY: run lib test fuzz bench stack
 
 CC = gcc
@@ -32,6 +33,8 @@ fuzz: lib
 bench:
 	rt check inspect normals fits goltximen
 	bash bench/run
+	$(MAKE) lib
+	cargo run --release --quiet --manifest-path rust/bench/Cargo.toml
 
 stack: lib
 	mkdir -p target/c

@@ -1,0 +1,167 @@
+//! The inputs on which the calls are timed and tested: made from a fixed seed, so each run has the same bytes.
+
+use reference::{encode, Entry};
+
+/// A small generator of random numbers (xorshift).
+pub struct Chance(u64);
+
+impl Chance {
+    pub fn new(seed: u64) -> Chance {
+        Chance(seed | 1)
+    }
+
+    /// A number below the limit.
+    pub fn below(&mut self, limit: usize) -> usize {
+        self.0 ^= self.0 << 13;
+        self.0 ^= self.0 >> 7;
+        self.0 ^= self.0 << 17;
+        ((self.0 >> 11) % limit as u64) as usize
+    }
+
+    /// A name from 1 to the most.
+    pub fn name(&mut self, most: usize) -> u16 {
+        1 + self.below(most) as u16
+    }
+}
+
+/// An entry by kind, owner, name and number.
+pub fn entry(kind: u8, owner: usize, name: u16, number: u16) -> Entry {
+    Entry {
+        kind,
+        zero: 0,
+        owner: owner as u16,
+        name,
+        number,
+    }
+}
+
+/// Whether an input's entries all stand at the top, or are spread over a chain of 33 places.
+#[derive(Clone, Copy, Debug, PartialEq, Eq)]
+pub enum Shape {
+    Wide,
+    Deep,
+}
+
+/// The links of a chain.
+const CHAIN: usize = 32;
+
+/// A specimen and the entries that a description may have of it, one for one: a chain of groups and 'every' entries, and then
+/// for each entry owner, name and number.
+pub struct Model {
+    /// The links of the chain, none where the shape is wide.
+    chain: Vec<u16>,
+    /// Owner in the chain, kind as in a description (1 to 4), name, number.
+    rows: Vec<(usize, u8, u16, u16)>,
+}
+
+impl Model {
+    /// A model of this many entries. No two names are equal.
+    pub fn new(entries: usize, shape: Shape, chance: &mut Chance) -> Model {
+        let links = match shape {
+            Shape::Wide => 0,
+            Shape::Deep => CHAIN.min(entries / 2),
+        };
+        let mut names = distinct_names(entries, chance);
+        let rows = names.split_off(links).into_iter().map(|name| {
+            let kind = 1 + chance.below(4) as u8;
+            let number = if kind > 2 { chance.below(999) } else { 0 };
+            (chance.below(links + 1), kind, name, 1 + number as u16)
+        });
+        Model {
+            rows: rows.collect(),
+            chain: names,
+        }
+    }
+
+    /// The model as a description: has, lacks, at least and at most, behind the chain of 'every' entries.
+    pub fn description(&self) -> Vec<Entry> {
+        let rows = self.rows.iter().map(|&(owner, kind, name, number)| {
+            let number = if kind > 2 { number } else { 0 };
+            entry(kind, owner, name, number)
+        });
+        self.chained(5).into_iter().chain(rows).collect()
+    }
+
+    /// The same said more loosely and in another order: contained in any description that holds the first.
+    pub fn looser(&self, chance: &mut Chance) -> Vec<Entry> {
+        let mut entries = self.description();
+        for entry in &mut entries {
+            entry.number = match entry.kind {
+                3 => entry.number - 1,
+                4 => entry.number + 1,
+                _ => 0,
+            };
+        }
+        shuffle(&mut entries[self.chain.len()..], chance);
+        entries
+    }
+
+    /// The chain, and an item or a property for each has and at least, and also for as many other names as there are lacks
+    /// and at most.
+    pub fn specimen(&self) -> Vec<Entry> {
+        let rows = self.rows.iter().map(|&(owner, kind, name, number)| {
+            // The model's names are at most 60,000, so these are others.
+            let other = 60_001 + name % 5_000;
+            match kind {
+                1 => entry(1, owner, name, 0),
+                2 => entry(1, owner, other, 0),
+                3 => entry(7, owner, name, number),
+                _ => entry(7, owner, name, number - 1),
+            }
+        });
+        self.chained(7).into_iter().chain(rows).collect()
+    }
+
+    fn chained(&self, kind: u8) -> Vec<Entry> {
+        let links = self.chain.iter().enumerate();
+        links
+            .map(|(owner, &link)| entry(kind, owner, link, 0))
+            .collect()
+    }
+
+    /// The last place of the chain.
+    pub fn last_place(&self) -> usize {
+        self.chain.len()
+    }
+}
+
+fn distinct_names(count: usize, chance: &mut Chance) -> Vec<u16> {
+    let mut names = Vec::new();
+    while names.len() < count {
+        let name = chance.name(60_000);
+        if !names.contains(&name) {
+            names.push(name);
+        }
+    }
+    names
+}
+
+fn shuffle(entries: &mut [Entry], chance: &mut Chance) {
+    for last in (1..entries.len()).rev() {
+        entries.swap(last, chance.below(last + 1));
+    }
+}
+
+/// The entries with one more at the front; the last is left out, so that as many remain.
+pub fn with_first(first: Entry, entries: &[Entry]) -> Vec<Entry> {
+    let later = entries[..entries.len() - 1].iter().map(|&(mut entry)| {
+        entry.owner += u16::from(entry.owner > 0);
+        entry
+    });
+    std::iter::once(first).chain(later).collect()
+}
+
+/// The entries with another in the place of the last.
+pub fn with_last(last: Entry, entries: &[Entry]) -> Vec<Entry> {
+    let mut entries = entries.to_vec();
+    entries.pop();
+    entries.push(last);
+    entries
+}
+
+/// The fit answer's worst case: 2,016 groups of one link, and 1,008 'every' entries of that link.
+pub fn worst_fit() -> (Vec<u8>, Vec<u8>) {
+    let groups = vec![entry(7, 0, 1, 0); 2016];
+    let every = vec![entry(5, 0, 1, 0); 1008];
+    (encode(&groups), encode(&every))
+}

@@ -1,0 +1,6 @@
+//! Plain Rust for the same bytes as the proved library, and the inputs on which the two are timed.
+
+#![forbid(unsafe_code)]
+
+pub mod inputs;
+pub mod plain;

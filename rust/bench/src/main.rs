@@ -1,0 +1,234 @@
+//! Times the proved library beside the plain Rust, on the same bytes in the same run, and prints a table.
+
+#![forbid(unsafe_code)]
+
+use std::hint::black_box;
+use std::time::Instant;
+
+use bench::inputs::{entry, with_first, with_last, worst_fit, Chance, Model, Shape};
+use bench::plain;
+use reference::{encode, Entry};
+
+const SIZES: [usize; 4] = [16, 63, 250, 1008];
+const SHAPES: [Shape; 2] = [Shape::Wide, Shape::Deep];
+/// The turns of each side, and the repetitions in a turn, of which the best is taken. The first repetitions of a turn warm up.
+const TURNS: usize = 6;
+const ROUNDS: usize = 50;
+/// A repetition makes as many calls as take at least this long.
+const ROUND_NANOSECONDS: u128 = 20_000;
+/// A name that no model has, as a property and as a link.
+const STRANGE: u16 = 65_500;
+
+fn main() {
+    println!(
+        "| Call | Entries | Input | Situation | Product, µs | Plain Rust, µs | Product / plain |"
+    );
+    println!("|---|---:|---|---|---:|---:|---:|");
+    let mut chance = Chance::new(0x901d);
+    let models: Vec<(usize, Shape, Model)> = SHAPES
+        .iter()
+        .flat_map(|&shape| SIZES.map(|size| (size, shape)))
+        .map(|(size, shape)| (size, shape, Model::new(size, shape, &mut chance)))
+        .collect();
+    for (size, shape, model) in &models {
+        compare_rows(*size, *shape, model, &mut chance);
+    }
+    for (size, shape, model) in &models {
+        normal_rows(*size, *shape, model);
+    }
+    for (size, shape, model) in &models {
+        fit_rows(*size, *shape, model, &mut chance);
+    }
+    worst_fit_row();
+    for (size, shape, model) in &models {
+        read_rows(*size, *shape, model);
+    }
+}
+
+/// The best times of two calls in nanoseconds; the two take turns.
+fn best<A, B>(mut product: impl FnMut() -> A, mut plain: impl FnMut() -> B) -> (f64, f64) {
+    let calls = (calls_for(&mut product), calls_for(&mut plain));
+    let mut best = (f64::MAX, f64::MAX);
+    for _ in 0..TURNS {
+        best.0 = best.0.min(turn(&mut product, calls.0));
+        best.1 = best.1.min(turn(&mut plain, calls.1));
+    }
+    best
+}
+
+fn turn<A>(call: &mut impl FnMut() -> A, calls: usize) -> f64 {
+    let rounds = (0..ROUNDS).map(|_| round(call, calls));
+    rounds.fold(f64::MAX, f64::min)
+}
+
+/// The time of one call, as the mean of this many.
+fn round<A>(call: &mut impl FnMut() -> A, calls: usize) -> f64 {
+    let start = Instant::now();
+    for _ in 0..calls {
+        black_box(call());
+    }
+    start.elapsed().as_nanos() as f64 / calls as f64
+}
+
+/// Warms up, and answers how many calls make a repetition.
+fn calls_for<A>(call: &mut impl FnMut() -> A) -> usize {
+    let mut calls = 1;
+    loop {
+        let start = Instant::now();
+        round(call, calls);
+        if start.elapsed().as_nanos() >= ROUND_NANOSECONDS {
+            return calls;
+        }
+        calls *= 2;
+    }
+}
+
+fn print_row(call: &str, size: &str, input: &str, situation: &str, times: (f64, f64)) {
+    let (product, plain) = (times.0 / 1000.0, times.1 / 1000.0);
+    let ratio = product / plain;
+    println!(
+        "| {call} | {size} | {input} | {situation} | {product:.2} | {plain:.2} | {ratio:.2} |"
+    );
+}
+
+/// A number with a comma before its last three digits.
+fn grouped(number: usize) -> String {
+    match number {
+        0..1000 => number.to_string(),
+        _ => format!("{},{:03}", number / 1000, number % 1000),
+    }
+}
+
+fn shape_name(shape: Shape) -> &'static str {
+    match shape {
+        Shape::Wide => "wide",
+        Shape::Deep => "deep",
+    }
+}
+
+/// Entries in the order of the normal form.
+fn sorted(entries: &[Entry]) -> Vec<u8> {
+    let bytes = encode(entries);
+    let mut out = vec![0; bytes.len()];
+    let entries = plain::normal_form(&bytes, &mut out).expect("an accepted description");
+    out.truncate(512 * entries.div_ceil(63).max(1));
+    out
+}
+
+fn compare_rows(size: usize, shape: Shape, model: &Model, chance: &mut Chance) {
+    let (c, looser) = (model.description(), model.looser(chance));
+    let strange = |owner| entry(1, owner, STRANGE, 0);
+    let last = with_last(strange(model.last_place()), &looser);
+    let cases = [
+        ("contained", encode(&c), encode(&looser)),
+        ("contained, sorted", sorted(&c), sorted(&looser)),
+        (
+            "failing first",
+            encode(&c),
+            encode(&with_first(strange(0), &looser)),
+        ),
+        ("failing last", encode(&c), encode(&last)),
+        ("failing last, sorted", sorted(&c), encode(&last)),
+    ];
+    for (situation, c, d) in cases {
+        let times = compare_times(&c, &d, situation.starts_with("contained"));
+        print_row(
+            "compare",
+            &grouped(size),
+            shape_name(shape),
+            situation,
+            times,
+        );
+    }
+}
+
+fn compare_times(c: &[u8], d: &[u8], contained: bool) -> (f64, f64) {
+    let mut outs = (vec![0; c.len() + d.len()], vec![0; c.len() + d.len()]);
+    let product = goltximen::compare(c, d, &mut outs.0).expect("accepted");
+    let plain = plain::compare(c, d, &mut outs.1).expect("accepted");
+    assert_eq!(product == goltximen::Comparison::Contained, contained);
+    assert_eq!(plain == plain::Comparison::Contained, contained);
+    assert!(outs.0 == outs.1);
+    best(
+        || goltximen::compare(black_box(c), black_box(d), black_box(&mut outs.0[..])),
+        || plain::compare(black_box(c), black_box(d), black_box(&mut outs.1[..])),
+    )
+}
+
+fn normal_rows(size: usize, shape: Shape, model: &Model) {
+    let d = model.description();
+    for (situation, d) in [("mixed", encode(&d)), ("sorted", sorted(&d))] {
+        let mut outs = (vec![0; d.len()], vec![0; d.len()]);
+        goltximen::normal_form(&d, &mut outs.0).expect("accepted");
+        plain::normal_form(&d, &mut outs.1).expect("accepted");
+        assert!(outs.0 == outs.1);
+        let times = best(
+            || goltximen::normal_form(black_box(&d), black_box(&mut outs.0[..])),
+            || plain::normal_form(black_box(&d), black_box(&mut outs.1[..])),
+        );
+        print_row(
+            "normal form",
+            &grouped(size),
+            shape_name(shape),
+            situation,
+            times,
+        );
+    }
+}
+
+fn fit_rows(size: usize, shape: Shape, model: &Model, chance: &mut Chance) {
+    let specimen = encode(&model.specimen());
+    let looser = model.looser(chance);
+    let strange = |owner| entry(1, owner, STRANGE, 0);
+    let cases = [
+        ("yes", encode(&looser)),
+        ("yes, sorted", sorted(&looser)),
+        ("no, entry first", encode(&with_first(strange(0), &looser))),
+        (
+            "no, entry last",
+            encode(&with_last(strange(model.last_place()), &looser)),
+        ),
+    ];
+    for (situation, description) in cases {
+        let times = fit_times(&specimen, &description, situation.starts_with("yes"));
+        print_row("fit", &grouped(size), shape_name(shape), situation, times);
+    }
+}
+
+fn fit_times(specimen: &[u8], description: &[u8], fits: bool) -> (f64, f64) {
+    let product = goltximen::fit(specimen, description).expect("accepted");
+    assert_eq!(product == goltximen::Fit::Yes, fits);
+    assert_eq!(plain::fit(specimen, description), Ok(fits));
+    best(
+        || goltximen::fit(black_box(specimen), black_box(description)),
+        || plain::fit(black_box(specimen), black_box(description)),
+    )
+}
+
+fn worst_fit_row() {
+    let (specimen, description) = worst_fit();
+    let times = fit_times(&specimen, &description, true);
+    print_row("fit", "2,016 and 1,008", "one link", "worst case", times);
+}
+
+fn read_rows(size: usize, shape: Shape, model: &Model) {
+    let description = encode(&model.description());
+    let product = goltximen::read_description(&description).map(usize::from);
+    assert_eq!(product.ok(), Some(size));
+    assert_eq!(plain::read_description(&description), Ok(size));
+    let times = best(
+        || goltximen::read_description(black_box(&description)),
+        || plain::read_description(black_box(&description)),
+    );
+    let (size_name, shape) = (grouped(size), shape_name(shape));
+    print_row("read description", &size_name, shape, "accepted", times);
+    let specimen = encode(&model.specimen());
+    let product = goltximen::read_specimen(&specimen).map(usize::from);
+    assert_eq!(product.ok(), Some(size));
+    assert_eq!(plain::read_specimen(&specimen), Ok(size));
+    let times = best(
+        || goltximen::read_specimen(black_box(&specimen)),
+        || plain::read_specimen(black_box(&specimen)),
+    );
+    print_row("read specimen", &size_name, shape, "accepted", times);
+}

@@ -1,0 +1,111 @@
+//! The comparison.
+
+use super::entry::Entry;
+use super::read::{entry_at, read, DESCRIPTION};
+use super::slots::{bounds, Key, Slots};
+use super::specimen;
+use super::{size, Refusal, Size, TOO_SHORT};
+
+/// The answer of the comparison.
+#[derive(Clone, Copy, Debug, PartialEq, Eq)]
+pub enum Comparison {
+    Contained,
+    NotContained { entry: usize, entries: usize },
+}
+
+/// The state of a place of D where C says nothing: a place that has no slots.
+const NOWHERE: u16 = 0x7fff;
+/// The state of a place of D that is reached by a link of which C has at most 0.
+const PASSED: u16 = u16::MAX;
+
+/// Compares C with D. Where not contained, the specimen is written into the output.
+pub fn compare(c: &[u8], d: &[u8], out: &mut [u8]) -> Result<Comparison, Refusal> {
+    match size(c.len().max(d.len())) {
+        Size::Small => sized::<64>(c, d, out),
+        Size::Middle => sized::<256>(c, d, out),
+        Size::Large => sized::<1024>(c, d, out),
+    }
+}
+
+fn sized<const N: usize>(c: &[u8], d: &[u8], out: &mut [u8]) -> Result<Comparison, Refusal> {
+    let mut slots = Slots::<N>::new();
+    read::<N>(c, &DESCRIPTION, 1, |number, entry| {
+        slots.enter(number, entry)
+    })?;
+    slots.settle();
+    let failing = first_failing(&slots, d)?;
+    if out.len() < c.len() + d.len() {
+        return Err(TOO_SHORT);
+    }
+    if failing == 0 {
+        return Ok(Comparison::Contained);
+    }
+    let entries = specimen::write(&slots, &path(d, failing), entry_at(d, failing), out);
+    Ok(Comparison::NotContained {
+        entry: failing,
+        entries,
+    })
+}
+
+/// Reads D, and answers the first entry that fails, or 0.
+#[inline(always)]
+fn first_failing<const N: usize>(slots: &Slots<N>, d: &[u8]) -> Result<usize, Refusal> {
+    // A state for each 'every' entry: the place of C that it owns, or one of the two above.
+    let mut states = [0u16; N];
+    states[0] = if slots.is_broken() { PASSED } else { 0 };
+    let mut failing = 0;
+    read::<N>(d, &DESCRIPTION, 2, |number, entry| {
+        if failing == 0 {
+            let state = states[entry.owner()];
+            let (holds, below) = look(slots, state, entry);
+            states[number] = below;
+            failing = if holds { 0 } else { number };
+        }
+    })?;
+    Ok(failing)
+}
+
+/// Whether an entry at a place of this state holds, and the state of the place that it owns.
+#[inline]
+fn look<const N: usize>(slots: &Slots<N>, state: u16, entry: Entry) -> (bool, u16) {
+    if state == PASSED {
+        return (true, PASSED);
+    }
+    let key = Key::of_kind(usize::from(state), entry.kind(), entry.name());
+    let found = slots.find(key);
+    let slot = &slots.slots[found];
+    let (least, most) = bounds(entry);
+    let below = match (found, slot.most) {
+        (0, _) => NOWHERE,
+        (_, 0) => PASSED,
+        _ => found as u16,
+    };
+    ((slot.least >= least) & (slot.most <= most), below)
+}
+
+/// The links from the top to the place where an entry stands.
+pub struct Path {
+    links: [u16; 32],
+    length: usize,
+}
+
+impl Path {
+    pub fn links(&self) -> &[u16] {
+        &self.links[32 - self.length..]
+    }
+}
+
+fn path(d: &[u8], number: usize) -> Path {
+    let mut path = Path {
+        links: [0; 32],
+        length: 0,
+    };
+    let mut owner = entry_at(d, number).owner();
+    while owner != 0 {
+        let entry = entry_at(d, owner);
+        path.length += 1;
+        path.links[32 - path.length] = entry.name();
+        owner = entry.owner();
+    }
+    path
+}

@@ -1,0 +1,57 @@
+//! The five calls in plain, safe Rust, written for speed: one thread, no heap.
+//!
+//! Each call is compiled for three sizes of its tables, so that a small input doesn't pay for clearing large ones.
+
+mod compare;
+mod entry;
+mod fit;
+mod normal;
+mod order;
+mod queue;
+mod read;
+mod rows;
+mod slots;
+mod specimen;
+
+pub use compare::{compare, Comparison};
+pub use fit::fit;
+pub use normal::normal_form;
+pub use read::{read_description, read_specimen};
+
+/// The bytes of a block.
+const BLOCK: usize = 512;
+
+/// What a refused call answers.
+#[derive(Clone, Copy, Debug, PartialEq, Eq)]
+pub struct Refusal {
+    /// The number in the table of refusals, 1 to 7.
+    pub number: u8,
+    /// The input, 1 or 2; 0 for number 7.
+    pub input: u16,
+    /// The block or entry; 0 for numbers 1 and 7.
+    pub place: u16,
+}
+
+/// The output is too short.
+const TOO_SHORT: Refusal = Refusal {
+    number: 7,
+    input: 0,
+    place: 0,
+};
+
+/// The tables' size that is enough for inputs of this many bytes: 1 block, 4, or more.
+enum Size {
+    Small,
+    Middle,
+    Large,
+}
+
+fn size(bytes: usize) -> Size {
+    if bytes <= BLOCK {
+        Size::Small
+    } else if bytes <= 4 * BLOCK {
+        Size::Middle
+    } else {
+        Size::Large
+    }
+}

@@ -1,0 +1,157 @@
+//! Reading: one pass over the bytes for checks and frames, one over the entries.
+
+use super::entry::{Entry, AT_LEAST, AT_MOST, EVERY, GROUP, HAS, LACKS, NOTHING};
+use super::{size, Refusal, Size, BLOCK};
+
+type Block = [u8; BLOCK];
+
+/// The entries of a block.
+const PER_BLOCK: usize = 63;
+/// The deepest that an entry may stand.
+const DEEPEST: u8 = 32;
+/// The level of what cannot own.
+const NEVER: u8 = 255;
+
+/// What differs between descriptions and specimens.
+pub struct Rules {
+    most_blocks: usize,
+    kinds: u16,
+    owner_kind: u16,
+}
+
+pub const DESCRIPTION: Rules = Rules {
+    most_blocks: 16,
+    kinds: 1 << HAS | 1 << LACKS | 1 << AT_LEAST | 1 << AT_MOST | 1 << EVERY | 1 << NOTHING,
+    owner_kind: EVERY,
+};
+
+pub const SPECIMEN: Rules = Rules {
+    most_blocks: 32,
+    kinds: 1 << HAS | 1 << GROUP,
+    owner_kind: GROUP,
+};
+
+/// Reads a description and answers its number of entries.
+pub fn read_description(bytes: &[u8]) -> Result<usize, Refusal> {
+    match size(bytes.len()) {
+        Size::Small => read::<64>(bytes, &DESCRIPTION, 1, |_, _| ()),
+        _ => read::<1024>(bytes, &DESCRIPTION, 1, |_, _| ()),
+    }
+}
+
+/// Reads a specimen and answers its number of entries.
+pub fn read_specimen(bytes: &[u8]) -> Result<usize, Refusal> {
+    match size(bytes.len()) {
+        Size::Small => read::<64>(bytes, &SPECIMEN, 1, |_, _| ()),
+        _ => read::<2048>(bytes, &SPECIMEN, 1, |_, _| ()),
+    }
+}
+
+/// Reads an input of fewer than N entries. Each entry that is accepted is shown with its number, before later ones are looked at.
+#[inline(always)]
+pub fn read<const N: usize>(
+    bytes: &[u8],
+    rules: &Rules,
+    input: u16,
+    show: impl FnMut(usize, Entry),
+) -> Result<usize, Refusal> {
+    let refused = |(number, place): (u8, usize)| Refusal {
+        number,
+        input,
+        place: place as u16,
+    };
+    let (blocks, rest) = bytes.as_chunks::<BLOCK>();
+    if blocks.is_empty() || !rest.is_empty() || blocks.len() > rules.most_blocks {
+        return Err(refused((1, 0)));
+    }
+    check_blocks(blocks).map_err(refused)?;
+    check_entries::<N>(blocks, rules, show).map_err(refused)
+}
+
+/// An entry of an accepted input, by its number.
+#[inline]
+pub fn entry_at(bytes: &[u8], number: usize) -> Entry {
+    let index = number - 1;
+    let at = index / PER_BLOCK * BLOCK + 4 + index % PER_BLOCK * 8;
+    let bytes = bytes[at..].first_chunk().copied().unwrap_or_default();
+    Entry(u64::from_le_bytes(bytes))
+}
+
+fn check_blocks(blocks: &[Block]) -> Result<(), (u8, usize)> {
+    for (index, block) in blocks.iter().enumerate() {
+        let check = word(block, 510);
+        if sum(block).wrapping_sub(check) != check {
+            return Err((2, index + 1));
+        }
+        if !frame_is_right(block, index + 1, blocks.len()) {
+            return Err((3, index + 1));
+        }
+    }
+    Ok(())
+}
+
+/// The sum of all 256 words of a block, the check among them.
+#[inline]
+pub fn sum(block: &Block) -> u16 {
+    let words = block.as_chunks::<2>().0.iter();
+    words.fold(0, |sum: u16, &word| {
+        sum.wrapping_add(u16::from_le_bytes(word))
+    })
+}
+
+fn frame_is_right(block: &Block, position: usize, blocks: usize) -> bool {
+    let used = used(block);
+    let fewest = match (position < blocks, blocks) {
+        (true, _) => PER_BLOCK,
+        (false, 1) => 0,
+        _ => 1,
+    };
+    usize::from(word(block, 0)) == position
+        && (fewest..=PER_BLOCK).contains(&used)
+        && block[4 + 8 * used..510].iter().fold(0, |all, &b| all | b) == 0
+}
+
+fn check_entries<const N: usize>(
+    blocks: &[Block],
+    rules: &Rules,
+    mut show: impl FnMut(usize, Entry),
+) -> Result<usize, (u8, usize)> {
+    // For each entry the depth of what it owns. Entries not yet come to cannot own.
+    let mut levels = [NEVER; N];
+    levels[0] = 0;
+    let mut number = 0;
+    for block in blocks {
+        let entries = block[4..508].as_chunks::<8>().0;
+        for &bytes in &entries[..used(block)] {
+            number += 1;
+            let entry = Entry(u64::from_le_bytes(bytes));
+            let level = levels.get(entry.owner()).copied().unwrap_or(NEVER);
+            if !entry.form_is_right(rules.kinds) | (level > DEEPEST) {
+                return Err((fault(entry, rules, level), number));
+            }
+            let owns = entry.kind() == rules.owner_kind;
+            levels[number] = if owns { level + 1 } else { NEVER };
+            show(number, entry);
+        }
+    }
+    Ok(number)
+}
+
+/// The refusal's number for an entry that breaks a rule.
+#[cold]
+fn fault(entry: Entry, rules: &Rules, level: u8) -> u8 {
+    match (entry.form_is_right(rules.kinds), level) {
+        (false, _) => 4,
+        (true, NEVER) => 5,
+        _ => 6,
+    }
+}
+
+fn used(block: &Block) -> usize {
+    usize::from(word(block, 2))
+}
+
+#[inline]
+fn word(block: &Block, at: usize) -> u16 {
+    u16::from_le_bytes([block[at], block[at + 1]])
+}

@@ -1,0 +1,316 @@
+//! The plain Rust gives the same answers and output bytes as the reference, and so does the proved library.
+
+use bench::inputs::{entry, worst_fit, Chance, Model, Shape};
+use bench::plain;
+use reference::{encode, Entry};
+
+const FILL: u8 = 0xa5;
+
+/// How random entries are drawn.
+struct Draw {
+    kinds: &'static [u8],
+    owner_kind: u8,
+    names: usize,
+    numbers: usize,
+    /// One entry in so many owns, where another kind was drawn.
+    deeper: usize,
+}
+
+const DESCRIPTIONS: Draw = Draw {
+    kinds: &[1, 1, 2, 3, 3, 4, 4, 5, 5, 5],
+    owner_kind: 5,
+    names: 4,
+    numbers: 4,
+    deeper: 4,
+};
+
+const SPECIMENS: Draw = Draw {
+    kinds: &[1, 7],
+    owner_kind: 7,
+    names: 4,
+    numbers: 3,
+    deeper: 4,
+};
+
+/// Random entries that are accepted.
+fn draw(rules: &Draw, entries: usize, chance: &mut Chance) -> Vec<Entry> {
+    let mut drawn: Vec<Entry> = Vec::new();
+    let mut owners = vec![(0, 0)];
+    for number in 1..=entries {
+        // Often the latest owner, so that chains grow.
+        let pick = match chance.below(rules.deeper) {
+            0 => owners.len() - 1,
+            _ => chance.below(owners.len()),
+        };
+        let (owner, depth) = owners[pick];
+        let kind = rules.kinds[chance.below(rules.kinds.len())];
+        let numbered = matches!(kind, 3 | 4 | 7);
+        let amount = if numbered {
+            chance.below(rules.numbers)
+        } else {
+            0
+        };
+        drawn.push(entry(kind, owner, chance.name(rules.names), amount as u16));
+        if kind == rules.owner_kind && depth < 32 {
+            owners.push((number, depth + 1));
+        }
+    }
+    if rules.owner_kind == 5 && chance.below(4) == 0 && !drawn.is_empty() {
+        let at = chance.below(drawn.len());
+        if drawn[at].kind != 5 {
+            drawn[at] = entry(6, drawn[at].owner as usize, 0, 0);
+        }
+    }
+    drawn
+}
+
+/// A number of entries, mostly small.
+fn length(chance: &mut Chance) -> usize {
+    match chance.below(20) {
+        0 => chance.below(1009),
+        1..=4 => chance.below(253),
+        5..=9 => chance.below(64),
+        _ => chance.below(9),
+    }
+}
+
+/// A few words are changed, and the checks are mostly made right again.
+fn spoil(bytes: &mut Vec<u8>, chance: &mut Chance) {
+    for _ in 0..=chance.below(2) {
+        let at = chance.below(bytes.len());
+        bytes[at] = chance.below(9) as u8;
+    }
+    if chance.below(8) == 0 {
+        bytes.truncate(chance.below(bytes.len() + 1));
+    }
+    if chance.below(8) > 0 {
+        for block in bytes.chunks_exact_mut(512) {
+            let sum = (0..255).fold(0u16, |sum, word| {
+                sum.wrapping_add(u16::from_le_bytes([block[2 * word], block[2 * word + 1]]))
+            });
+            block[510..].copy_from_slice(&sum.to_le_bytes());
+        }
+    }
+}
+
+fn drawn(rules: &Draw, chance: &mut Chance) -> Vec<u8> {
+    let wider = Draw {
+        names: [1, 2, 4, 40, 65_535][chance.below(5)],
+        numbers: [2, 4, 65_536][chance.below(3)],
+        ..*rules
+    };
+    let entries = length(chance);
+    let mut bytes = encode(&draw(&wider, entries, chance));
+    if chance.below(8) == 0 {
+        spoil(&mut bytes, chance);
+    }
+    bytes
+}
+
+fn number_input_place(refusal: plain::Refusal) -> (u8, u16, u32) {
+    (refusal.number, refusal.input, refusal.place.into())
+}
+
+fn of_reference(refusal: reference::Refusal) -> (u8, u16, u32) {
+    (refusal.number, refusal.input, refusal.place)
+}
+
+fn of_product(refusal: goltximen::Refusal) -> (u8, u16, u32) {
+    (refusal.reason.number(), refusal.input, refusal.place.into())
+}
+
+fn same_reading(bytes: &[u8]) {
+    let found = plain::read_description(bytes).map_err(number_input_place);
+    assert_eq!(
+        found,
+        reference::read_description(bytes).map_err(of_reference)
+    );
+    let product = goltximen::read_description(bytes).map(usize::from);
+    assert_eq!(found, product.map_err(of_product));
+    let found = plain::read_specimen(bytes).map_err(number_input_place);
+    assert_eq!(found, reference::read_specimen(bytes).map_err(of_reference));
+    let product = goltximen::read_specimen(bytes).map(usize::from);
+    assert_eq!(found, product.map_err(of_product));
+}
+
+fn same_normal_form(bytes: &[u8], out: usize) {
+    let mut outs = [vec![FILL; out], vec![FILL; out], vec![FILL; out]];
+    let found = plain::normal_form(bytes, &mut outs[0]).map_err(number_input_place);
+    let due = reference::normal_form(bytes, &mut outs[1]).map_err(of_reference);
+    let product = goltximen::normal_form(bytes, &mut outs[2]).map(usize::from);
+    assert_eq!(found, due);
+    assert_eq!(found, product.map_err(of_product));
+    assert!(outs[0] == outs[1] && outs[0] == outs[2]);
+}
+
+fn same_comparison(c: &[u8], d: &[u8], out: usize) {
+    let mut outs = [vec![FILL; out], vec![FILL; out], vec![FILL; out]];
+    let found = plain::compare(c, d, &mut outs[0]).map_err(number_input_place);
+    let due = reference::compare(c, d, &mut outs[1]).map_err(of_reference);
+    let product = goltximen::compare(c, d, &mut outs[2]).map_err(of_product);
+    let found = found.map(|answer| match answer {
+        plain::Comparison::Contained => (0, 0),
+        plain::Comparison::NotContained { entry, entries } => (entry, entries),
+    });
+    let due = due.map(|answer| match answer {
+        reference::Comparison::Contained => (0, 0),
+        reference::Comparison::NotContained { entry, entries } => (entry, entries),
+    });
+    let product = product.map(|answer| match answer {
+        goltximen::Comparison::Contained => (0, 0),
+        goltximen::Comparison::NotContained { entry, entries } => (entry.into(), entries.into()),
+    });
+    assert_eq!(found, due);
+    assert_eq!(found, product);
+    assert!(outs[0] == outs[1] && outs[0] == outs[2]);
+}
+
+fn same_fit(specimen: &[u8], description: &[u8]) -> Option<bool> {
+    let found = plain::fit(specimen, description).map_err(number_input_place);
+    assert_eq!(
+        found,
+        reference::fit(specimen, description).map_err(of_reference)
+    );
+    let product = goltximen::fit(specimen, description).map_err(of_product);
+    assert_eq!(found, product.map(|answer| answer == goltximen::Fit::Yes));
+    found.ok()
+}
+
+/// An output's length: mostly enough, at times one byte short or long.
+fn room(needed: usize, chance: &mut Chance) -> usize {
+    match chance.below(8) {
+        0 => needed.saturating_sub(1),
+        1 => needed + 1,
+        _ => needed,
+    }
+}
+
+#[test]
+fn reading_and_normal_form() {
+    let mut chance = Chance::new(0x5eed_0001);
+    for _ in 0..3000 {
+        let bytes = drawn(&DESCRIPTIONS, &mut chance);
+        same_reading(&bytes);
+        same_normal_form(&bytes, room(bytes.len(), &mut chance));
+        same_reading(&drawn(&SPECIMENS, &mut chance));
+    }
+}
+
+/// Depths around 32, and numbers of blocks around 16 and 32.
+#[test]
+fn limits() {
+    for (owns, entries) in [(5, 1008), (7, 2016)] {
+        for depth in 30..36 {
+            let chain: Vec<Entry> = (0..depth).map(|at| entry(owns, at, 1, 0)).collect();
+            let bytes = encode(&chain);
+            same_reading(&bytes);
+            same_normal_form(&bytes, bytes.len());
+            let mut below = chain;
+            below.push(entry(1, depth, 9, 0));
+            let below = encode(&below);
+            same_reading(&below);
+            same_normal_form(&below, below.len());
+            same_comparison(&bytes, &below, bytes.len() + below.len());
+            same_comparison(&below, &bytes, bytes.len() + below.len());
+        }
+        for entries in [entries - 1, entries, entries + 1] {
+            let has: Vec<Entry> = (1..=entries).map(|n| entry(1, 0, n as u16, 0)).collect();
+            let bytes = encode(&has);
+            same_reading(&bytes);
+            same_normal_form(&bytes, bytes.len());
+            same_comparison(&bytes, &bytes, 2 * bytes.len());
+            same_fit(&bytes, &encode(&has[..has.len().min(1008)]));
+        }
+    }
+    same_reading(&[]);
+}
+
+/// The longest specimen: 1,008 at least, and a path of 32 links to an at most.
+#[test]
+fn longest_specimen() {
+    for entries in [63, 252, 1008] {
+        let c: Vec<Entry> = (1..=entries).map(|n| entry(3, 0, n, 1)).collect();
+        let mut d: Vec<Entry> = (0..32).map(|at| entry(5, at, 2000, 0)).collect();
+        d.push(entry(4, 32, 2000, 65_535));
+        let (c, d) = (encode(&c), encode(&d));
+        same_comparison(&c, &d, c.len() + d.len());
+    }
+}
+
+#[test]
+fn comparison() {
+    let mut chance = Chance::new(0x5eed_0002);
+    for _ in 0..3000 {
+        let c = drawn(&DESCRIPTIONS, &mut chance);
+        let d = drawn(&DESCRIPTIONS, &mut chance);
+        same_comparison(&c, &d, room(c.len() + d.len(), &mut chance));
+        same_comparison(&c, &c, 2 * c.len());
+    }
+}
+
+/// A description against its own normal form without some entries, so that late entries are reached.
+#[test]
+fn comparison_that_nearly_holds() {
+    let mut chance = Chance::new(0x5eed_0003);
+    for _ in 0..3000 {
+        let entries = length(&mut chance);
+        let names = Draw {
+            names: 40,
+            ..DESCRIPTIONS
+        };
+        let mut d = draw(&names, entries, &mut chance);
+        let c = encode(&d);
+        if let Some(last) = d.last_mut() {
+            *last = entry(
+                2 + chance.below(3) as u8,
+                last.owner as usize,
+                chance.name(40),
+                0,
+            );
+        }
+        let d = encode(&d);
+        same_comparison(&c, &d, c.len() + d.len());
+    }
+}
+
+#[test]
+fn fit() {
+    let mut chance = Chance::new(0x5eed_0004);
+    let mut yes = 0;
+    for _ in 0..3000 {
+        let specimen = drawn(&SPECIMENS, &mut chance);
+        let description = drawn(&DESCRIPTIONS, &mut chance);
+        yes += usize::from(same_fit(&specimen, &description) == Some(true));
+        // The specimen that a comparison writes fits the one description and not the other.
+        let other = drawn(&DESCRIPTIONS, &mut chance);
+        let mut out = vec![0; description.len() + other.len()];
+        let answer = plain::compare(&description, &other, &mut out);
+        if let Ok(plain::Comparison::NotContained { entries, .. }) = answer {
+            let written = &out[..512 * entries.div_ceil(63).max(1)];
+            assert_eq!(same_fit(written, &description), Some(true));
+            assert_eq!(same_fit(written, &other), Some(false));
+        }
+    }
+    assert!(yes > 100);
+}
+
+#[test]
+fn inputs_of_the_benchmark() {
+    let mut chance = Chance::new(1);
+    for shape in [Shape::Wide, Shape::Deep] {
+        for entries in [16, 63, 250, 1008] {
+            let model = Model::new(entries, shape, &mut chance);
+            let description = encode(&model.description());
+            let looser = encode(&model.looser(&mut chance));
+            let specimen = encode(&model.specimen());
+            same_normal_form(&description, description.len());
+            same_comparison(&description, &looser, 2 * description.len());
+            assert_eq!(same_fit(&specimen, &description), Some(true));
+            assert_eq!(same_fit(&specimen, &looser), Some(true));
+        }
+    }
+    let (groups, every) = worst_fit();
+    let shipped = include_bytes!("../../../crates/fits/stdin");
+    assert!([&groups[..], &every[..]].concat() == shipped);
+    assert_eq!(same_fit(&groups, &every), Some(true));
+}
