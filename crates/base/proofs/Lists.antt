@@ -1,13 +1,13 @@
 -- Lists by their elements: a list that stands in another from an index on, and the list of a function's values.
 -- Assumes nothing.
 use Prim.Native.Nat.{_+_, _-_, _<_, _≤_, suc, zero, ℕ}
-use lib.ListN.{List·getD-append, getD, getD-replicate, length, length-append, length-replicate, replicate}
-use lib.Seq.{ext-getD, getD-append-add}
+use lib.ListN.{List·getD-append, List·getD-eq-default, getD, getD-replicate, length, length-append, length-replicate, replicate, set}
+use lib.Seq.{ext-getD, getD-append-add, getD-set-other, getD-set-same}
 use mathlib.Core.List.{List, [], _++_, _∷_, map}
 use mathlib.Core.Path.{_∙_, _≡_, ap, refl, sym}
 use native.Mathlib.Nat.{add-assoc, add-suc, add-zero, suc-add, zero-add}
 use native.Mathlib.Omega.{arith}
-use Rattle.base.proofs.Tests.{lt-cases}
+use Rattle.base.proofs.Tests.{eq-cases, lt-cases}
 
 -- ---- a list that stands in another
 
@@ -125,3 +125,16 @@ part-held s a n =
 -- what stands in s from index a on is its elements there
 pub part-eq : {s : List ℕ} {a : ℕ} {xs : List ℕ} → Holds s a xs → listed (λ k. getD s k 0) a (length xs) ≡ xs
 part-eq {s} {a} {xs} h = listed-eq (λ k. getD s k 0) a 0 xs (h .each)
+
+-- ---- tables of numbers
+
+-- a table of zeros reads 0 everywhere, past its end too
+pub zeros-read : (n : ℕ) {l : List ℕ} → l ≡ replicate n 0 → (j : ℕ) → getD l j 0 ≡ 0
+zeros-read n {l} e j =
+    lt-cases j n
+    (λ b. rw e (getD-replicate {A = ℕ} n j 0 0 b))
+    (λ b. List·getD-eq-default l 0 {n = j} (omega (arith, ap length e, length-replicate {A = ℕ} n 0)))
+
+-- what each number of a table is, each still is after one is set that is so
+pub set-each : (P : ℕ → Type 0) (l : List ℕ) {m x : ℕ} → ((i : ℕ) → P (getD l i 0)) → m < length l → P x → (i : ℕ) → P (getD (set l m x) i 0)
+set-each P l {m} {x} h b p i = eq-cases i m (λ e. rw (e, getD-set-same l m x 0 b) p) (λ e. rw (getD-set-other l m i x 0 e) (h i))

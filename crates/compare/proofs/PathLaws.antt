@@ -1,14 +1,15 @@
 -- The links to an entry, gathered from the entry up: those into the place of an owner, then those that are kept.
 -- Assumes nothing.
 use Prim.Native.Nat.{_+_, _<_, _≤_, suc, zero, ℕ}
-use lib.ListN.{List·getD-eq-default, getD, getD-replicate, length, length-append, length-replicate, replicate, set}
+use lib.ListN.{getD, length, length-append, replicate, set}
 use lib.Seq.{getD-set-other, getD-set-same}
 use mathlib.Core.List.{List, [], _++_, _∷_, append-assoc, append-nil}
 use mathlib.Core.Logic.{_≢_}
 use mathlib.Core.Path.{_∙_, _≡_, ap, refl, sym}
 use native.Mathlib.Numerals.{add-one}
 use native.Mathlib.Omega.{arith}
-use Rattle.base.proofs.Tests.{eq-cases, eq-eqb, lt-cases, ne-eqb}
+use Rattle.base.proofs.Lists.{set-each, zeros-read}
+use Rattle.base.proofs.Tests.{eq-eqb, ne-eqb}
 use Rattle.blocks.specs.Entries.{nth}
 use Rattle.blocks.specs.Owners.{ownerOf}
 use Rattle.blocks.specs.declared.Entry.{Entry}
@@ -78,10 +79,7 @@ module _ {d : List Entry} (owned : Owned d) where
 -- ---- what is kept is of two bytes
 
 pub names-start : {links : List ℕ} → links ≡ replicate 32 0 → (i : ℕ) → getD links i 0 < 65536
-names-start {links} e i =
-    lt-cases i 32
-    (λ b. let z : getD links i 0 ≡ 0 = rw e (getD-replicate {A = ℕ} 32 i 0 0 b) in omega arith)
-    (λ b. let z : getD links i 0 ≡ 0 = List·getD-eq-default links 0 {n = i} (omega (arith, ap length e, length-replicate {A = ℕ} 32 0)) in omega arith)
+names-start e i = rw (zeros-read 32 e i) (omega arith)
 
 pub names-more : (links : List ℕ) {m x : ℕ} → ((i : ℕ) → getD links i 0 < 65536) → m < length links → x < 65536 → (i : ℕ) → getD (set links m x) i 0 < 65536
-names-more links {m} {x} h l b i = eq-cases i m (λ e. rw (e, getD-set-same links m x 0 l) b) (λ e. rw (getD-set-other links m i x 0 e) (h i))
+names-more links h l b i = set-each (λ x. x < 65536) links h l b i

@@ -1,7 +1,7 @@
 -- The walk over the rows that are written, with the codes of the places that they lead to in a table.
 -- Assumes nothing.
 use Prim.Native.Nat.{_+_, _-_, _<_, _≤_, suc, ℕ}
-use lib.ListN.{List·getD-eq-default, getD, getD-replicate, length, length-append, length-map, length-replicate, length-set, replicate, set, take}
+use lib.ListN.{getD, length, length-append, length-map, length-replicate, length-set, replicate, set, take}
 use lib.Seq.{getD-set-other, getD-set-same, length-take-le}
 use mathlib.Core.List.{List, [], _++_, _∷_, append-assoc, append-nil, map, map-append}
 use mathlib.Core.Logic.{_≢_}
@@ -9,7 +9,8 @@ use mathlib.Core.Path.{_∙_, _≡_, ap, refl, sym}
 use native.Mathlib.Nat.{add-zero}
 use native.Mathlib.Numerals.{add-one}
 use native.Mathlib.Omega.{arith}
-use Rattle.base.proofs.Tests.{eq-cases, eq-eqb, lt-cases, ne-eqb}
+use Rattle.base.proofs.Lists.{zeros-read}
+use Rattle.base.proofs.Tests.{eq-cases, eq-eqb, ne-eqb}
 use Rattle.compare.proofs.LaidLaws.{codes-length, done-laid, joint-length, laterEach, leaf-length, noted-after, noted-length, place-laid, place-load, queue-more, queue-none}
 use Rattle.compare.specs.Laying.{Joint, Placed, codes, joints, leaves, noted, placeNumbers, queueFrom}
 use Rattle.fit.specs.Tree.{Row, Tree}
@@ -42,13 +43,6 @@ queue-each T Good below i n (c ∷ cs) s l =
     let f : suc (i + n) ≡ i + suc n = omega arith in
     let r = queue-each T Good (set below (i + n) c) i (suc n) cs (s .2) (omega (arith, length-set below (i + n) c)) in
     rw (e, f, r, queue-more T below i n c (s .0) (omega arith))
-
--- a table of zeros leads nowhere
-zeros-at : {l : List ℕ} → l ≡ replicate 2017 0 → (j : ℕ) → getD l j 0 ≡ 0
-zeros-at {l} e j =
-    lt-cases j 2017
-    (λ b. rw e (getD-replicate {A = ℕ} 2017 j 0 0 b))
-    (λ b. List·getD-eq-default l 0 {n = j} (omega (arith, ap length e, length-replicate {A = ℕ} 2017 0)))
 
 -- ---- the numbers of a place
 
@@ -167,7 +161,7 @@ module _ {A B : Type 0} (T : ℕ → Tree A B) (L : ℕ → List A) (N : ℕ →
   unfolding write queueFrom
   walking-start c g e few p =
       place-step c (weight (T c)) 1 0 g (omega arith) (omega arith) (top-load c) refl refl (rw (length-map (write (T c)) num) few)
-      (ap length e ∙ length-replicate {A = ℕ} 2017 0) (λ j b. zeros-at e j) (λ j z. absurd (z (zeros-at e j))) p
+      (ap length e ∙ length-replicate {A = ℕ} 2017 0) (λ j b. zeros-read 2017 e j) (λ j z. absurd (z (zeros-read 2017 e j))) p
 
   -- ---- row k
 

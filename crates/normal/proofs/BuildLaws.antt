@@ -2,7 +2,7 @@
 -- Assumes nothing.
 use Prim.Native.Nat.{_+_, _-_, _<_, _≤_, max, suc, zero, ℕ}
 use lib.Dec.{eqb, ltb}
-use lib.ListN.{List·getD-eq-default, drop, drop-of-length-le, getD, getD-replicate, length, length-map, length-replicate, length-set, replicate, set}
+use lib.ListN.{drop, drop-of-length-le, getD, getD-replicate, length, length-map, length-replicate, length-set, replicate, set}
 use lib.Seq.{getD-set-other, getD-set-same}
 use mathlib.Core.Bool.{false, true}
 use mathlib.Core.List.{List, [], _∷_, map}
@@ -11,7 +11,8 @@ use mathlib.Core.Option.{none, some}
 use mathlib.Core.Path.{_∙_, _≡_, ap, fun-ext, refl, subst, sym}
 use native.Mathlib.Numerals.{add-one}
 use native.Mathlib.Omega.{arith}
-use Rattle.base.proofs.Tests.{and-zero, bool-cases, eq-cases, eq-eqb, eqb-eq, iff-eq, lt-cases, lt-ltb, ne-eqb, tests}
+use Rattle.base.proofs.Lists.{zeros-read}
+use Rattle.base.proofs.Tests.{and-zero, bool-cases, eq-cases, eq-eqb, eqb-eq, iff-eq, lt-ltb, ne-eqb, tests}
 use Rattle.blocks.specs.Entries.{nth, zeroEntry}
 use Rattle.blocks.specs.Owners.{ownerOf}
 use Rattle.blocks.specs.declared.Entry.{Entry}
@@ -157,9 +158,7 @@ pub kept-starts : {t next head : List ℕ} → t ≡ replicate 1009 0 → next �
 kept-starts {t} {next} {head} e f g =
     let heads : ℕ → ℕ = λ h. getD head h 0 in
     let zeros : ℕ → ℕ = λ h. 0 in
-    let empty : heads ≡ zeros = fun-ext (λ h. lt-cases h 1021
-    (λ l. rw g (getD-replicate {A = ℕ} 1021 h 0 0 l))
-    (λ l. List·getD-eq-default head 0 {n = h} (omega (arith, ap length g, length-replicate {A = ℕ} 1021 0)))) in
+    let empty : heads ≡ zeros = fun-ext (λ h. zeros-read 1021 g h) in
     record {
       size = ap length e ∙ length-replicate {A = ℕ} 1009 0;
       nexts = ap length f ∙ length-replicate {A = ℕ} 1009 0;
@@ -172,7 +171,5 @@ pub nodes-start : {node : List ℕ} → node ≡ replicate 1009 0 → Nodes node
 nodes-start {node} e = record {
   size = ap length e ∙ length-replicate {A = ℕ} 1009 0;
   top = rw e (getD-replicate {A = ℕ} 1009 0 0 0 (omega arith));
-  small = λ j. lt-cases j 1009
-      (λ l. omega (arith, ap (λ (x : List ℕ). getD x j 0) e ∙ getD-replicate {A = ℕ} 1009 j 0 0 l))
-      (λ l. omega (arith, List·getD-eq-default node 0 {n = j} (omega (arith, ap length e, length-replicate {A = ℕ} 1009 0))));
+  small = λ j. omega (arith, zeros-read 1009 e j);
 }

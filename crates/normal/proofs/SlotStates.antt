@@ -1,14 +1,15 @@
 -- The table of states that the search for the first failing entry keeps: right for the top and for each 'every' that was passed.
 -- Assumes nothing.
 use Prim.Native.Nat.{_+_, _<_, _≤_, ℕ}
-use lib.ListN.{List·getD-eq-default, getD, getD-replicate, length, length-replicate, replicate, set}
+use lib.ListN.{getD, length, replicate, set}
 use lib.Seq.{getD-set-other, getD-set-same}
 use mathlib.Core.Bool.{Bool}
 use mathlib.Core.List.{List}
 use mathlib.Core.Logic.{_≢_}
-use mathlib.Core.Path.{_∙_, _≡_, ap, sym}
+use mathlib.Core.Path.{_∙_, _≡_, sym}
 use native.Mathlib.Omega.{arith}
-use Rattle.base.proofs.Tests.{eq-cases, lt-cases}
+use Rattle.base.proofs.Lists.{set-each, zeros-read}
+use Rattle.base.proofs.Tests.{eq-cases}
 use Rattle.blocks.specs.Entries.{nth}
 use Rattle.blocks.specs.Owners.{ownerOf}
 use Rattle.blocks.specs.declared.Entry.{Entry}
@@ -23,14 +24,10 @@ pub record States (ss : List Slot) (d : List Entry) (states : List ℕ) (n : ℕ
 
 -- no state is above 1,024
 pub small-start : {states : List ℕ} → states ≡ replicate 1009 0 → (j : ℕ) → getD states j 0 ≤ 1024
-small-start {states} e j =
-    lt-cases j 1009
-    (λ b. let z : getD states j 0 ≡ 0 = rw e (getD-replicate {A = ℕ} 1009 j 0 0 b) in omega arith)
-    (λ b. let z : getD states j 0 ≡ 0 = List·getD-eq-default states 0 {n = j} (omega (arith, ap length e, length-replicate {A = ℕ} 1009 0)) in omega arith)
+small-start e j = rw (zeros-read 1009 e j) (omega arith)
 
 pub small-more : (states : List ℕ) {n x : ℕ} → ((j : ℕ) → getD states j 0 ≤ 1024) → n < length states → x ≤ 1024 → (j : ℕ) → getD (set states n x) j 0 ≤ 1024
-small-more states {n} {x} h l b j =
-    eq-cases j n (λ e. rw (e, getD-set-same states n x 0 l) b) (λ e. rw (getD-set-other states n j x 0 e) (h j))
+small-more states h l b j = set-each (λ x. x ≤ 1024) states h l b j
 
 module _ (ss : List Slot) (d : List Entry) where
   pub states-start : {states : List ℕ} → states ≡ replicate 1009 0 → States ss d states 1

@@ -2,7 +2,7 @@
 -- Assumes nothing.
 use Prim.Native.Nat.{_+_, _-_, _<_, _≤_, suc, zero, ℕ}
 use lib.Dec.{eqb}
-use lib.ListN.{List·getD-eq-default, getD, getD-replicate, length, length-append, length-replicate, length-set, replicate, set}
+use lib.ListN.{getD, length, length-append, length-replicate, length-set, replicate, set}
 use lib.Seq.{getD-set-other, getD-set-same}
 use mathlib.Core.Bool.{Bool}
 use mathlib.Core.List.{List, [], _++_, _∷_, append-assoc}
@@ -12,7 +12,8 @@ use mathlib.Core.Path.{_∙_, _≡_, ap, refl, sym}
 use native.Mathlib.Nat.{add-zero}
 use native.Mathlib.Numerals.{add-one}
 use native.Mathlib.Omega.{arith}
-use Rattle.base.proofs.Tests.{bool-cases, eq-cases, eq-eqb, lt-cases, ne-eqb}
+use Rattle.base.proofs.Lists.{zeros-read}
+use Rattle.base.proofs.Tests.{bool-cases, eq-cases, eq-eqb, ne-eqb}
 use Rattle.blocks.proofs.Blocks.{parts}
 use Rattle.fit.specs.Description.{Atom}
 use Rattle.fit.specs.Tree.{Row}
@@ -118,12 +119,6 @@ place-step keep S whole {rows₀} {rows} {rows′} {count} {count′} {below} {b
       small = λ j. rw (q .noted) (note-small below _ js sl (omega (arith, room, le, lp, sz)) sm j);
     }
 
-zeros-at : {l : List ℕ} → l ≡ replicate 1009 0 → (j : ℕ) → getD l j 0 ≡ 0
-zeros-at {l} e j =
-    lt-cases j 1009
-    (λ b. rw e (getD-replicate {A = ℕ} 1009 j 0 0 b))
-    (λ b. List·getD-eq-default l 0 {n = j} (omega (arith, ap length e, length-replicate {A = ℕ} 1009 0)))
-
 -- the top's place is done
 pub walking-start : (keep : ℕ → Bool → Option ℕ → Bool) (S : ℕ → List Cell) {rows rows′ : List ℕ} {count : ℕ} {below below′ : List ℕ}
     → below ≡ replicate 1009 0 → length rows ≡ 1008 → Slotlike (everySlots keep (S 0)) → length (allRows keep S) ≤ 1008
@@ -132,7 +127,7 @@ pub walking-start : (keep : ℕ → Bool → Option ℕ → Bool) (S : ℕ → L
 unfolding allRows jobsFrom
 walking-start keep S e l sl few q =
     place-step keep S (allRows keep S) 2017 1 0 0 (omega arith) (omega arith) (omega arith) (ap length e ∙ length-replicate {A = ℕ} 1009 0)
-    (λ j b. zeros-at e j) (λ j. rw (zeros-at e j) (omega arith)) sl few
+    (λ j b. zeros-read 1009 e j) (λ j. rw (zeros-read 1009 e j) (omega arith)) sl few
     (record { front = []; pushed = pushed-anew [] (pushed-none l); parts = refl }) q
 
 pub top-room : (keep : ℕ → Bool → Option ℕ → Bool) (S : ℕ → List Cell) → length (allRows keep S) ≤ 1008 → 0 + length (placeRows keep 0 (S 0)) ≤ 1008

@@ -212,23 +212,42 @@ fn worst_fit_row() {
 }
 
 fn read_rows(size: usize, shape: Shape, model: &Model) {
+    let row = ReadRow { size, shape };
     let description = encode(&model.description());
-    let product = goltximen::read_description(&description).map(usize::from);
-    assert_eq!(product.ok(), Some(size));
-    assert_eq!(plain::read_description(&description), Ok(size));
-    let times = best(
-        || goltximen::read_description(black_box(&description)),
-        || plain::read_description(black_box(&description)),
+    row.print(
+        "read description",
+        |bytes| goltximen::read_description(bytes).ok().map(usize::from),
+        |bytes| plain::read_description(bytes).ok(),
+        &description,
     );
-    let (size_name, shape) = (grouped(size), shape_name(shape));
-    print_row("read description", &size_name, shape, "accepted", times);
     let specimen = encode(&model.specimen());
-    let product = goltximen::read_specimen(&specimen).map(usize::from);
-    assert_eq!(product.ok(), Some(size));
-    assert_eq!(plain::read_specimen(&specimen), Ok(size));
-    let times = best(
-        || goltximen::read_specimen(black_box(&specimen)),
-        || plain::read_specimen(black_box(&specimen)),
+    row.print(
+        "read specimen",
+        |bytes| goltximen::read_specimen(bytes).ok().map(usize::from),
+        |bytes| plain::read_specimen(bytes).ok(),
+        &specimen,
     );
-    print_row("read specimen", &size_name, shape, "accepted", times);
+}
+
+/// The inputs of a row that reads.
+struct ReadRow {
+    size: usize,
+    shape: Shape,
+}
+
+impl ReadRow {
+    /// Both sides read the bytes, and find as many entries as the row says.
+    fn print(
+        &self,
+        call: &str,
+        product: impl Fn(&[u8]) -> Option<usize>,
+        plain: impl Fn(&[u8]) -> Option<usize>,
+        bytes: &[u8],
+    ) {
+        assert_eq!(product(bytes), Some(self.size));
+        assert_eq!(plain(bytes), Some(self.size));
+        let times = best(|| product(black_box(bytes)), || plain(black_box(bytes)));
+        let (size, shape) = (grouped(self.size), shape_name(self.shape));
+        print_row(call, &size, shape, "accepted", times);
+    }
 }

@@ -134,14 +134,11 @@ fn refused(refusal: Refusal) -> Answer {
 ///
 /// The difference.
 pub fn read_description(bytes: &[u8]) -> Result<Answer, Difference> {
-    let case = Case {
-        call: "read description",
-        inputs: &[bytes],
-    };
-    let proved = goltximen::read_description(bytes);
-    let proved = proved.map(usize::from).map_err(in_form);
-    let answer = case.same(proved, reference::read_description(bytes))?;
-    Ok(answer.map_or_else(refused, Answer::Count))
+    let answers = (
+        goltximen::read_description(bytes),
+        reference::read_description(bytes),
+    );
+    read("read description", bytes, answers)
 }
 
 /// Reads a specimen.
@@ -150,13 +147,24 @@ pub fn read_description(bytes: &[u8]) -> Result<Answer, Difference> {
 ///
 /// The difference.
 pub fn read_specimen(bytes: &[u8]) -> Result<Answer, Difference> {
+    let answers = (
+        goltximen::read_specimen(bytes),
+        reference::read_specimen(bytes),
+    );
+    read("read specimen", bytes, answers)
+}
+
+/// What reading answered on both sides, if it is the same.
+fn read(
+    call: &'static str,
+    bytes: &[u8],
+    (proved, plain): (Result<u16, goltximen::Refusal>, Result<usize, Refusal>),
+) -> Result<Answer, Difference> {
     let case = Case {
-        call: "read specimen",
+        call,
         inputs: &[bytes],
     };
-    let proved = goltximen::read_specimen(bytes);
-    let proved = proved.map(usize::from).map_err(in_form);
-    let answer = case.same(proved, reference::read_specimen(bytes))?;
+    let answer = case.same(proved.map(usize::from).map_err(in_form), plain)?;
     Ok(answer.map_or_else(refused, Answer::Count))
 }
 
