@@ -1,13 +1,15 @@
 # make run: compares two shipped descriptions. make lib: the static library for C and Rust. make test: the gate, then the library
-# from C and from Rust, and against the reference. make fuzz: the library against the reference on drawn cases, for SECONDS from SEED.
-# make bench: how long a run of each program takes, and each call of the library beside plain Rust (docs/BENCHMARKS.md). make stack:
-# the stack that each call of the library takes.
-.PHONY: run lib test fuzz bench stack
+# from C and from Rust, under valgrind, and against the reference. make fuzz: the library against the reference on drawn cases, for
+# SECONDS from SEED. make vectors: the vectors of crates/vectors and what the reference answers to them, made again. make bench: how
+# long a run of each program takes, and each call of the library beside plain Rust (docs/BENCHMARKS.md). make stack: the stack that
+# each call of the library takes.
+.PHONY: run lib test memory fuzz vectors bench stack
 
 CC = gcc
 CFLAGS = -O2 -Wall -Wextra -Werror -Iinclude
 SECONDS = 600
 SEED = $(shell date +%s)
+VALGRIND = valgrind --quiet --error-exitcode=1
 
 run: target/bin/goltximen
 	target/bin/goltximen < examples/pair.blocks
@@ -26,9 +28,19 @@ test:
 	test "$$(target/c/compare)" = "not contained, entry 1; specimen of 2 entries"
 	cargo test --quiet --manifest-path rust/bindings/Cargo.toml
 	cargo test --release --quiet --manifest-path rust/differential/Cargo.toml
+	$(MAKE) memory
+
+# The tests of the Rust side, and twenty seconds of drawn cases, with each use of memory watched.
+memory: lib
+	cargo --config 'target."cfg(unix)".runner="$(VALGRIND)"' test --quiet --tests --manifest-path rust/bindings/Cargo.toml
+	cargo build --release --quiet --manifest-path rust/differential/Cargo.toml --bin fuzz
+	$(VALGRIND) rust/differential/target/release/fuzz 20 1
 
 fuzz: lib
 	cargo run --release --quiet --manifest-path rust/differential/Cargo.toml --bin fuzz -- $(SECONDS) $(SEED)
+
+vectors: lib
+	cargo run --release --quiet --manifest-path rust/differential/Cargo.toml --bin vectors -- crates/vectors
 
 bench:
 	rt check inspect normals fits goltximen

@@ -13,6 +13,10 @@
 //! | [`agree`] | the five calls on both sides, compared |
 //! | [`small`] | small records, to look for an item by trying all |
 //! | [`rounds`] | rounds of cases, and how often each answer came |
+//! | [`vectors`] | calls with their bytes, and the line that the reference gives for each |
+//! | [`named`] | vectors of the paper's cases and of the report's examples |
+//! | [`drawn`] | drawn vectors, so many of each sort of answer |
+//! | [`notation`] | the notation of the paper's examples |
 
 #![forbid(unsafe_code)]
 #![deny(missing_docs)]
@@ -21,9 +25,13 @@ pub mod agree;
 pub mod chance;
 pub mod damage;
 pub mod draw;
+pub mod drawn;
+pub mod named;
+pub mod notation;
 pub mod pairs;
 pub mod rounds;
 pub mod small;
+pub mod vectors;
 
 /// The bytes of one block.
 pub const BLOCK: usize = 512;

@@ -1,0 +1,279 @@
+//! Drawn vectors, so many of each sort of answer.
+
+use std::collections::BTreeMap;
+
+use reference::{encode, Comparison, Entry};
+
+use crate::chance::Chance;
+use crate::damage::{damaged, Sort};
+use crate::draw::{self, entry, Shape};
+use crate::vectors::{Answer, Vector, MOST_LENGTH};
+use crate::{length_of, pairs, BLOCK, MOST_DESCRIPTION, MOST_SPECIMEN};
+
+/// What the vectors are drawn from.
+const SEED: u64 = 9803;
+/// Drawing ends after so many, also if some sort of answer came too rarely.
+const MOST_DRAWN: usize = 100_000;
+/// The most bytes of the inputs of a drawn vector together.
+const MOST_BYTES: usize = 5 * BLOCK;
+
+/// The sorts of answers that are not refusals 1 to 6, and how many are wanted of each.
+const ANSWERS: [(&str, usize); 9] = [
+    ("description accepted", 12),
+    ("specimen accepted", 12),
+    ("fit yes", 22),
+    ("fit no", 22),
+    ("normal form", 22),
+    ("normal form refused 7 input 0", 10),
+    ("compare contained", 22),
+    ("compare not contained", 22),
+    ("compare refused 7 input 0", 10),
+];
+/// The calls and their numbers of inputs.
+const INPUTS: [(&str, u16); 5] = [
+    ("description", 1),
+    ("specimen", 1),
+    ("fit", 2),
+    ("normal form", 1),
+    ("compare", 2),
+];
+/// How many are wanted of each refusal 1 to 6 of each call and input: at place 0 or 1, and at a later one.
+const REFUSALS: [(u8, usize, usize); 6] = [
+    (1, 4, 0),
+    (2, 2, 2),
+    (3, 2, 3),
+    (4, 2, 3),
+    (5, 2, 3),
+    (6, 0, 4),
+];
+
+/// What a sort of answer is followed by if it is a refusal at a later place than 1.
+const LATER: &str = " later";
+
+/// The sort of a vector's answer, divided by the place if it is a refusal.
+fn sort(vector: &Vector) -> String {
+    let later = matches!(vector.answer().0, Answer::Refused(refusal) if refusal.place > 1);
+    vector.sort() + if later { LATER } else { "" }
+}
+
+/// How many vectors are wanted of each sort of answer.
+fn wanted() -> BTreeMap<String, usize> {
+    let mut wanted = BTreeMap::new();
+    for (sort, times) in ANSWERS {
+        wanted.insert(sort.to_string(), times);
+    }
+    for (call, inputs) in INPUTS {
+        let each = (1..=inputs).flat_map(|input| REFUSALS.map(|refusal| (input, refusal)));
+        for (input, (number, first, later)) in each {
+            let sort = format!("{call} refused {number} input {input}");
+            wanted.insert(format!("{sort}{LATER}"), later);
+            wanted.insert(sort, first);
+        }
+    }
+    wanted
+}
+
+/// The drawn vectors in the order in which they came, without those of a sort of which there are enough.
+pub fn drawn() -> Vec<Vector> {
+    let mut chance = Chance::from_seed(SEED);
+    let mut wanted = wanted();
+    let mut vectors = Vec::new();
+    for _ in 0..MOST_DRAWN {
+        if wanted.values().all(|&times| times == 0) {
+            break;
+        }
+        let vector = any(&mut chance);
+        if vector.first.len() + vector.second.len() > MOST_BYTES {
+            continue;
+        }
+        match wanted.get_mut(&sort(&vector)) {
+            Some(times) if *times > 0 => *times -= 1,
+            _ => continue,
+        }
+        vectors.push(vector);
+    }
+    vectors
+}
+
+/// A drawn vector.
+fn any(chance: &mut Chance) -> Vector {
+    match chance.below(8) {
+        0 => reading(chance),
+        1 => normal_form(chance),
+        2..=3 => comparison(chance),
+        4..=5 => fit(chance),
+        _ => damage(chance),
+    }
+}
+
+/// A shape of at most 60 entries, now and then of more; half of them small.
+fn shape(chance: &mut Chance) -> Shape {
+    let drawn = draw::shape(chance);
+    let most = chance.one_of([60, 60, 60, 150]);
+    let small = Shape {
+        entries: chance.below(draw::SMALL.entries + 1),
+        ..draw::SMALL
+    };
+    let cut = Shape {
+        entries: drawn.entries.min(most),
+        ..drawn
+    };
+    chance.one_of([small, cut])
+}
+
+fn description(chance: &mut Chance) -> Vec<Entry> {
+    let shape = shape(chance);
+    draw::description(chance, &shape)
+}
+
+fn specimen(chance: &mut Chance) -> Vec<Entry> {
+    let shape = shape(chance);
+    draw::specimen(chance, &shape)
+}
+
+/// A length of an output around the one that is needed, mostly this one.
+fn around(chance: &mut Chance, needed: usize) -> usize {
+    let short = chance.one_of([0, 1, needed / 2, needed.saturating_sub(BLOCK), needed - 1]);
+    let long = needed + chance.one_of([1, 2, BLOCK - 1, BLOCK, BLOCK + 1]);
+    chance.one_of([needed, needed, needed, needed, short, long, long])
+}
+
+/// Reading of an accepted description or specimen.
+fn reading(chance: &mut Chance) -> Vector {
+    if chance.once_in(2) {
+        return Vector::description(encode(&description(chance)));
+    }
+    Vector::specimen(encode(&specimen(chance)))
+}
+
+fn normal_form(chance: &mut Chance) -> Vector {
+    let bytes = encode(&description(chance));
+    let output = around(chance, bytes.len());
+    Vector::normal_form(bytes, output)
+}
+
+/// A description, and one that is drawn on its own, weaker, in another order, or misses by one entry.
+fn pair(chance: &mut Chance) -> (Vec<Entry>, Vec<Entry>) {
+    let c = description(chance);
+    let weaker = pairs::weaker(chance, &c);
+    let d = match chance.below(7) {
+        0 => description(chance),
+        1 => weaker,
+        2 => pairs::reordered(chance, &weaker),
+        3 => pairs::past_at_most_0(chance, &c).unwrap_or(weaker),
+        4 => pairs::missed(chance, &weaker),
+        5 => pairs::missed(chance, &c),
+        _ => {
+            let reordered = pairs::reordered(chance, &c);
+            pairs::missed(chance, &reordered)
+        }
+    };
+    (c, d)
+}
+
+fn comparison(chance: &mut Chance) -> Vector {
+    let (c, d) = pair(chance);
+    let (c, d) = (encode(&c), encode(&d));
+    let output = around(chance, c.len() + d.len());
+    if chance.once_in(6) {
+        return Vector::compare(d, c, output);
+    }
+    Vector::compare(c, d, output)
+}
+
+/// A specimen that shows that the one is not contained in the other, against one of the two; or a drawn one.
+fn fit(chance: &mut Chance) -> Vector {
+    let (c, d) = pair(chance);
+    let (c, d) = (encode(&c), encode(&d));
+    let alone = encode(&specimen(chance));
+    let made = shown(&c, &d).filter(|_| !chance.once_in(4));
+    let description = if chance.once_in(2) { c } else { d };
+    Vector::fit(made.unwrap_or(alone), description)
+}
+
+/// The specimen that the reference gives if C is not contained in D.
+fn shown(c: &[u8], d: &[u8]) -> Option<Vec<u8>> {
+    let mut out = vec![0; c.len() + d.len()];
+    match reference::compare(c, d, &mut out) {
+        Ok(Comparison::NotContained { entries, .. }) => {
+            out.truncate(length_of(entries));
+            Some(out)
+        }
+        _ => None,
+    }
+}
+
+/// A call with damaged bytes as its input, or as one of its inputs or both.
+fn damage(chance: &mut Chance) -> Vector {
+    let (entries, others) = (description(chance), specimen(chance));
+    let (good, good_specimen) = (encode(&entries), encode(&others));
+    let bad = damaged(chance, Sort::Description, &entries);
+    let worse = damaged(chance, Sort::Description, &entries);
+    let bad_specimen = damaged(chance, Sort::Specimen, &others);
+    match chance.below(9) {
+        0 => Vector::description(bad),
+        1 => Vector::specimen(bad_specimen),
+        2 => Vector::fit(bad_specimen, good),
+        3 => Vector::fit(good_specimen, bad),
+        4 => Vector::fit(bad_specimen, bad),
+        5 => {
+            let output = chance.one_of([0, bad.len()]);
+            Vector::normal_form(bad, output)
+        }
+        6 => damaged_comparison(chance, bad, good),
+        7 => damaged_comparison(chance, good, bad),
+        _ => damaged_comparison(chance, bad, worse),
+    }
+}
+
+fn damaged_comparison(chance: &mut Chance, c: Vec<u8>, d: Vec<u8>) -> Vector {
+    let output = chance.one_of([0, c.len() + d.len()]);
+    Vector::compare(c, d, output)
+}
+
+/// Vectors of descriptions of 1,008 entries and specimens of 2,016.
+pub fn at_the_limit() -> Vec<Vector> {
+    let chance = &mut Chance::from_seed(SEED + 1);
+    let shape = Shape {
+        entries: MOST_DESCRIPTION,
+        conflicts: 0,
+        ..draw::MERGING
+    };
+    let c = draw::description(chance, &shape);
+    let same = pairs::reordered(chance, &c);
+    let missed = pairs::missed(chance, &same);
+    let (c, same, missed) = (encode(&c), encode(&same), encode(&missed));
+    let both = 2 * c.len();
+    let specimen = encode(&draw::full_specimen(chance));
+    vec![
+        Vector::normal_form(c.clone(), c.len() + BLOCK),
+        Vector::compare(c.clone(), same.clone(), both),
+        Vector::compare(c.clone(), missed.clone(), MOST_LENGTH),
+        Vector::compare(c.clone(), missed, both - 1),
+        Vector::fit(specimen, c),
+        Vector::fit(many_groups(7), many_every()),
+        Vector::fit(many_groups(8), many_every()),
+    ]
+}
+
+/// A description of many 'every' of one link, each of which owns has property 7.
+fn many_every() -> Vec<u8> {
+    encode(&owning(MOST_DESCRIPTION, 5, 0))
+}
+
+/// A specimen of many groups of one link, each with property 7 but the last, which has this one.
+fn many_groups(last: u16) -> Vec<u8> {
+    let mut entries = owning(MOST_SPECIMEN, 7, u16::MAX);
+    if let Some(e) = entries.last_mut() {
+        e.name = last;
+    }
+    encode(&entries)
+}
+
+/// So many entries: one of this kind and number at the top and then the property that it owns, again and again.
+fn owning(entries: usize, kind: u8, number: u16) -> Vec<Entry> {
+    let owners = (1..=crate::word(entries)).step_by(2);
+    owners
+        .flat_map(|owner| [entry(kind, 0, 1, number), entry(1, owner, 7, 0)])
+        .collect()
+}

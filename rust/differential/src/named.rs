@@ -1,0 +1,264 @@
+//! Vectors of the paper's cases and of the examples that the report prints.
+
+use reference::{encode, Entry};
+
+use crate::damage::seal;
+use crate::draw::entry;
+use crate::notation::blocks;
+use crate::vectors::Vector;
+use crate::{BLOCK, MOST_DESCRIPTION, MOST_SPECIMEN};
+
+/// The comparison of two texts, with an output that is just long enough.
+fn compare(c: &str, d: &str) -> Vector {
+    compare_bytes(blocks(c), blocks(d))
+}
+
+/// The comparison, with an output that is just long enough.
+fn compare_bytes(c: Vec<u8>, d: Vec<u8>) -> Vector {
+    let output = c.len() + d.len();
+    Vector::compare(c, d, output)
+}
+
+/// The normal form of a text, with an output that is just long enough.
+fn normal_form(description: &str) -> Vector {
+    normal_form_bytes(blocks(description))
+}
+
+/// The normal form, with an output that is just long enough.
+fn normal_form_bytes(description: Vec<u8>) -> Vector {
+    let output = description.len();
+    Vector::normal_form(description, output)
+}
+
+/// The fit answer for two texts.
+fn fit(specimen: &str, description: &str) -> Vector {
+    Vector::fit(blocks(specimen), blocks(description))
+}
+
+/// Blocks of so many different properties, the largest name first.
+fn properties(count: usize) -> Vec<u8> {
+    let names = (1..=crate::word(count)).rev();
+    encode(&names.map(|name| entry(1, 0, name, 0)).collect::<Vec<_>>())
+}
+
+/// So many entries of this kind, each owned by the one before, and then these with the last of them as owner.
+fn chain(kind: u8, length: u16, then: &[u8]) -> Vec<u8> {
+    let mut entries: Vec<Entry> = (0..length).map(|owner| entry(kind, owner, 1, 0)).collect();
+    entries.extend(then.iter().map(|&kind| entry(kind, length, 7, 0)));
+    encode(&entries)
+}
+
+/// The cases about limits: sizes, lengths, depths and outputs.
+pub fn limits() -> Vec<Vector> {
+    [sizes(), lengths(), depths(), outputs()].concat()
+}
+
+/// As many entries as are allowed, and one more; and as many, with a fault in the last block or entry.
+fn sizes() -> Vec<Vector> {
+    let full = properties(MOST_DESCRIPTION);
+    let over = properties(MOST_DESCRIPTION + 1);
+    let full_specimen = properties(MOST_SPECIMEN);
+    vec![
+        Vector::description(full.clone()),
+        normal_form_bytes(full.clone()),
+        compare_bytes(full.clone(), full.clone()),
+        Vector::description(over.clone()),
+        compare_bytes(blocks("1,7"), over.clone()),
+        Vector::fit(blocks("1,7"), over),
+        Vector::specimen(full_specimen.clone()),
+        Vector::specimen(properties(MOST_SPECIMEN + 1)),
+        Vector::description(in_last_block(full, |block| change(block, 511))),
+        Vector::specimen(in_last_block(full_specimen.clone(), |block| {
+            change(block, 508);
+            seal(block);
+        })),
+        // Byte 500 is the kind of the last entry, which becomes 0.
+        Vector::specimen(in_last_block(full_specimen, |block| {
+            change(block, 500);
+            seal(block);
+        })),
+    ]
+}
+
+/// The bytes with their last block changed.
+fn in_last_block(mut bytes: Vec<u8>, change: fn(&mut [u8])) -> Vec<u8> {
+    if let Some(block) = bytes.chunks_exact_mut(BLOCK).last() {
+        change(block);
+    }
+    bytes
+}
+
+/// Changes the lowest bit of the byte at this place.
+fn change(block: &mut [u8], at: usize) {
+    if let Some(byte) = block.get_mut(at) {
+        *byte ^= 1;
+    }
+}
+
+/// Lengths of 0 and of a block but for one byte.
+fn lengths() -> Vec<Vector> {
+    let one = blocks("1,7");
+    let mut vectors = Vec::new();
+    for length in [0, BLOCK - 1, BLOCK + 1] {
+        let mut bytes = one.clone();
+        bytes.resize(length, 0);
+        vectors.extend([
+            Vector::description(bytes.clone()),
+            Vector::specimen(bytes.clone()),
+            Vector::fit(bytes.clone(), one.clone()),
+            Vector::fit(one.clone(), bytes.clone()),
+            Vector::normal_form(bytes.clone(), 2 * BLOCK),
+            Vector::compare(bytes.clone(), one.clone(), 3 * BLOCK),
+            Vector::compare(one.clone(), bytes, 3 * BLOCK),
+        ]);
+    }
+    vectors
+}
+
+/// Depth 32: an 'every' or group that owns nothing, and a property. Depth 33: the same.
+fn depths() -> Vec<Vector> {
+    let description = |length, then| Vector::description(chain(5, length, then));
+    let specimen = |length, then| Vector::specimen(chain(7, length, then));
+    vec![
+        description(33, &[]),
+        description(32, &[1]),
+        description(34, &[]),
+        description(33, &[1]),
+        specimen(33, &[]),
+        specimen(32, &[1]),
+        specimen(34, &[]),
+        specimen(33, &[1]),
+        normal_form_bytes(chain(5, 33, &[])),
+        normal_form_bytes(chain(5, 32, &[1])),
+        normal_form_bytes(chain(5, 33, &[1])),
+        compare_bytes(chain(5, 32, &[1]), chain(5, 32, &[1, 2])),
+        compare_bytes(blocks(""), chain(5, 33, &[1])),
+        Vector::fit(chain(7, 32, &[1]), chain(5, 32, &[1])),
+        Vector::fit(chain(7, 32, &[1]), chain(5, 32, &[2])),
+        Vector::fit(chain(7, 33, &[1]), chain(5, 33, &[1])),
+        Vector::fit(chain(7, 32, &[1]), chain(5, 33, &[1])),
+    ]
+}
+
+/// Outputs one byte short, just long enough and one byte longer. A description of two blocks has a normal form of one, and its
+/// output is too short all the same if it is not as long as the input. Bytes that are refused come before the output.
+fn outputs() -> Vec<Vector> {
+    let one = blocks("1,7");
+    let two = encode(&[entry(1, 0, 7, 0); 64]);
+    let both = 2 * BLOCK;
+    let mut vectors = Vec::new();
+    for output in [0, BLOCK - 1, BLOCK, BLOCK + 1] {
+        vectors.push(Vector::normal_form(one.clone(), output));
+    }
+    for output in [BLOCK, both - 1, both, both + 1] {
+        vectors.push(Vector::normal_form(two.clone(), output));
+    }
+    for output in [0, BLOCK, both - 1, both, both + 1] {
+        vectors.push(Vector::compare(one.clone(), one.clone(), output));
+        vectors.push(Vector::compare(blocks(""), one.clone(), output));
+    }
+    vectors.push(Vector::normal_form(blocks("7,1"), BLOCK - 1));
+    vectors.push(Vector::compare(one, blocks("1,7; 7,1"), both - 1));
+    vectors
+}
+
+/// The starred cases in the paper's order, each normal form before what it is compared with, and after a specimen that is named
+/// what it fits.
+pub fn desk() -> Vec<Vector> {
+    vec![
+        compare("", ""),
+        compare("1,7", "1,7"),
+        compare("5,1 [3,2,1]", "5,1 [3,2,1; 4,2,1]"),
+        fit("7,1 [7,2,1]", "5,1 [3,2,1]"),
+        fit("7,1 [7,2,1]", "5,1 [3,2,1; 4,2,1]"),
+        normal_form("5,1 [5,2 [6]; 3,2,1]"),
+        compare("5,1 [5,2 [6]; 3,2,1]", "5,1 [1,9]"),
+        compare("", "5,3 [3,1,0]"),
+        compare("", "5,1 []"),
+        compare("3,1,2; 4,1,2", "3,1,2"),
+        compare("3,1,2; 4,1,2", "3,1,3"),
+        fit("7,1,1", "3,1,2; 4,1,2"),
+        fit("7,1,1", "3,1,3"),
+        normal_form("3,1,3; 4,1,2"),
+        compare("3,1,3; 4,1,2", ""),
+        compare("3,1,3; 4,1,2", "6"),
+        compare("3,1,3; 4,1,2", "1,1; 2,1"),
+        compare("3,1,3; 4,1,2", "5,1 [6]; 3,1,9"),
+        compare("", "4,1,65535"),
+        fit("7,1,65535", ""),
+        fit("7,1,65535", "4,1,65535"),
+        compare("1,7", "2,8"),
+        fit("1,7; 1,8", "1,7"),
+        fit("1,7; 1,8", "2,8"),
+        compare("4,1,0", "5,1 [6]"),
+        compare("5,1 [6]", "4,1,0"),
+        compare("", "6"),
+        fit("", ""),
+        fit("", "6"),
+    ]
+}
+
+/// C of the report's Example 7, where 'for all S > ((' is read as 'for all S.((', as its graph in Figure 2 has it.
+///
+/// Here and below P is property 1 and Q property 2, R is link 1 and S link 2.
+const C_7: &str = "5,1 [1,1; 1,2; 5,2 [3,2,1; 5,2 [1,2; 2,2]]]; 5,2 [1,2]; 5,2 [3,2,3]";
+/// D of Example 7.
+const D_7: &str = "5,1 [1,1; 5,2 [1,2]]; 5,2 [1,2; 3,2,1]";
+/// The canonical graph of C in Figure 5, which Example 11 comes to.
+const C_11: &str = "5,1 [1,1; 1,2; 4,2,0]; 5,2 [1,2; 3,2,3]";
+/// C' of Example 15.
+const C_15: &str = "5,1 [1,1]";
+/// D' of Example 15.
+const D_15: &str = "5,2 [3,1,0]";
+
+/// The graph of C in Figure 2 node by node, v1, v4 and v5 first: the same entries as in C, in another order.
+fn graph_of_c() -> Vec<u8> {
+    encode(&[
+        entry(5, 0, 1, 0),
+        entry(5, 0, 2, 0),
+        entry(5, 0, 2, 0),
+        entry(1, 1, 1, 0),
+        entry(1, 1, 2, 0),
+        entry(5, 1, 2, 0),
+        entry(1, 2, 2, 0),
+        entry(3, 3, 2, 3),
+        entry(3, 6, 2, 1),
+        entry(5, 6, 2, 0),
+        entry(1, 10, 2, 0),
+        entry(2, 10, 2, 0),
+    ])
+}
+
+/// The report's Examples 7, 11 and 15, with the pairs that its text speaks of and these exchanged, and the examples of its
+/// Sections 5 and 6 that have no number.
+pub fn report() -> Vec<Vector> {
+    vec![
+        // Examples 7 and 11.
+        Vector::description(blocks(C_7)),
+        Vector::description(graph_of_c()),
+        Vector::description(blocks(D_7)),
+        normal_form(C_7),
+        normal_form_bytes(graph_of_c()),
+        normal_form(C_11),
+        normal_form(D_7),
+        compare(C_7, C_11),
+        compare(C_11, C_7),
+        // After Theorem 14: C is contained in D, by the canonical graph of C.
+        compare(C_7, D_7),
+        compare_bytes(graph_of_c(), blocks(D_7)),
+        compare(C_11, D_7),
+        compare(D_7, C_7),
+        // Example 15: C' is contained in D', and D' is fitted by all items.
+        compare(C_15, D_15),
+        compare(D_15, C_15),
+        normal_form(D_15),
+        compare("", D_15),
+        compare(D_15, ""),
+        // Section 5: 'for all R.(P and not P)' is 'at most 0 R', and Figure 3.
+        compare("5,1 [1,1; 2,1]", "4,1,0"),
+        compare("4,1,0", "5,1 [1,1; 2,1]"),
+        normal_form("1,1; 5,1 [4,2,0; 5,2 [1,2]]"),
+        // After Definition 12: the canonical graph's node by R is more specific than P and at most 1 S.
+        compare("1,1; 1,2; 4,2,0", "1,1; 4,2,1"),
+    ]
+}
