@@ -20,7 +20,7 @@ use Rattle.fit.proofs.ByNumber.{fit-by-groups}
 use Rattle.fit.proofs.Counting.{everyIn}
 use Rattle.fit.specs.Cases.{Case, cases}
 use Rattle.fit.specs.Description.{placeOf}
-use Rattle.fit.specs.Groups.{allOwned, fitsPlace, groupsBy, hasProperty, meetsEntry, sumOwned, totalBy}
+use Rattle.fit.specs.Groups.{allOwned, allWhere, fitsPlace, groupsBy, hasProperty, meetsEntry, sumOwned, sumWhere, totalBy}
 use Rattle.fit.specs.Record.{fits}
 use Rattle.fit.specs.Specimen.{recordOf}
 
@@ -91,5 +91,5 @@ all-show (b ∷ cs) e c m =
 
 -- every desk example is shown by its specimen
 pub cases-show : (c : Case) → List·Memᴰ c cases → Shows c
-unfolding cases everyIn first entryFaults formOk nameOk numberOk ownerOk ownerOf nth depthOk depthOf chain allOwned sumOwned hasProperty totalBy groupsBy meetsEntry
+unfolding cases everyIn first entryFaults formOk nameOk numberOk ownerOk ownerOf nth depthOk depthOf chain allWhere sumWhere hasProperty totalBy groupsBy meetsEntry
 cases-show = all-show cases refl

@@ -2,6 +2,7 @@ pub mod Counting
 pub mod Items
 pub mod Owned
 pub mod WalkLaws
+pub mod BucketLaws
 pub mod GroupLaws
 pub mod MeetLaws
 pub mod AnswerLaws

@@ -8,12 +8,15 @@ use mathlib.Core.List.{List}
 use mathlib.Core.Logic.{_≢_}
 use mathlib.Core.Path.{_∙_, _≡_, ap, refl, sym}
 use native.Mathlib.Numerals.{sub-one}
-use Rattle.base.proofs.Tests.{ne-eqb}
+use Rattle.base.proofs.Tests.{ne-eqb, or-one}
 use Rattle.blocks.specs.Entries.{entriesOf, entryOf, nth}
+use Rattle.blocks.specs.Owners.{ownerOf}
 use Rattle.blocks.specs.declared.Entry.{Entry}
-use Rattle.fit.proofs.GroupLaws.{read-here}
-use Rattle.fit.specs.Groups.{allOwned, fitsPlace, groupsBy, isGroup, meetsAtom, meetsEntry}
-use Rattle.fit.specs.Index.{Ready}
+use Rattle.blocks.specs.declared.Schema.the-variants.{Specimen}
+use Rattle.fit.proofs.BucketLaws.{all-bucket, elsewhere}
+use Rattle.fit.proofs.GroupLaws.{owned-else, owned-here}
+use Rattle.fit.specs.Groups.{allOwned, allWhere, fitsPlace, groupsBy, isGroup, meetsAtom, meetsEntry}
+use Rattle.fit.specs.Index.{Ready, bucketOf, hashOf, isOf}
 
 pub meets-bottom : (left : ℕ) (s d : List Entry) (g e : ℕ) → left ≡ 0 → true ≡ meetsEntry left s d g e
 unfolding meetsEntry
@@ -26,10 +29,10 @@ meets-atoms zero s d g e z a k h = absurd (z refl)
 meets-atoms (suc left) s d g e z a k h = h ∙ rw (a, meetsAtom, meetsEntry, ne-eqb (λ q. k (ap (λ (y : Entry). y .kind) a ∙ q)))
 
 -- group k, where it is one by link l, fits the place that entry e owns, followed down for so many levels
-abbrev pub groupFits : ℕ → List Entry → List Entry → ℕ → ℕ → ℕ → Bool
+abbrev groupFits : ℕ → List Entry → List Entry → ℕ → ℕ → ℕ → Bool
 groupFits left s d e l k = not (isGroup s l k) || fitsPlace left s d k e
 
-pub meets-groups : (left : ℕ) (s d : List Entry) (g e : ℕ) {x : Entry} {l : ℕ} → left ≢ 0 → x ≡ nth d e → x .kind ≡ 5 → l ≡ x .name
+meets-groups : (left : ℕ) (s d : List Entry) (g e : ℕ) {x : Entry} {l : ℕ} → left ≢ 0 → x ≡ nth d e → x .kind ≡ 5 → l ≡ x .name
     → meetsEntry left s d g e ≡ allOwned (groupFits (left - 1) s d e l) s g (length s)
 unfolding meetsEntry groupsBy
 meets-groups zero s d g e z a k n = absurd (z refl)
@@ -38,13 +41,22 @@ meets-groups (suc left) s d g e z a k n =
     let name : nth d e .name ≡ _ = sym (n ∙ ap (λ (y : Entry). y .name) a) in
     rw (meetsEntry, kind, name, groupsBy, sub-one)
 
-module _ {s : List ℕ} {total : ℕ} {t : List ℕ} (R : Ready s total t) (left : ℕ) (d : List Entry) (e l k : ℕ) {x : Entry} {r : Bool}
-    (a : x ≡ entryOf s total k) (b : r ≡ eqb (x .kind) 7 && eqb (x .name) l) where
-  group-here : isGroup (entriesOf s) l k ≡ r
-  group-here = read-here R (λ (y : Entry). eqb (y .kind) 7 && eqb (y .name) l) k a b
+-- the same for the groups that g owns; others pass
+abbrev pub ownFits : ℕ → List Entry → List Entry → ℕ → ℕ → ℕ → ℕ → Bool
+ownFits left s d e g l k = not (eqb (ownerOf s k) g) || groupFits left s d e l k
 
-  pub other-passes : r ≡ false → groupFits left (entriesOf s) d e l k ≡ true
-  other-passes q = rw (group-here, q)
+pub meets-bucket : (left : ℕ) (s d : List Entry) (g e : ℕ) {x : Entry} {l : ℕ} → left ≢ 0 → x ≡ nth d e → x .kind ≡ 5 → l ≡ x .name
+    → meetsEntry left s d g e ≡ allWhere (bucketOf Specimen s) (ownFits (left - 1) s d e g l) (hashOf g 7 l) (length s)
+meets-bucket left s d g e {x} {l} z a k n =
+    meets-groups left s d g e z a k n
+    ∙ all-bucket (ownerOf s) (bucketOf Specimen s) (groupFits (left - 1) s d e l) g (hashOf g 7 l)
+    (λ k out. elsewhere s g 7 l k out (λ o. rw o) (λ m. rw m (or-one (not (eqb (ownerOf s k) g))))) (length s)
 
-  pub group-decides : {f : Bool} → r ≡ true → f ≡ fitsPlace left (entriesOf s) d k e → groupFits left (entriesOf s) d e l k ≡ f
-  group-decides q h = rw (group-here, q) (sym h)
+-- what entry k was read to be decides
+module _ {s : List ℕ} {total : ℕ} {t : List ℕ} (R : Ready Specimen s total t) (left : ℕ) (d : List Entry) (e g l k : ℕ) {x : Entry} {r : Bool}
+    (a : x ≡ entryOf s total k) (b : r ≡ isOf x g 7 l) where
+  pub other-passes : r ≡ false → ownFits left (entriesOf s) d e g l k ≡ true
+  other-passes q = owned-else R g 7 l k a b q (λ o. rw o) (λ m. rw m (or-one (not (eqb (ownerOf (entriesOf s) k) g))))
+
+  pub group-decides : {f : Bool} → r ≡ true → f ≡ fitsPlace left (entriesOf s) d k e → ownFits left (entriesOf s) d e g l k ≡ f
+  group-decides q h = let y = owned-here R g 7 l k a b q in rw (y .0, y .1) (sym h)

@@ -13,7 +13,7 @@ use Rattle.blocks.specs.Entries.{nth, zeroEntry}
 use Rattle.blocks.specs.Owners.{ownerOf}
 use Rattle.blocks.specs.declared.Entry.{Entry}
 use Rattle.fit.proofs.Counting.{every-ext, every-from, everyFrom, sumIn}
-use Rattle.fit.specs.Groups.{allOwned, sumOwned}
+use Rattle.fit.specs.Groups.{allOwned, allWhere, sumOwned, sumWhere}
 use Rattle.fit.specs.Record.{every}
 
 -- ---- by number
@@ -21,7 +21,7 @@ use Rattle.fit.specs.Record.{every}
 -- what each entry of o passes, entry k of o passes
 pub owned-at : (p : ℕ → Bool) (es : List Entry) (o n : ℕ) → allOwned p es o n ≡ true
     → (k : ℕ) → 1 ≤ k → k ≤ n → ownerOf es k ≡ o → p k ≡ true
-unfolding allOwned
+unfolding allWhere
 owned-at p es o zero e k lo hi q = absurd (omega arith)
 owned-at p es o (suc n) e k lo hi q =
     eq-cases k (suc n)
@@ -33,7 +33,7 @@ owned-at p es o (suc n) e k lo hi q =
 -- what entry k of o passes for each k, each entry of o passes
 pub owned-of : (p : ℕ → Bool) (es : List Entry) (o n : ℕ) → ((k : ℕ) → 1 ≤ k → k ≤ n → ownerOf es k ≡ o → p k ≡ true)
     → allOwned p es o n ≡ true
-unfolding allOwned
+unfolding allWhere
 owned-of p es o zero h = refl
 owned-of p es o (suc n) h =
     and-both
@@ -55,7 +55,7 @@ owned-ext p q es o n h =
 -- the first n entries of o, by their places
 owned-places : (p : ℕ → Entry → Bool) (es : List Entry) (o n : ℕ) → allOwned (λ k. p k (nth es k)) es o n
     ≡ every (λ i. not (eqb (getD es i zeroEntry .owner) o) || p (suc i) (getD es i zeroEntry)) n
-unfolding allOwned every ownerOf nth
+unfolding allWhere every ownerOf nth
 owned-places p es o zero = refl
 owned-places p es o (suc n) = rw (owned-places p es o n)
 
@@ -70,7 +70,7 @@ owned-from p es o =
 -- a sum over the entries of o, counted from the front
 sum-front : (f : Entry → ℕ) (e : Entry) (es : List Entry) (o n : ℕ) → sumOwned (λ k. f (nth (e ∷ es) k)) (e ∷ es) o (suc n)
     ≡ cond (eqb (e .owner) o) (f e) 0 + sumOwned (λ k. f (nth es k)) es o n
-unfolding sumOwned ownerOf nth
+unfolding sumWhere ownerOf nth
 sum-front f e es o zero = refl
 sum-front f e es o (suc n) = omega (arith, sum-front f e es o n)
 
@@ -78,5 +78,5 @@ sum-front f e es o (suc n) = omega (arith, sum-front f e es o n)
 pub sum-from : (f : Entry → ℕ) (es : List Entry) (o : ℕ)
     → sumOwned (λ k. f (nth es k)) es o (length es) ≡ sumIn (λ e. cond (eqb (e .owner) o) (f e) 0) es
 unfolding sumIn
-sum-from f [] o = unfold sumOwned in refl
+sum-from f [] o = unfold sumWhere in refl
 sum-from f (e ∷ es) o = sum-front f e es o (length es) ∙ rw (sum-from f es o)

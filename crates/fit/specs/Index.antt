@@ -1,32 +1,53 @@
--- The index of the entries of an input by owner, as the code keeps it. No public promise names it.
+-- The index of the entries of an input, as the code keeps it: of a description by owner, of a specimen by owner, kind and name. No public
+-- promise names it.
 -- Assumes nothing.
 use mathlib.Core.Path.{_≡_}
-use mathlib.Core.Bool.{Bool, true, false, cond}
+use mathlib.Core.Bool.{Bool, _&&_, cond}
 use mathlib.Core.List.{List}
-use Prim.Native.Nat.{ℕ, zero, suc, _+_, _-_, _≤_, _<_}
+use Prim.Native.Nat.{ℕ, zero, suc, _+_, _*_, _-_, _%_, _≤_, _<_}
 use lib.Dec.{eqb}
 use lib.ListN.{length, getD}
 use Rattle.blocks.specs.declared.Entry.{Entry}
-use Rattle.blocks.specs.Entries.{entriesOf}
+use Rattle.blocks.specs.declared.Schema.{Schema}
+use Rattle.blocks.specs.declared.Schema.the-variants.{Description, Specimen}
+use Rattle.blocks.specs.Entries.{entriesOf, nth}
 use Rattle.blocks.specs.Owners.{ownerOf}
 
--- the last of the first n entries that o owns, or 0
-unfoldable pub lastOwned : List Entry → ℕ → ℕ → ℕ
-lastOwned es o zero = 0
-lastOwned es o (suc n) = cond (eqb (ownerOf es (suc n)) o) (suc n) (lastOwned es o n)
+-- an entry of this owner, kind and name
+abbrev pub isOf : Entry → ℕ → ℕ → ℕ → Bool
+isOf e g kind name = eqb (e .owner) g && (eqb (e .kind) kind && eqb (e .name) name)
+
+-- the bucket of an owner, a kind and a name: of one kind and name, different owners have different buckets
+unfoldable pub hashOf : ℕ → ℕ → ℕ → ℕ
+hashOf o k n = (o + (8 * n + k)) % 2017
+
+-- the bucket of an entry: in a description its owner alone
+abbrev pub bucketIn : Schema → Entry → ℕ
+bucketIn Description e = e .owner
+bucketIn Specimen e = hashOf (e .owner) (e .kind) (e .name)
+
+-- the bucket of entry k
+abbrev pub bucketOf : Schema → List Entry → ℕ → ℕ
+bucketOf Description es k = ownerOf es k
+bucketOf Specimen es k = hashOf (ownerOf es k) (nth es k .kind) (nth es k .name)
+
+-- the last of the first n entries whose bucket, as c gives it, is b; or 0
+unfoldable pub lastWhere : (ℕ → ℕ) → ℕ → ℕ → ℕ
+lastWhere c b zero = 0
+lastWhere c b (suc n) = cond (eqb (c (suc n)) b) (suc n) (lastWhere c b n)
 
 -- each of the entries stands after its owner
 pub record Ordered (es : List Entry) : Type 0 where
   pub earlier : (k : ℕ) → 1 ≤ k → k ≤ length es → ownerOf es k < k
 
--- The index of the first n entries: at o the last entry of owner o, and at 2,017 + k the entry of the same owner before entry k.
-pub record Indexed (es : List Entry) (t : List ℕ) (n : ℕ) : Type 0 where
+-- The index of the first n entries: at b the last entry of bucket b, and at 2,017 + k the entry of the same bucket before entry k.
+pub record Indexed (c : ℕ → ℕ) (t : List ℕ) (n : ℕ) : Type 0 where
   pub size : length t ≡ 4034
-  pub last : (o : ℕ) → o < 2017 → getD t o 0 ≡ lastOwned es o n
-  pub previous : (k : ℕ) → 1 ≤ k → k ≤ n → getD t (2017 + k) 0 ≡ lastOwned es (ownerOf es k) (k - 1)
+  pub last : (b : ℕ) → b < 2017 → getD t b 0 ≡ lastWhere c b n
+  pub previous : (k : ℕ) → 1 ≤ k → k ≤ n → getD t (2017 + k) 0 ≡ lastWhere c (c k) (k - 1)
 
 -- an input with its number of entries and its index
-pub record Ready (s : List ℕ) (total : ℕ) (t : List ℕ) : Type 0 where
+pub record Ready (σ : Schema) (s : List ℕ) (total : ℕ) (t : List ℕ) : Type 0 where
   pub count : total ≡ length (entriesOf s)
   pub few : total ≤ 2016
-  pub index : Indexed (entriesOf s) t total
+  pub index : Indexed (bucketOf σ (entriesOf s)) t total

@@ -8,7 +8,7 @@ ghost use Rattle.blocks.specs.declared.Reading.{Reading};
 ghost use Rattle.blocks.specs.declared.Schema.{Schema};
 ghost use Rattle.fit.specs.Answer.{topFits, secondOf, fitOf};
 use crate::FitAnswer;
-use crate::index::index_owners;
+use crate::index::index_entries;
 use crate::judge::Totals;
 use crate::judge::fits_place;
 use blocks::Reading;
@@ -20,9 +20,9 @@ fn top_fits(s: &[u8], n: usize, d: &[u8], m: usize) -> bool
     ensures { λ r. ⌜ r ≡ topFits (now (s .entry)) (now (d .entry)) ⌝ }
 {
     let mut si = [0u16; 4034];
-    index_owners(s, n, &mut si);
+    index_entries(s, n, Schema::Specimen, &mut si);
     let mut di = [0u16; 4034];
-    index_owners(d, m, &mut di);
+    index_entries(d, m, Schema::Description, &mut di);
     let totals = Totals {
         specimen: n,
         description: m,

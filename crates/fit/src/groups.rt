@@ -1,29 +1,54 @@
 // What the items of one group of a specimen have: properties, and items that they are linked to.
 ghost use mathlib.Core.Path.{_≡_};
-ghost use mathlib.Core.Bool.{_&&_};
+ghost use mathlib.Core.Bool.{cond};
 ghost use Prim.Native.Nat.{_+_, _*_, _≤_, _<_};
 ghost use lib.Dec.{eqb};
+ghost use lib.ListN.{getD};
 ghost use Rattle.blocks.specs.Entries.{entriesOf};
 ghost use Rattle.fit.specs.Groups.{hasProperty, itemsBy, totalBy, meetsAtom};
-ghost use Rattle.fit.specs.Index.{Ready};
+ghost use Rattle.blocks.specs.declared.Schema.{Schema};
+ghost use Rattle.fit.specs.Index.{Ready, hashOf, isOf};
+use crate::index::hash;
 use crate::index::last_of;
 use crate::index::previous_of;
 use blocks::Entry;
 use blocks::Link;
 use blocks::Property;
 
-// Whether an entry gives a property.
-fn gives(e: Entry, p: Property) -> bool
-    ensures { λ r. ⌜ r ≡ eqb (e .kind) 1 && eqb (e .name) (p .0) ⌝ }
+// Whether an entry is of this owner, kind and name.
+fn is_of(e: Entry, owner: usize, kind: u8, name: u16) -> bool
+    ensures { λ r. ⌜ r ≡ isOf e owner kind name ⌝ }
 {
-    if e.kind == 1 { e.name == p.0 } else { false }
+    if e.owner as usize != owner {
+        return false;
+    }
+    if e.kind == kind {
+        e.name == name
+    } else {
+        false
+    }
 }
 
-// Whether an entry is a group by a link.
-pub(crate) fn is_group(e: Entry, l: Link) -> bool
-    ensures { λ r. ⌜ r ≡ eqb (e .kind) 7 && eqb (e .name) (l .0) ⌝ }
+// Whether an entry gives a property to group g.
+fn gives(e: Entry, g: usize, p: Property) -> bool
+    ensures { λ r. ⌜ r ≡ isOf e g 1 (p .0) ⌝ }
 {
-    if e.kind == 7 { e.name == l.0 } else { false }
+    is_of(e, g, 1, p.0)
+}
+
+// Whether an entry is a group by a link that group g owns.
+pub(crate) fn is_group(e: Entry, g: usize, l: Link) -> bool
+    ensures { λ r. ⌜ r ≡ isOf e g 7 (l .0) ⌝ }
+{
+    is_of(e, g, 7, l.0)
+}
+
+// The last entry of the bucket where group g's groups by a link stand, or 0.
+pub(crate) fn last_group(index: &[u16; 4034], g: usize, l: Link) -> usize
+    requires { ⌜ g < 2017 ⌝ }
+    ensures { λ r. ⌜ r ≡ getD (now (index .entry)) (hashOf g 7 (l .0)) 0 ⌝ }
+{
+    last_of(index, hash(g, 7, l.0))
 }
 
 // Whether the items of group g have a property: whether an entry that g owns gives it.
@@ -34,26 +59,26 @@ pub(crate) fn has_property(
     g: usize,
     p: Property,
 ) -> bool
-    requires { ⌜ Ready (now s) total (now index) × (g < 2017) ⌝ }
+    requires { ⌜ Ready Schema.Specimen (now s) total (now index) × (g < 2017) ⌝ }
     ensures { λ r. ⌜ r ≡ hasProperty (entriesOf (now (s .entry))) g (p .0) ⌝ }
 {
-    let mut k = last_of(index, g);
+    let mut k = last_of(index, hash(g, 1, p.0));
     loop {
         if k == 0 {
             break false;
         }
-        if gives(blocks::nth_entry(s, total, k), p) {
+        if gives(blocks::nth_entry(s, total, k), g, p) {
             break true;
         }
         k = previous_of(index, k);
     }
 }
 
-// The items that entry e adds for a link: its count where it is a group by that link.
-fn items_by(e: Entry, l: Link) -> u32
-    ensures { λ r. ⌜ (r ≡ itemsBy e (l .0)) × (r ≤ 65536) ⌝ }
+// The items that entry e adds for group g and a link: its count where it is a group by that link that g owns.
+fn items_by(e: Entry, g: usize, l: Link) -> u32
+    ensures { λ r. ⌜ (r ≡ cond (eqb (e .owner) g) (itemsBy e (l .0)) 0) × (r ≤ 65536) ⌝ }
 {
-    if is_group(e, l) {
+    if is_group(e, g, l) {
         e.number as u32 + 1
     } else {
         0
@@ -63,13 +88,13 @@ fn items_by(e: Entry, l: Link) -> u32
 // The number of items that an item of group g is linked to: the groups of one owner and link add up. At most 2,016 groups of at
 // most 65,536 items, 132,120,576.
 pub(crate) fn total_by(s: &[u8], index: &[u16; 4034], total: usize, g: usize, l: Link) -> u32
-    requires { ⌜ Ready (now s) total (now index) × (g < 2017) ⌝ }
+    requires { ⌜ Ready Schema.Specimen (now s) total (now index) × (g < 2017) ⌝ }
     ensures { λ r. ⌜ r ≡ totalBy (entriesOf (now (s .entry))) g (l .0) ⌝ }
 {
     let mut sum: u32 = 0;
-    let mut k = last_of(index, g);
+    let mut k = last_group(index, g, l);
     while k != 0 {
-        sum += items_by(blocks::nth_entry(s, total, k), l);
+        sum += items_by(blocks::nth_entry(s, total, k), g, l);
         k = previous_of(index, k);
     }
     sum
@@ -77,7 +102,7 @@ pub(crate) fn total_by(s: &[u8], index: &[u16; 4034], total: usize, g: usize, l:
 
 // Whether the items of group g meet an entry of a description that owns no place.
 pub(crate) fn meets_atom(s: &[u8], index: &[u16; 4034], total: usize, g: usize, e: Entry) -> bool
-    requires { ⌜ Ready (now s) total (now index) × (g < 2017) ⌝ }
+    requires { ⌜ Ready Schema.Specimen (now s) total (now index) × (g < 2017) ⌝ }
     ensures { λ r. ⌜ r ≡ meetsAtom (entriesOf (now (s .entry))) g e ⌝ }
 {
     let kind = e.kind;

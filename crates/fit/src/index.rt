@@ -1,9 +1,12 @@
-// The entries of an input, indexed by owner, so that a place costs its own entries and not all of them.
+// The entries of an input, indexed by buckets, so that a look costs the entries of a bucket and not all of them. A description's bucket is
+// a place, since a place is gone over whole. A specimen's entries are looked for by owner, kind and name.
 ghost use mathlib.Core.Path.{_≡_};
 ghost use Prim.Native.Nat.{_+_, _≤_, _<_};
 ghost use lib.ListN.{length, getD, replicate};
 ghost use Rattle.blocks.specs.Entries.{entriesOf};
-ghost use Rattle.fit.specs.Index.{Ordered, Ready};
+ghost use Rattle.fit.specs.Index.{Ordered, Ready, bucketIn, hashOf};
+use blocks::Entry;
+use blocks::Schema;
 
 // An entry number as an index.
 fn wide(x: u16) -> usize
@@ -12,15 +15,34 @@ fn wide(x: u16) -> usize
     x as usize
 }
 
-// The last entry of owner o, or 0.
-pub(crate) fn last_of(index: &[u16; 4034], o: usize) -> usize
-    requires { ⌜ o < 2017 ⌝ }
-    ensures { λ r. ⌜ r ≡ getD (now (index .entry)) o 0 ⌝ }
+// The bucket of an owner, a kind and a name. Of one kind and name, different owners have different buckets: so all groups together look at
+// each entry of a specimen at most once for an entry of a description, whatever names were chosen.
+pub(crate) fn hash(owner: usize, kind: u8, name: u16) -> usize
+    requires { ⌜ owner < 65536 ⌝ }
+    ensures { λ r. ⌜ (r ≡ hashOf owner kind name) × (r < 2017) ⌝ }
 {
-    wide(index[o])
+    (owner + (8 * wide(name) + kind as usize)) % 2017
 }
 
-// The entry of the same owner before entry k, or 0.
+// The bucket of an entry.
+fn bucket(e: Entry, schema: Schema) -> usize
+    ensures { λ r. ⌜ (r ≡ bucketIn schema e) × (r < 65536) ⌝ }
+{
+    match schema {
+        Schema::Description => wide(e.owner),
+        Schema::Specimen => hash(wide(e.owner), e.kind, e.name),
+    }
+}
+
+// The last entry of bucket b, or 0.
+pub(crate) fn last_of(index: &[u16; 4034], b: usize) -> usize
+    requires { ⌜ b < 2017 ⌝ }
+    ensures { λ r. ⌜ r ≡ getD (now (index .entry)) b 0 ⌝ }
+{
+    wide(index[b])
+}
+
+// The entry of the same bucket before entry k, or 0.
 pub(crate) fn previous_of(index: &[u16; 4034], k: usize) -> usize
     requires { ⌜ k < 2017 ⌝ }
     ensures { λ r. ⌜ r ≡ getD (now (index .entry)) (2017 + k) 0 ⌝ }
@@ -29,16 +51,15 @@ pub(crate) fn previous_of(index: &[u16; 4034], k: usize) -> usize
 }
 
 // Fills the index in one pass over the entries.
-pub(crate) fn index_owners(s: &[u8], total: usize, index: &mut [u16; 4034])
+pub(crate) fn index_entries(s: &[u8], total: usize, schema: Schema, index: &mut [u16; 4034])
     requires { ⌜ (total ≡ length (entriesOf (now s))) × (total ≤ 2016) × Ordered (entriesOf (now s)) × (now index ≡ replicate 4034 0) ⌝ }
-    ensures { λ _. ⌜ Ready (now (s .entry)) total (now (index .exit)) ⌝ }
+    ensures { λ _. ⌜ Ready schema (now (s .entry)) total (now (index .exit)) ⌝ }
 {
     let mut n: usize = 1;
     while n <= total {
-        let e = blocks::nth_entry(s, total, n);
-        let o = wide(e.owner);
-        index[2017 + n] = index[o];
-        index[o] = n as u16;
+        let b = bucket(blocks::nth_entry(s, total, n), schema);
+        index[2017 + n] = index[b];
+        index[b] = n as u16;
         n += 1;
     }
 }

@@ -1,12 +1,15 @@
 // Fitting a place and meeting an entry, which call each other. Each pair of a group and a place is come to at most once, by the pair of
-// their owners, and costs the product of their numbers of entries; so the whole costs at most the product of the two inputs' numbers of
-// entries, 2,016 · 1,008 steps of some nanoseconds each. A level of depth takes two frames of the stack.
+// their owners, and costs a look in a bucket for each entry of the place. All groups' looks for one entry go over each entry of the
+// specimen at most once; so the whole costs at most the product of the two inputs' numbers of entries, 2,016 · 1,008 steps of some
+// nanoseconds each, and far less where groups are few or have places of their own. A level of depth takes two frames of the stack.
 ghost use mathlib.Core.Path.{_≡_};
 ghost use Prim.Native.Nat.{_+_, _*_, _≤_, _<_};
 ghost use Rattle.blocks.specs.Entries.{entriesOf};
+ghost use Rattle.blocks.specs.declared.Schema.{Schema};
 ghost use Rattle.fit.specs.Groups.{meetsEntry, fitsPlace};
 ghost use Rattle.fit.specs.Index.{Ready};
 use crate::groups::is_group;
+use crate::groups::last_group;
 use crate::groups::meets_atom;
 use crate::index::last_of;
 use crate::index::previous_of;
@@ -28,7 +31,7 @@ pub(crate) fn fits_place(
     o: usize,
     left: usize,
 ) -> bool
-    requires { ⌜ Ready (now s) (n .specimen) (now si) × Ready (now d) (n .description) (now di) × (g < 2017) × (o < 2017) × (left ≤ 33) ⌝ }
+    requires { ⌜ Ready Schema.Specimen (now s) (n .specimen) (now si) × Ready Schema.Description (now d) (n .description) (now di) × (g < 2017) × (o < 2017) × (left ≤ 33) ⌝ }
     ensures { λ r. ⌜ r ≡ fitsPlace left (entriesOf (now (s .entry))) (entriesOf (now (d .entry))) g o ⌝ }
 {
     let mut e = last_of(di, o);
@@ -54,7 +57,7 @@ pub(crate) fn meets_entry(
     e: usize,
     left: usize,
 ) -> bool
-    requires { ⌜ Ready (now s) (n .specimen) (now si) × Ready (now d) (n .description) (now di) × (g < 2017) × (e < 2017) × (left ≤ 33) ⌝ }
+    requires { ⌜ Ready Schema.Specimen (now s) (n .specimen) (now si) × Ready Schema.Description (now d) (n .description) (now di) × (g < 2017) × (e < 2017) × (left ≤ 33) ⌝ }
     ensures { λ r. ⌜ r ≡ meetsEntry left (entriesOf (now (s .entry))) (entriesOf (now (d .entry))) g e ⌝ }
 {
     if left == 0 {
@@ -66,12 +69,12 @@ pub(crate) fn meets_entry(
         return meets_atom(s, si, n.specimen, g, entry);
     }
     let link = entry.link();
-    let mut h = last_of(si, g);
+    let mut h = last_group(si, g, link);
     loop {
         if h == 0 {
             break true;
         }
-        if is_group(blocks::nth_entry(s, n.specimen, h), link) {
+        if is_group(blocks::nth_entry(s, n.specimen, h), g, link) {
             if !fits_place(s, si, d, di, n, h, e, left - 1) {
                 break false;
             }

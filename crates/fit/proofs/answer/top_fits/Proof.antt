@@ -5,19 +5,19 @@ use Rattle.fit.proofs.AnswerLaws.{accepted-facts, top-judged}
 use Rattle.fit.proofs.answer.top_fits.Statement.{statement}
 use Rattle.fit.proofs.answer.top_fits.Tie as tie
 
-index-owners-requires : tie.Need-index-owners-requires
-index-owners-requires c κs =
+index-entries-requires : tie.Need-index-entries-requires
+index-entries-requires c κs =
     let a = c .before .before .before in
     let f = accepted-facts _ _ _ (a .pre .0) in (f .0, f .1, f .2, refl)
 
-index-owners-requires-2 : tie.Need-index-owners-requires-2
-index-owners-requires-2 c κs =
+index-entries-requires-2 : tie.Need-index-entries-requires-2
+index-entries-requires-2 c κs =
     let a = c .before .before .before .before .before in
     let f = accepted-facts _ _ _ (a .pre .1) in (f .0, f .1, f .2, refl)
 
 fits-place-requires : tie.Need-fits-place-requires
 fits-place-requires c κs =
-    (c .before .before .before .before .index-owners .ensures, c .before .before .index-owners2 .ensures, omega arith, omega arith, omega arith)
+    (c .before .before .before .before .index-entries .ensures, c .before .before .index-entries2 .ensures, omega arith, omega arith, omega arith)
 
 returns : tie.Need-returns
 returns c =
@@ -27,4 +27,4 @@ returns c =
 pub top-fits-spec : {M : Type 1} → statement M
 top-fits-spec =
     tie.close
-    (tie.spec index-owners-requires index-owners-requires-2 fits-place-requires returns)
+    (tie.spec index-entries-requires index-entries-requires-2 fits-place-requires returns)

@@ -4,34 +4,32 @@ use borrow.Author.Needs.{needs}
 use mathlib.Core.Path.{_≡_}
 use native.Mathlib.Omega.{arith}
 use Rattle.blocks.specs.Entries.{entriesOf}
-use Rattle.blocks.specs.declared.Entry.{Entry}
-use Rattle.fit.proofs.GroupLaws.{itemsAt, read-here}
+use Rattle.blocks.specs.declared.Schema.the-variants.{Specimen}
+use Rattle.fit.proofs.BucketLaws.{hash-below}
+use Rattle.fit.proofs.GroupLaws.{items-here, itemsAt, total-bucket}
 use Rattle.fit.proofs.WalkLaws.{Standing, sum-ends, sum-goes, sum-starts, walk-falls, walk-goes, walk-starts}
-use Rattle.fit.specs.Groups.{itemsBy, sumOwned, totalBy}
+use Rattle.fit.specs.Groups.{sumWhere, totalBy}
+use Rattle.fit.specs.Index.{bucketOf, hashOf}
 use Rattle.fit.proofs.groups.total_by.Statement.{statement}
 use Rattle.fit.proofs.groups.total_by.Tie as tie
 
 abbrev Inv-loop : tie.InvT-loop
 Inv-loop s index total g l sum₀ k₀ sum k =
-    Standing (entriesOf s) g k total × (totalBy (entriesOf s) g (l .0) ≡ sum + sumOwned (itemsAt (entriesOf s) (l .0)) (entriesOf s) g k)
+    Standing (bucketOf Specimen (entriesOf s)) (hashOf g 7 (l .0)) k total
+    × (totalBy (entriesOf s) g (l .0) ≡ sum + sumWhere (bucketOf Specimen (entriesOf s)) (itemsAt (entriesOf s) g (l .0)) (hashOf g 7 (l .0)) k)
     × (sum + 65536 * k ≤ 65536 * total)
 
 abbrev μ-loop : tie.MeasureT-loop
 μ-loop s index total g l sum₀ k₀ sum k = k
 
--- the entry that is read adds what it adds in the list
-items-read : (c : tie.After-items-by Inv-loop μ-loop)
-    → itemsAt (entriesOf (c .before .before .before .before .before .before .args .s .now)) (c .before .before .before .before .before .before .args .l .0) (c .before .before .before .loop .k) ≡ c .items-by .result
-items-read c =
-    let a = c .before .before .before .before .before .before in
-    read-here (a .pre .0) (λ (e : Entry). itemsBy e (a .args .l .0)) (c .before .before .before .loop .k) (c .before .nth-entry .ensures) (c .items-by .ensures .0)
-
 loop-holds : tie.Need-loop-holds Inv-loop μ-loop
-unfolding totalBy
 loop-holds c =
     let a = c .before .before in
-    let w = walk-starts (a .pre .0) _ (a .pre .1) (c .last-of .ensures) in
-    let s = sum-starts (a .pre .0) _ (itemsAt (entriesOf (a .args .s .now)) (a .args .l .0)) (a .pre .1) (c .last-of .ensures) in
+    let g = a .args .g in
+    let l = a .args .l .0 in
+    let w = walk-starts (a .pre .0) (hashOf g 7 l) (hash-below g 7 l) (c .last-group .ensures) in
+    let t = total-bucket (entriesOf (a .args .s .now)) g l in
+    let s = sum-starts (a .pre .0) (hashOf g 7 l) (itemsAt (entriesOf (a .args .s .now)) g l) (hash-below g 7 l) (c .last-group .ensures) in
     (w, omega arith, omega (arith, w .bound))
 
 add-sum : tie.Need-add-sum Inv-loop μ-loop
@@ -56,17 +54,18 @@ loop-again c =
     let l = c .before .before .before .before in
     let a = l .before .before .before in
     let z = c .before .before .before .loop-test .taken in
-    let f = itemsAt (entriesOf (a .args .s .now)) (a .args .l .0) in
+    let g = a .args .g in
+    let link = a .args .l .0 in
     let falls = walk-falls (a .pre .0) _ (l .loop .inv .0) z (c .previous-of .ensures) in
-    let goes = sum-goes (a .pre .0) _ (l .loop .inv .0) z (c .previous-of .ensures) f in
-    let here = items-read (c .before) in
+    let goes = sum-goes (a .pre .0) (hashOf g 7 link) (l .loop .inv .0) z (c .previous-of .ensures) (itemsAt (entriesOf (a .args .s .now)) g link) in
+    let here = items-here (a .pre .0) g link (l .loop .k) (c .before .before .nth-entry .ensures) (c .before .items-by .ensures .0) in
     (walk-goes (a .pre .0) _ (l .loop .inv .0) z (c .previous-of .ensures), omega (arith, l .loop .inv .1), omega (arith, l .loop .inv .2, c .before .items-by .ensures .1))
 
 returns : tie.Need-returns Inv-loop μ-loop
 returns c =
     let l = c .before in
-    let a = l .before .before .before in
-    let e = sum-ends (itemsAt (entriesOf (a .args .s .now)) (a .args .l .0)) (entriesOf (a .args .s .now)) (a .args .g) (c .loop-test .left) in
+    let a = l .before .before .before .args in
+    let e = sum-ends (bucketOf Specimen (entriesOf (a .s .now))) (itemsAt (entriesOf (a .s .now)) (a .g) (a .l .0)) (hashOf (a .g) 7 (a .l .0)) (c .loop-test .left) in
     omega (arith, l .loop .inv .1)
 
 pub total-by-spec : {M : Type 1} → statement M

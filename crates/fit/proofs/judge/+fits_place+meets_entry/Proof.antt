@@ -11,9 +11,13 @@ use Rattle.base.proofs.Tests.{confirmed, refuted, true-of-not, false-of-not}
 use Rattle.blocks.proofs.EntryLaws.{of-nth}
 use Rattle.blocks.specs.Entries.{entriesOf}
 use Rattle.blocks.specs.declared.Entry.{Entry}
-use Rattle.fit.specs.Groups.{allOwned, meetsEntry, fitsPlace}
+use Rattle.blocks.specs.Owners.{ownerOf}
+use Rattle.blocks.specs.declared.Schema.the-variants.{Specimen}
+use Rattle.fit.specs.Groups.{allOwned, allWhere, meetsEntry, fitsPlace}
+use Rattle.fit.specs.Index.{bucketOf, hashOf}
+use Rattle.fit.proofs.BucketLaws.{hash-below}
 use Rattle.fit.proofs.WalkLaws.{Standing, walk-starts, walk-goes, walk-falls, all-starts, all-goes, all-no, all-ends}
-use Rattle.fit.proofs.MeetLaws.{meets-bottom, meets-atoms, groupFits, meets-groups, other-passes, group-decides}
+use Rattle.fit.proofs.MeetLaws.{meets-bottom, meets-atoms, ownFits, meets-bucket, other-passes, group-decides}
 use Rattle.fit.proofs.judge.fits_place.Reads as fits-place
 use Rattle.fit.proofs.judge.fits_place.Kinds as fits-place-kinds
 use Rattle.fit.proofs.judge.+fits_place+meets_entry.Lts-fits_place as fits-place-lts
@@ -23,6 +27,7 @@ use Rattle.fit.proofs.judge.+fits_place+meets_entry.Lts-meets_entry as 
 use Rattle.blocks.proofs.Entry.link.Reads as link-reads
 use Rattle.blocks.proofs.nth_entry.Reads as nth-entry-reads
 use Rattle.fit.proofs.groups.is_group.Reads as is-group-reads
+use Rattle.fit.proofs.groups.last_group.Reads as last-group-reads
 use Rattle.fit.proofs.groups.meets_atom.Reads as meets-atom-reads
 use Rattle.fit.proofs.index.last_of.Reads as last-of-reads
 use Rattle.fit.proofs.index.previous_of.Reads as previous-of-reads
@@ -60,8 +65,8 @@ meets-entry-calls t = (
   meets-atom-reads.Learnt,
   link-reads.Asked,
   link-reads.Learnt,
-  last-of-reads.Asked,
-  last-of-reads.Learnt,
+  last-group-reads.Asked,
+  last-group-reads.Learnt,
   is-group-reads.Asked,
   is-group-reads.Learnt,
   fits-place-below t,
@@ -74,7 +79,7 @@ meets-entry-calls t = (
 
 abbrev fits-place-Inv-loop : fits-place-lts.InvT-loop
 fits-place-Inv-loop s si d di n g o left e₀ e =
-    Standing (entriesOf d) o e (n .description)
+    Standing (ownerOf (entriesOf d)) o e (n .description)
     × (fitsPlace left (entriesOf s) (entriesOf d) g o ≡ allOwned (meetsEntry left (entriesOf s) (entriesOf d) g) (entriesOf d) o e)
 
 abbrev fits-place-μ-loop : fits-place-lts.MeasureT-loop
@@ -121,22 +126,23 @@ fits-place-returns : (t : ℕ) → fits-place-lts.Need-returns (fits-place-calls
 fits-place-returns t c =
     let l = c .before in
     let a = l .before .before .before .before in
-    sym (l .loop .inv .1 ∙ all-ends (meetsEntry (a .args .left) (entriesOf (a .args .s .now)) (entriesOf (a .args .d .now)) (a .args .g)) _ _ (c .if1 .taken))
+    sym (l .loop .inv .1 ∙ all-ends (ownerOf (entriesOf (a .args .d .now))) (meetsEntry (a .args .left) (entriesOf (a .args .s .now)) (entriesOf (a .args .d .now)) (a .args .g)) _ (c .if1 .taken))
 
 fits-place-returns-2 : (t : ℕ) → fits-place-lts.Need-returns-2 (fits-place-calls t) (fits-place-at t) fits-place.Post fits-place-Inv-loop fits-place-μ-loop
 fits-place-returns-2 t c =
     let l = c .before .before .before in
     let a = l .before .before .before .before in
     let z = c .before .before .if1 .left in
-    sym (l .loop .inv .1 ∙ all-no (meetsEntry (a .args .left) (entriesOf (a .args .s .now)) (entriesOf (a .args .d .now)) (a .args .g)) _ _ _ z (l .loop .inv .0 .owner z)
+    sym (l .loop .inv .1 ∙ all-no (ownerOf (entriesOf (a .args .d .now))) (meetsEntry (a .args .left) (entriesOf (a .args .s .now)) (entriesOf (a .args .d .now)) (a .args .g)) _ _ z (l .loop .inv .0 .bucket z)
     (refuted (c .before .meets-entry .ensures) (c .if2 .taken)))
 
 -- ---- meeting an entry: of an 'every', what the groups left ask is what all ask
 
 abbrev meets-entry-Inv-loop : meets-entry-lts.InvT-loop
 meets-entry-Inv-loop s si d di n g e left kind link h₀ h =
-    Standing (entriesOf s) g h (n .specimen)
-    × (meetsEntry left (entriesOf s) (entriesOf d) g e ≡ allOwned (groupFits (left - 1) (entriesOf s) (entriesOf d) e (link .0)) (entriesOf s) g h)
+    Standing (bucketOf Specimen (entriesOf s)) (hashOf g 7 (link .0)) h (n .specimen)
+    × (meetsEntry left (entriesOf s) (entriesOf d) g e
+    ≡ allWhere (bucketOf Specimen (entriesOf s)) (ownFits (left - 1) (entriesOf s) (entriesOf d) e g (link .0)) (hashOf g 7 (link .0)) h)
 
 abbrev meets-entry-μ-loop : meets-entry-lts.MeasureT-loop
 meets-entry-μ-loop s si d di n g e left kind link h₀ h = h
@@ -153,11 +159,13 @@ meets-entry-returns-2 t c =
 meets-entry-loop-holds : (t : ℕ) → meets-entry-lts.Need-loop-holds (meets-entry-calls t) (meets-entry-at t) meets-entry.Post meets-entry-Inv-loop meets-entry-μ-loop
 meets-entry-loop-holds t c =
     let a = c .before .before .before .before .before .before .before in
-    let R = a .pre .1 .0 in (
-      walk-starts R _ (a .pre .1 .2) (c .last-of .ensures),
-      meets-groups _ _ _ _ _ (c .before .before .before .before .if1 .left) (c .before .before .before .nth-entry .ensures ∙ of-nth _ _ _ (a .pre .1 .1 .count))
+    let R = a .pre .1 .0 in
+    let g = a .args .g in
+    let link = c .before .link .result .0 in (
+      walk-starts R _ (hash-below g 7 link) (c .last-group .ensures),
+      meets-bucket _ _ _ _ _ (c .before .before .before .before .if1 .left) (c .before .before .before .nth-entry .ensures ∙ of-nth _ _ _ (a .pre .1 .1 .count))
           (c .before .before .if2 .left) (c .before .link .ensures)
-          ∙ all-starts R _ (groupFits (a .args .left - 1) (entriesOf (a .args .s .now)) (entriesOf (a .args .d .now)) (a .args .e) (c .before .link .result .0)) (a .pre .1 .2) (c .last-of .ensures),
+          ∙ all-starts R _ (ownFits (a .args .left - 1) (entriesOf (a .args .s .now)) (entriesOf (a .args .d .now)) (a .args .e) g link) (hash-below g 7 link) (c .last-group .ensures),
     )
 
 meets-entry-fits-place-requires : (t : ℕ) → meets-entry-lts.Need-fits-place-requires (meets-entry-calls t) (meets-entry-at t) meets-entry.Post meets-entry-Inv-loop meets-entry-μ-loop
@@ -188,10 +196,10 @@ meets-entry-loop-again t c =
     let is′ = c .before .before .is-group .ensures in (
       walk-goes (a .pre .1 .0) _ (l .loop .inv .0) z (c .previous-of .ensures),
       l .loop .inv .1 ∙ all-goes (a .pre .1 .0) _ (l .loop .inv .0) z (c .previous-of .ensures)
-          (groupFits (a .args .left - 1) (entriesOf (a .args .s .now)) (entriesOf (a .args .d .now)) (a .args .e) link)
+          (ownFits (a .args .left - 1) (entriesOf (a .args .s .now)) (entriesOf (a .args .d .now)) (a .args .e) (a .args .g) link)
           (⊎-elim
-          (λ w. group-decides (a .pre .1 .0) (a .args .left - 1) _ (a .args .e) link (l .loop .h) read is′ (w .0 .taken) (w .1 .ensures) ∙ true-of-not _ (w .2 .left))
-          (λ w. other-passes (a .pre .1 .0) (a .args .left - 1) _ (a .args .e) link (l .loop .h) read is′ (w .left))
+          (λ w. group-decides (a .pre .1 .0) (a .args .left - 1) _ (a .args .e) (a .args .g) link (l .loop .h) read is′ (w .0 .taken) (w .1 .ensures) ∙ true-of-not _ (w .2 .left))
+          (λ w. other-passes (a .pre .1 .0) (a .args .left - 1) _ (a .args .e) (a .args .g) link (l .loop .h) read is′ (w .left))
           (c .before .if4 .came)),
     )
 
@@ -199,7 +207,7 @@ meets-entry-returns-3 : (t : ℕ) → meets-entry-lts.Need-returns-3 (meets-entr
 meets-entry-returns-3 t c =
     let l = c .before in
     let a = l .before .before .before .before .before .before .before .before in
-    sym (l .loop .inv .1 ∙ all-ends (groupFits (a .args .left - 1) (entriesOf (a .args .s .now)) (entriesOf (a .args .d .now)) (a .args .e) (l .before .before .link .result .0)) _ _ (c .if3 .taken))
+    sym (l .loop .inv .1 ∙ all-ends (bucketOf Specimen (entriesOf (a .args .s .now))) (ownFits (a .args .left - 1) (entriesOf (a .args .s .now)) (entriesOf (a .args .d .now)) (a .args .e) (a .args .g) (l .before .before .link .result .0)) _ (c .if3 .taken))
 
 meets-entry-returns-4 : (t : ℕ) → meets-entry-lts.Need-returns-4 (meets-entry-calls t) (meets-entry-at t) meets-entry.Post meets-entry-Inv-loop meets-entry-μ-loop
 meets-entry-returns-4 t c =
@@ -207,8 +215,8 @@ meets-entry-returns-4 t c =
     let a = l .before .before .before .before .before .before .before .before in
     let z = c .before .before .before .before .before .if3 .left in
     let link = l .before .before .link .result .0 in
-    sym (l .loop .inv .1 ∙ all-no (groupFits (a .args .left - 1) (entriesOf (a .args .s .now)) (entriesOf (a .args .d .now)) (a .args .e) link) _ _ _ z (l .loop .inv .0 .owner z)
-    (group-decides (a .pre .1 .0) (a .args .left - 1) _ (a .args .e) link (l .loop .h) (c .before .before .before .before .nth-entry2 .ensures)
+    sym (l .loop .inv .1 ∙ all-no (bucketOf Specimen (entriesOf (a .args .s .now))) (ownFits (a .args .left - 1) (entriesOf (a .args .s .now)) (entriesOf (a .args .d .now)) (a .args .e) (a .args .g) link) _ _ z (l .loop .inv .0 .bucket z)
+    (group-decides (a .pre .1 .0) (a .args .left - 1) _ (a .args .e) (a .args .g) link (l .loop .h) (c .before .before .before .before .nth-entry2 .ensures)
     (c .before .before .before .is-group .ensures) (c .before .before .if4 .taken) (c .before .fits-place .ensures) ∙ false-of-not _ (c .if5 .taken)))
 
 pub +fits-place+meets-entry-spec : {M : Type 1} → statement M

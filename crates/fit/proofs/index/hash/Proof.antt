@@ -1,0 +1,15 @@
+-- `hash` meets its contract.
+use borrow.Author.Needs.{needs}
+use Rattle.fit.proofs.BucketLaws.{hash-is}
+use Rattle.fit.proofs.index.hash.Statement.{statement}
+use Rattle.fit.proofs.index.hash.Tie as tie
+
+returns : tie.Need-returns
+returns c =
+    let a = c .before .args in
+    hash-is (a .owner) (a .kind) (a .name) (c .wide .ensures .0)
+
+pub hash-spec : {M : Type 1} → statement M
+hash-spec =
+    tie.close
+    (tie.spec (λ c κs. search needs) (λ c. search needs) (λ c. search needs) (λ c. search needs) returns)
