@@ -15,8 +15,9 @@ use Rattle.normal.proofs.ChainLaws.{chain-new}
 use Rattle.normal.proofs.SearchLaws.{keysOf}
 use Rattle.normal.proofs.TableLaws.{key-made, position-found, position-none, slot-made, slots-last, slots-other, tighten-found, tighten-none}
 use Rattle.normal.specs.Chain.{Chains, changed, scan}
+use Rattle.normal.specs.Keys.{keyNumber}
 use Rattle.normal.specs.Normal.{found, same}
-use Rattle.normal.specs.Tables.{Entered, Kept, hashOf, highIn, highPart, keyIn, keyNumber, lowPart, slotNumber}
+use Rattle.normal.specs.Tables.{Entered, Kept, hashOf, highIn, highPart, keyIn, lowPart, slotNumber}
 
 -- ---- what a search finds
 

@@ -1,57 +1,80 @@
--- Packed keys: equal where the keys are one, ascending as the tags do; and the search for a key on the chains.
+-- Keys as numbers: made of their parts, equal where the keys are one, ascending as the tags do; and the bounds of the slots of entries.
 -- Assumes nothing.
-use Prim.Native.Nat.{_+_, _<_, _≤_, suc, ℕ}
+use Prim.Native.Nat.{_%_, _*_, _+_, _/_, _<_, _≤_, suc, ℕ}
 use lib.Dec.{eqb, ltb}
-use lib.ListN.{length}
-use mathlib.Core.Bool.{Bool, _&&_, _||_, cond, false, false≢true, true}
+use mathlib.Core.Bool.{Bool, _&&_, _||_, false, false≢true, true}
 use mathlib.Core.List.{List, [], _∷_}
 use mathlib.Core.Option.{Option, none, some}
-use mathlib.Core.Path.{_∙_, _≡_, refl}
+use mathlib.Core.Path.{_≡_, refl}
 use native.Mathlib.Omega.{arith}
 use Rattle.base.proofs.Cases.{opt-cases}
-use Rattle.base.proofs.Tests.{and-both, and-left, and-right, bool-cases, eq-eqb, iff-eq, neither-left, neither-right, tests}
+use Rattle.base.proofs.Tests.{and-both, and-left, and-right, bool-cases, iff-eq, tests}
 use Rattle.fit.specs.Description.{Atom, Kind, atom, has, lacks, least, most, nothing}
 use Rattle.fit.specs.Record.{bit}
 use Rattle.fit.specs.Tree.{Row, leafRow, nodeRow}
-use Rattle.normal.proofs.ChainLaws.{scan-found, scan-gap}
 use Rattle.normal.proofs.Order.{before-eq, before-lt}
-use Rattle.normal.proofs.SlotLaws.{key-name, key-place, name-class, name-eq, position-from}
-use Rattle.normal.proofs.SlotNumbers.{position-key, position-range}
-use Rattle.normal.specs.Chain.{scan}
-use Rattle.normal.specs.Keys.{Small, SmallRows, SmallSlot, SmallSlots, SmallTop, keyAt, packedKey, slotKey}
+use Rattle.normal.specs.Keys.{Small, SmallRows, SmallSlot, SmallSlots, SmallTop, keyNumber}
 use Rattle.normal.specs.Normal.{before}
-use Rattle.normal.specs.Slots.{DistinctSlots, Slot, build, high, isLink, leading, low, position, sameKey, slot, slotAt, slots, smaller, taken, tighten}
+use Rattle.normal.specs.Slots.{Slot, build, high, isLink, leading, low, position, sameKey, slot, slots, smaller, tighten}
 
 -- ---- numbers
 
--- two packedKey keys are equal where the keys are one
-pub packed-same : (u : ℕ) (b : Bool) (n v : ℕ) (b′ : Bool) (n′ : ℕ) → Small n → Small n′ → eqb (packedKey u b n) (packedKey v b′ n′) ≡ sameKey u b n v b′ n′
-packed-same u true n v true n′ o o′ =
+-- the bit of a class
+bit-of : (k : ℕ) → bit (eqb (k / 65536 % 2) 1) ≡ k / 65536 % 2
+bit-of k = bool-cases (eqb (k / 65536 % 2) 1) (λ q. rw q (omega tests)) (λ q. rw q (omega tests))
+
+-- a key is made of its parts
+pub key-parts : (k : ℕ) → keyNumber (k / 131072) (eqb (k / 65536 % 2) 1) (k % 65536) ≡ k
+unfolding keyNumber
+key-parts k = rw (keyNumber, bit-of k) (omega arith)
+
+pub class-of : (v : ℕ) (b : Bool) (n : ℕ) → n < 65536 → eqb (keyNumber v b n / 65536 % 2) 1 ≡ b
+unfolding keyNumber
+class-of v true n h = let e : (131072 * v + (65536 * 1 + n)) / 65536 % 2 ≡ 1 = omega arith in rw e
+class-of v false n h = let e : (131072 * v + (65536 * 0 + n)) / 65536 % 2 ≡ 0 = omega arith in rw e
+
+bit-small : (b : Bool) → bit b ≤ 1
+bit-small true = omega arith
+bit-small false = omega arith
+
+pub place-of-key : (v : ℕ) (b : Bool) (n : ℕ) → n < 65536 → keyNumber v b n / 131072 ≡ v
+unfolding keyNumber
+place-of-key v b n h = omega (arith, bit-small b)
+
+pub name-of-key : (v : ℕ) (b : Bool) (n : ℕ) → n < 65536 → keyNumber v b n % 65536 ≡ n
+unfolding keyNumber
+name-of-key v b n h = omega (arith, bit-small b)
+
+-- two numbers are equal where the keys are one
+pub key-same : (u : ℕ) (b : Bool) (n v : ℕ) (b′ : Bool) (n′ : ℕ) → Small n → Small n′ → eqb (keyNumber u b n) (keyNumber v b′ n′) ≡ sameKey u b n v b′ n′
+unfolding keyNumber
+key-same u true n v true n′ o o′ =
     iff-eq (λ h. and-both {a = eqb u v} {b = eqb n n′} (omega tests) (omega tests))
     (λ h. let p : eqb u v ≡ true = and-left (eqb u v) (eqb n n′) h in let q : eqb n n′ ≡ true = and-right (eqb u v) (eqb n n′) h in omega tests)
-packed-same u true n v false n′ o o′ = iff-eq (λ h. absurd (omega tests)) (λ h. absurd (false≢true (and-right (eqb u v) false h)))
-packed-same u false n v true n′ o o′ = iff-eq (λ h. absurd (omega tests)) (λ h. absurd (false≢true (and-right (eqb u v) false h)))
-packed-same u false n v false n′ o o′ =
+key-same u true n v false n′ o o′ = iff-eq (λ h. absurd (omega tests)) (λ h. absurd (false≢true (and-right (eqb u v) false h)))
+key-same u false n v true n′ o o′ = iff-eq (λ h. absurd (omega tests)) (λ h. absurd (false≢true (and-right (eqb u v) false h)))
+key-same u false n v false n′ o o′ =
     iff-eq (λ h. and-both {a = eqb u v} {b = eqb n n′} (omega tests) (omega tests))
     (λ h. let p : eqb u v ≡ true = and-left (eqb u v) (eqb n n′) h in let q : eqb n n′ ≡ true = and-right (eqb u v) (eqb n n′) h in omega tests)
 
 -- one stands below another where its place does, or at one place its class and name
-pub packed-below : (u : ℕ) (b : Bool) (n v : ℕ) (b′ : Bool) (n′ : ℕ) → Small n → Small n′ → packedKey u b n < packedKey v b′ n′
+pub key-below : (u : ℕ) (b : Bool) (n v : ℕ) (b′ : Bool) (n′ : ℕ) → Small n → Small n′ → keyNumber u b n < keyNumber v b′ n′
     → (ltb u v || (eqb u v && before (bit b) n (bit b′) n′)) ≡ true
-packed-below u b n v b′ n′ o o′ h =
+unfolding keyNumber
+key-below u b n v b′ n′ o o′ h =
     bool-cases (ltb u v)
     (λ z. rw z)
     (λ z.
     let e : eqb u v ≡ true = same-place b b′ z h in
     rw (z, e) (below b b′ e h))
   where
-    same-place : (b b′ : Bool) → ltb u v ≡ false → packedKey u b n < packedKey v b′ n′ → eqb u v ≡ true
+    same-place : (b b′ : Bool) → ltb u v ≡ false → keyNumber u b n < keyNumber v b′ n′ → eqb u v ≡ true
     same-place true true z h = omega tests
     same-place true false z h = omega tests
     same-place false true z h = omega tests
     same-place false false z h = omega tests
 
-    below : (b b′ : Bool) → eqb u v ≡ true → packedKey u b n < packedKey v b′ n′ → before (bit b) n (bit b′) n′ ≡ true
+    below : (b b′ : Bool) → eqb u v ≡ true → keyNumber u b n < keyNumber v b′ n′ → before (bit b) n (bit b′) n′ ≡ true
     below true true e h = before-eq 1 n 1 n′ refl (omega tests)
     below true false e h = absurd (omega tests)
     below false true e h = before-lt 0 n 1 n′ (omega arith)
@@ -99,48 +122,3 @@ small-build ν ss k (nodeRow p l ∷ rs) s o =
 pub slots-small : (rs : List (Row Atom ℕ)) → SmallRows rs → SmallSlots (slots rs)
 unfolding slots
 slots-small rs o = small-build _ [] 1 rs tt o
-
-pub small-at : (k : ℕ) (ss : List Slot) → SmallSlots ss → (j : ℕ) → SmallSlot (slotAt k ss j)
-unfolding slotAt
-small-at k [] a j = (omega arith, omega arith, tt)
-small-at k (s ∷ ss) a j = bool-cases (eqb j k) (λ q. rw q (a .0)) (λ q. rw q (small-at (suc k) ss (a .1) j))
-
--- ---- the search for a key
-
-absent : (k : ℕ) (ss : List Slot) (v : ℕ) (b : Bool) (n j : ℕ) → SmallSlots ss → Small n → taken ss v b n ≡ false → k ≤ j → j < k + length ss
-    → eqb (slotKey (slotAt k ss j)) (packedKey v b n) ≡ false
-unfolding taken slotAt
-absent k [] v b n j os on e i l = absurd (omega arith)
-absent k (slot u b′ n′ lo hi ∷ ss) v b n j os on e i l =
-    bool-cases (eqb j k)
-    (λ q. rw (q, packed-same u b′ n′ v b n (os .0 .0) on) (neither-left (sameKey u b′ n′ v b n) (taken ss v b n) e))
-    (λ q. rw q (absent (suc k) ss v b n j (os .1) on (neither-right (sameKey u b′ n′ v b n) (taken ss v b n) e) (omega tests) (omega arith)))
-
-past-position : (k : ℕ) (ss : List Slot) (v : ℕ) (b : Bool) (n j : ℕ) → SmallSlots ss → Small n → DistinctSlots ss → taken ss v b n ≡ true
-    → position k ss v b n < j → j < k + length ss → eqb (slotKey (slotAt k ss j)) (packedKey v b n) ≡ false
-unfolding taken position slotAt
-past-position k [] v b n j os on d e i l = absurd (false≢true e)
-past-position k (slot u b′ n′ lo hi ∷ ss) v b n j os on d e i l =
-    bool-cases (sameKey u b′ n′ v b n)
-    (λ q.
-    let i′ : k < j = rw q at i in
-    let z : eqb j k ≡ false = omega tests in
-    let s = key-name u b′ n′ v b n q in
-    let f : taken ss v b n ≡ false = rw (← (key-place u b′ n′ v b n q), ← (name-class b′ n′ b n s), ← (name-eq b′ n′ b n s)) (d .0) in
-    rw z (absent (suc k) ss v b n j (os .1) on f (omega arith) (omega arith)))
-    (λ q.
-    let t : taken ss v b n ≡ true = rw q at e in
-    let i′ : position (suc k) ss v b n < j = rw q at i in
-    let z : eqb j k ≡ false = omega (tests, position-from (suc k) ss v b n) in
-    rw z (past-position (suc k) ss v b n j (os .1) on (d .1) t i′ (omega arith)))
-
--- the search finds the slot of a key, and 0 where there is none
-pub scan-position : (ss : List Slot) (v : ℕ) (b : Bool) (n : ℕ) → SmallSlots ss → Small n → DistinctSlots ss
-    → scan (keyAt ss) (packedKey v b n) (length ss) ≡ cond (taken ss v b n) (position 1 ss v b n) 0
-scan-position ss v b n os on d =
-    bool-cases (taken ss v b n)
-    (λ t.
-    let r = position-range 1 ss v b n t in
-    rw t (scan-gap (keyAt ss) (packedKey v b n) (length ss) (position 1 ss v b n) (omega (arith, r)) (λ j a l. past-position 1 ss v b n j os on d t a (omega arith))
-    ∙ scan-found (keyAt ss) (packedKey v b n) (position 1 ss v b n) (position-from 1 ss v b n) (eq-eqb (position-key 1 ss v b n t))))
-    (λ t. rw t (scan-gap (keyAt ss) (packedKey v b n) (length ss) 0 (omega arith) (λ j a l. absent 1 ss v b n j os on t (omega arith) (omega arith)) ∙ (unfold scan in refl)))

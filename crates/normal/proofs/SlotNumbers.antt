@@ -15,7 +15,6 @@ use Rattle.normal.proofs.FormNormal.{form-find, form-sub}
 use Rattle.normal.proofs.Forms.{form}
 use Rattle.normal.proofs.SlotLaws.{key-name, key-place, name-class, name-eq, position-from}
 use Rattle.normal.proofs.WrittenLists.{value-none}
-use Rattle.normal.specs.Keys.{packedKey, slotKey}
 use Rattle.normal.specs.Normal.{atMost, find, sub}
 use Rattle.normal.specs.Slots.{Cell, Slot, cell, cells, dies, isLink, lookup, position, sameKey, sameName, settled, shut, slot, slotAt, slotHigh, slotLow, slots, taken, value}
 
@@ -27,19 +26,6 @@ position-range k (slot u b′ n′ lo hi ∷ ss) v b n e =
     bool-cases (sameKey u b′ n′ v b n)
     (λ q. rw q (omega arith))
     (λ q. rw q (omega (arith, position-range (suc k) ss v b n (rw q at e))))
-
--- the slot of a key has it
-pub position-key : (k : ℕ) (ss : List Slot) (v : ℕ) (b : Bool) (n : ℕ) → taken ss v b n ≡ true → slotKey (slotAt k ss (position k ss v b n)) ≡ packedKey v b n
-unfolding taken position slotAt
-position-key k [] v b n e = absurd (false≢true e)
-position-key k (slot u b′ n′ lo hi ∷ ss) v b n e =
-    bool-cases (sameKey u b′ n′ v b n)
-    (λ q.
-    let s : sameName b′ n′ b n ≡ true = key-name u b′ n′ v b n q in
-    rw (q, eqb-self k, key-place u b′ n′ v b n q, name-class b′ n′ b n s, name-eq b′ n′ b n s))
-    (λ q.
-    let z : eqb (position (suc k) ss v b n) k ≡ false = omega (tests, position-from (suc k) ss v b n) in
-    rw (q, z) (position-key (suc k) ss v b n (rw q at e)))
 
 -- the cell of a name is the settled slot of the key
 pub lookup-number : (k : ℕ) (ss : List Slot) (v : ℕ) (b : Bool) (n : ℕ) → lookup (cells k ss v) b n

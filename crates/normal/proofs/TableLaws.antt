@@ -12,11 +12,12 @@ use mathlib.Core.Path.{_∙_, _≡_, ap, refl, sym}
 use native.Mathlib.Nat.{add-suc, add-zero, suc-add}
 use native.Mathlib.Omega.{arith}
 use Rattle.base.proofs.Split.{place-of, row-of}
-use Rattle.base.proofs.Tests.{and-both, bool-cases, eq-cases, eq-eqb, eqb-eq, eqb-self, ge-ltb, iff-eq, lt-cases, lt-ltb, tests}
-use Rattle.fit.specs.Record.{bit}
-use Rattle.normal.proofs.SlotLaws.{class-self, key-name, key-place, name-class, name-eq}
-use Rattle.normal.specs.Slots.{Slot, position, sameKey, sameName, slot, smaller, tighten}
-use Rattle.normal.specs.Tables.{highIn, highPart, keyIn, keyNumber, lowPart, slotIn, slotNumber, slotsFrom}
+use Rattle.base.proofs.Tests.{and-both, eq-cases, eq-eqb, eqb-self, ge-ltb, lt-cases, lt-ltb, tests}
+use Rattle.normal.proofs.KeyLaws.{class-of, key-parts, key-same, name-of-key, place-of-key}
+use Rattle.normal.proofs.SlotLaws.{class-self}
+use Rattle.normal.specs.Keys.{keyNumber}
+use Rattle.normal.specs.Slots.{Slot, position, sameKey, slot, smaller, tighten}
+use Rattle.normal.specs.Tables.{highIn, highPart, keyIn, lowPart, slotIn, slotNumber, slotsFrom}
 
 -- ---- taking a number apart
 
@@ -33,32 +34,6 @@ low-made key lo hi l h =
 pub high-made : (key lo hi : ℕ) → lo < 131072 → hi < 131072 → highPart (slotNumber key lo hi) ≡ hi
 unfolding highPart slotNumber
 high-made key lo hi l h = ap (λ (x : ℕ). x % 131072) (omega arith) ∙ place-of {r = 131072} (131072 * key + lo) hi h
-
--- the bit of a class
-pub bit-of : (k : ℕ) → bit (eqb (k / 65536 % 2) 1) ≡ k / 65536 % 2
-bit-of k = bool-cases (eqb (k / 65536 % 2) 1) (λ q. rw q (omega tests)) (λ q. rw q (omega tests))
-
--- a key is made of its parts
-key-parts : (k : ℕ) → keyNumber (k / 131072) (eqb (k / 65536 % 2) 1) (k % 65536) ≡ k
-unfolding keyNumber
-key-parts k = rw (keyNumber, bit-of k) (omega arith)
-
-class-of : (v : ℕ) (b : Bool) (n : ℕ) → n < 65536 → eqb (keyNumber v b n / 65536 % 2) 1 ≡ b
-unfolding keyNumber
-class-of v true n h = let e : (131072 * v + (65536 * 1 + n)) / 65536 % 2 ≡ 1 = omega arith in rw e
-class-of v false n h = let e : (131072 * v + (65536 * 0 + n)) / 65536 % 2 ≡ 0 = omega arith in rw e
-
-bit-small : (b : Bool) → bit b ≤ 1
-bit-small true = omega arith
-bit-small false = omega arith
-
-place-of-key : (v : ℕ) (b : Bool) (n : ℕ) → n < 65536 → keyNumber v b n / 131072 ≡ v
-unfolding keyNumber
-place-of-key v b n h = omega (arith, bit-small b)
-
-name-of-key : (v : ℕ) (b : Bool) (n : ℕ) → n < 65536 → keyNumber v b n % 65536 ≡ n
-unfolding keyNumber
-name-of-key v b n h = omega (arith, bit-small b)
 
 -- the slot of a key and bounds
 pub slot-made : (v : ℕ) (b : Bool) (n lo hi : ℕ) → n < 65536 → lo < 131072 → hi < 131072 → slotIn (slotNumber (keyNumber v b n) lo hi) ≡ slot v b n lo (highIn hi)
@@ -86,19 +61,8 @@ key-self v b n = and-both (eqb-self v) (and-both (class-self b) (eqb-self n))
 pub key-test : (x v : ℕ) (b : Bool) (n : ℕ) → n < 65536
     → sameKey (keyIn x / 131072) (eqb (keyIn x / 65536 % 2) 1) (keyIn x % 65536) v b n ≡ eqb (keyIn x) (keyNumber v b n)
 key-test x v b n s =
-    let u = keyIn x / 131072 in
-    let c = eqb (keyIn x / 65536 % 2) 1 in
-    let m = keyIn x % 65536 in
-    iff-eq
-    (λ h.
-    let w : sameName c m b n ≡ true = key-name u c m v b n h in
-    let a : u ≡ v = key-place u c m v b n h in
-    let d : c ≡ b = name-class c m b n w in
-    let e : m ≡ n = name-eq c m b n w in
-    eq-eqb (sym (key-parts (keyIn x)) ∙ rw (a, d, e)))
-    (λ h.
-    let e : keyIn x ≡ keyNumber v b n = eqb-eq h in
-    rw (e, place-of-key v b n s, class-of v b n s, name-of-key v b n s) (key-self v b n))
+    sym (key-same (keyIn x / 131072) (eqb (keyIn x / 65536 % 2) 1) (keyIn x % 65536) v b n (omega arith) s)
+    ∙ ap (λ (k : ℕ). eqb k (keyNumber v b n)) (key-parts (keyIn x))
 
 -- of two upper bounds the smaller
 pub smaller-high : (a c : ℕ) → smaller (highIn a) (highIn c) ≡ highIn (min a c)

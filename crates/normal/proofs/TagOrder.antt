@@ -9,12 +9,10 @@ use mathlib.Core.Logic.{_≢_, ⊎-elim}
 use mathlib.Core.Path.{_∙_, _≡_, ap, sym}
 use native.Mathlib.Omega.{arith}
 use Rattle.base.proofs.Tests.{bool-cases, both-ways, ltb-lt, tests}
-use Rattle.normal.proofs.KeyLaws.{packed-below}
+use Rattle.normal.proofs.KeyLaws.{key-below, key-parts}
 use Rattle.normal.proofs.Rising.{Different, sorted-map, sorted-rising, within-map}
 use Rattle.normal.proofs.SortedLaws.{Within}
-use Rattle.normal.proofs.TableLaws.{bit-of}
 use Rattle.normal.proofs.TagLaws.{length-numbers, number-key, number-slot}
-use Rattle.normal.specs.Keys.{packedKey}
 use Rattle.normal.specs.Ordered.{tagCell, tagIn, tagNumber, tagNumbers, tagPlace, tagSlot}
 use Rattle.normal.specs.Pipeline.{beforeTag}
 use Rattle.normal.specs.Sorted.{Sorted}
@@ -56,16 +54,12 @@ numbers-different t i (suc n) h = ((λ y m e. apart y (numbers-slot t (suc i) n 
         let f : i ≡ r .at = sym a ∙ ap tagSlot (e ∙ r .is) ∙ b in
         omega (arith, r .from)
 
--- a key is made of its parts
-packed-parts : (k : ℕ) → packedKey (k / 131072) (eqb (k / 65536 % 2) 1) (k % 65536) ≡ k
-packed-parts k = rw (bit-of k) (omega arith)
-
 -- a number whose key is below that of another has the tag that stands first
 tag-below : (t : List ℕ) (x y : ℕ) → x / 1024 < y / 1024 → beforeTag (tagIn t x) (tagIn t y) ≡ true
 unfolding tagIn tagPlace tagCell
 tag-below t x y h =
-    packed-below (x / 1024 / 131072) (eqb (x / 1024 / 65536 % 2) 1) (x / 1024 % 65536) (y / 1024 / 131072) (eqb (y / 1024 / 65536 % 2) 1) (y / 1024 % 65536)
-    (omega arith) (omega arith) (rw (packed-parts (x / 1024), packed-parts (y / 1024)) h)
+    key-below (x / 1024 / 131072) (eqb (x / 1024 / 65536 % 2) 1) (x / 1024 % 65536) (y / 1024 / 131072) (eqb (y / 1024 / 65536 % 2) 1) (y / 1024 % 65536)
+    (omega arith) (omega arith) (rw (key-parts (x / 1024), key-parts (y / 1024)) h)
 
 module _ (t : List ℕ) (used : ℕ) where
   -- ---- the numbers in ascending order

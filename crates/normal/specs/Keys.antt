@@ -7,18 +7,11 @@ use mathlib.Core.Option.{Option, none, some}
 use Rattle.fit.specs.Description.{Atom, atom}
 use Rattle.fit.specs.Record.{bit}
 use Rattle.fit.specs.Tree.{Row, leafRow, nodeRow}
-use Rattle.normal.specs.Slots.{Slot, slot, slotAt}
+use Rattle.normal.specs.Slots.{Slot, slot}
 
--- place, class and name
-abbrev pub packedKey : ℕ → Bool → ℕ → ℕ
-packedKey v b n = v * 131072 + (bit b * 65536 + n)
-
-abbrev pub slotKey : Slot → ℕ
-slotKey (slot v b n lo hi) = packedKey v b n
-
--- the key of slot j
-abbrev pub keyAt : List Slot → ℕ → ℕ
-keyAt ss j = slotKey (slotAt 1 ss j)
+-- the key of a slot: its place, its class and its name
+unfoldable pub keyNumber : ℕ → Bool → ℕ → ℕ
+keyNumber v b n = 131072 * v + (65536 * bit b + n)
 
 -- a name or a number of an entry
 abbrev pub Small : ℕ → Type 0

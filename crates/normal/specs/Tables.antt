@@ -17,10 +17,6 @@ use Rattle.normal.specs.Chain.{Chains}
 use Rattle.normal.specs.Normal.{found}
 use Rattle.normal.specs.Slots.{Slot, broken, dies, position, says, settled, slot, slots, tighten}
 
--- the key of a slot: its place, its class and its name
-unfoldable pub keyNumber : ℕ → Bool → ℕ → ℕ
-keyNumber v b n = 131072 * v + (65536 * bit b + n)
-
 -- an upper bound as a number; 65,536 for none
 abbrev pub highNumber : Option ℕ → ℕ
 highNumber none = 65536

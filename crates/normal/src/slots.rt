@@ -4,7 +4,8 @@ ghost use mathlib.Core.Path.{_≡_};
 ghost use Prim.Native.Nat.{ℕ, _+_, _*_, _≤_, _<_, min, max};
 ghost use lib.ListN.{length, getD, set};
 ghost use Rattle.normal.specs.Chain.{scan};
-ghost use Rattle.normal.specs.Tables.{keyNumber, keyIn, lowPart, highPart, slotNumber, hashOf, Kept, Entered};
+ghost use Rattle.normal.specs.Keys.{keyNumber};
+ghost use Rattle.normal.specs.Tables.{keyIn, lowPart, highPart, slotNumber, hashOf, Kept, Entered};
 
 // An entry or slot number as an index.
 pub(crate) fn wide(x: u16) -> usize
