@@ -34,8 +34,8 @@ use Rattle.fit.specs.Description.{kindOf, linksTo, linksUp, placeOf, rowOf}
 use Rattle.fit.specs.Tree.{tree}
 use Rattle.normal.specs.Holds.{holds, holdsAt}
 use Rattle.normal.specs.Layout.{later, lay, weight, write}
-use Rattle.normal.specs.Normal.{add, bottom, dead, excluded, fill, find, insert, nf, put, putEvery, remove, removeEvery, removeLacks, sub, within}
-use Rattle.normal.specs.Witness.{below, build, groupsBy, member, names, once, path, slot, withProperties, witness}
+use Rattle.normal.specs.Normal.{add, bottom, excluded, fill, find, insert, isBottom, nf, put, putEvery, remove, removeEvery, removeLacks, sub, within}
+use Rattle.normal.specs.Witness.{below, build, groupsBy, member, names, once, path, putAscending, withProperties, witness}
 
 -- ---- what a line says
 
@@ -102,7 +102,7 @@ module _ (c d : List Entry) (lc : Lawful c) (ld : Lawful d) (out : List ℕ) (ro
 
 -- where nothing fits C, no entry fails
 none-fails : (c d : List Entry) → normalOf c ≡ bottom → failing c d ≡ 0
-unfolding failing entryHolds holds dead
+unfolding failing entryHolds holds isBottom
 none-fails c d e = rw (failing, e) (none-failing unrestricted bottom d (λ n lo hi. or-right (eqb (nth d n .kind) 5) refl))
 
 -- a line that computes is right
@@ -129,7 +129,7 @@ each-right (_also_ {l = a} h hs) l m = ⊎-elim (λ q. rw q (computes-right a h)
 
 -- every desk example is right
 pub lines-right : (l : Line) → List·Memᴰ l lines → Right l
-unfolding lines verdict failing normalOf specimenOf firstFailing firstFrom entryHolds specimenFor specimenEntries first entryFaults formOk nameOk numberOk ownerOk ownerOf nth depthOk depthOf chain kindOf rowOf placeOf linksTo linksUp tree nf add within fill insert put putEvery remove removeEvery removeLacks find sub excluded dead holds holdsAt witness build names once slot member groupsBy withProperties below path write lay later weight
+unfolding lines verdict failing normalOf specimenOf firstFailing firstFrom entryHolds specimenFor specimenEntries first entryFaults formOk nameOk numberOk ownerOk ownerOf nth depthOk depthOf chain kindOf rowOf placeOf linksTo linksUp tree nf add within fill insert put putEvery remove removeEvery removeLacks find sub excluded isBottom holds holdsAt witness build names once putAscending member groupsBy withProperties below path write lay later weight
 lines-right =
     each-right
     (((refl, refl), (refl, refl), refl, tt)

@@ -17,7 +17,7 @@ use Rattle.blocks.specs.declared.Schema.the-variants.{Description}
 use Rattle.compare.proofs.Lookups.{find-some, match-first}
 use Rattle.compare.proofs.NameSpans.{name-at, names-extra, names-over, names-plain, names-under, number-at, span-inside, span-only, span-order, span-increasing}
 use Rattle.compare.proofs.WordNames.{increasing-at}
-use Rattle.compare.specs.Codes.{codeBelow, goalAt, goalBelow, groupAt, groupsAt, groupsFrom, propertiesAt}
+use Rattle.compare.specs.Codes.{codeBelow, groupAt, groupsAt, groupsFrom, propertiesAt, targetAt, targetBelow}
 use Rattle.compare.specs.Laying.{Joint, joint}
 use Rattle.compare.specs.Table.{Ranked, Table, keyOf, nameIn, namesFrom, numberIn, placeBelow}
 use Rattle.fit.specs.Background.{unrestricted}
@@ -26,20 +26,20 @@ use Rattle.normal.proofs.WitnessTree.{want-none}
 use Rattle.normal.specs.Canonical.{Canonical}
 use Rattle.normal.specs.Normal.{find, rank}
 use Rattle.normal.specs.SpecimenTree.{Group, group}
-use Rattle.normal.specs.Witness.{goalLinks, goalProperties, member, names}
+use Rattle.normal.specs.Witness.{member, names, targetLinks, targetProperties}
 
--- ---- other links than the goal's
+-- ---- other links than the target's
 
--- they lead to no goal
-goal-none : (w : List ℕ) (a : Atom) (g l : ℕ) → member l (goalLinks (goalAt w a g)) ≡ false → goalBelow w g l ≡ 0
-unfolding goalAt goalBelow member
-goal-none w a zero l e = refl
-goal-none w a (suc i) l e =
+-- they lead to no target
+target-none : (w : List ℕ) (a : Atom) (g l : ℕ) → member l (targetLinks (targetAt w a g)) ≡ false → targetBelow w g l ≡ 0
+unfolding targetAt targetBelow member
+target-none w a zero l e = refl
+target-none w a (suc i) l e =
     lt-cases i (length w)
     (λ h. rw (lt-ltb h, neither-left (eqb l (getD w i 0)) false (rw (drop-cons w i 0 h) at e)))
     (λ h. rw (ge-ltb h))
 
--- a name that is not the goal's
+-- a name that is not the target's
 other-link : (x l : ℕ) (ls : List ℕ) → ls ≡ l ∷ [] → eqb x l ≡ false → member x ls ≡ false
 unfolding member
 other-link x l ls e h = rw (e, h)
@@ -84,13 +84,13 @@ module _ (es : List Entry) (legal : Legal Description es) (normal : Canonical un
   module _ (w : List ℕ) (a : Atom) (c : ℕ) {p q : ℕ} where
     -- ---- properties
 
-    -- where the goal asks for no property, and where it asks for x
-    pub properties-plain : goalProperties (goalAt w a (c / 1024)) ≡ [] → Ranked form k (keyOf (c % 1024) 1 0) p → Ranked form k (keyOf (c % 1024) 2 0) q
+    -- where the target asks for no property, and where it asks for x
+    pub properties-plain : targetProperties (targetAt w a (c / 1024)) ≡ [] → Ranked form k (keyOf (c % 1024) 1 0) p → Ranked form k (keyOf (c % 1024) 2 0) q
         → propertiesAt es w a c ≡ namesFrom form p (q - p)
     unfolding propertiesAt
     properties-plain e low high = rw e (names-plain es legal normal form k table has (c % 1024) low high)
 
-    pub properties-extra : (x : ℕ) {m m′ : ℕ} → x < 65536 → goalProperties (goalAt w a (c / 1024)) ≡ x ∷ []
+    pub properties-extra : (x : ℕ) {m m′ : ℕ} → x < 65536 → targetProperties (targetAt w a (c / 1024)) ≡ x ∷ []
         → Ranked form k (keyOf (c % 1024) 1 0) p → Ranked form k (keyOf (c % 1024) 1 x) m → Ranked form k (keyOf (c % 1024) 1 (suc x)) m′
         → Ranked form k (keyOf (c % 1024) 2 0) q → propertiesAt es w a c ≡ namesFrom form p (m - p) ++ (x ∷ namesFrom form m′ (q - m′))
     unfolding propertiesAt
@@ -98,9 +98,9 @@ module _ (es : List Entry) (legal : Legal Description es) (normal : Canonical un
 
     -- ---- groups
 
-    -- the group of a listed link that is not the goal's
+    -- the group of a listed link that is not the target's
     group-listed : Ranked form k (keyOf (c % 1024) 3 0) p → Ranked form k (keyOf (c % 1024) 4 0) q → (i : ℕ) → p ≤ i → i < q
-        → member (nameIn (getD form i 0)) (goalLinks (goalAt w a (c / 1024))) ≡ false
+        → member (nameIn (getD form i 0)) (targetLinks (targetAt w a (c / 1024))) ≡ false
         → groupAt es w a c (nameIn (getD form i 0))
         ≡ joint (group (nameIn (getD form i 0)) (pred (numberIn (getD form i 0)))) (placeBelow es (c % 1024) (nameIn (getD form i 0)))
     unfolding codeBelow
@@ -109,10 +109,10 @@ module _ (es : List Entry) (legal : Legal Description es) (normal : Canonical un
         let m : ℕ = numberIn (getD form i 0) in
         let x : max m 0 ≡ m = omega arith in
         let y : 1024 * 0 + placeBelow es (c % 1024) l ≡ placeBelow es (c % 1024) l = omega arith in
-        rw (span-found least (c % 1024) low high i lo hi, want-none (goalAt w a (c / 1024)) l e, goal-none w a (c / 1024) l e, x, y)
+        rw (span-found least (c % 1024) low high i lo hi, want-none (targetAt w a (c / 1024)) l e, target-none w a (c / 1024) l e, x, y)
 
-    -- where the goal asks for no link
-    pub groups-plain : goalLinks (goalAt w a (c / 1024)) ≡ [] → Ranked form k (keyOf (c % 1024) 3 0) p → Ranked form k (keyOf (c % 1024) 4 0) q
+    -- where the target asks for no link
+    pub groups-plain : targetLinks (targetAt w a (c / 1024)) ≡ [] → Ranked form k (keyOf (c % 1024) 3 0) p → Ranked form k (keyOf (c % 1024) 4 0) q
         → groupsAt es w a c ≡ groupsFrom es form (c % 1024) p (q - p)
     unfolding groupsAt member
     groups-plain e low high =
@@ -121,7 +121,7 @@ module _ (es : List Entry) (legal : Legal Description es) (normal : Canonical un
         ∙ groups-from es form (c % 1024) (groupAt es w a c) p (q - p) (λ j lo hi. group-listed low high j lo (omega arith) (rw e))
 
     -- where it asks for link l
-    pub groups-extra : (l : ℕ) {m m′ : ℕ} → l < 65536 → goalLinks (goalAt w a (c / 1024)) ≡ l ∷ [] → Ranked form k (keyOf (c % 1024) 3 0) p
+    pub groups-extra : (l : ℕ) {m m′ : ℕ} → l < 65536 → targetLinks (targetAt w a (c / 1024)) ≡ l ∷ [] → Ranked form k (keyOf (c % 1024) 3 0) p
         → Ranked form k (keyOf (c % 1024) 3 l) m → Ranked form k (keyOf (c % 1024) 3 (suc l)) m′ → Ranked form k (keyOf (c % 1024) 4 0) q
         → groupsAt es w a c ≡ groupsFrom es form (c % 1024) p (m - p) ++ (groupAt es w a c l ∷ groupsFrom es form (c % 1024) m′ (q - m′))
     unfolding groupsAt

@@ -14,7 +14,7 @@ use Rattle.fit.specs.Tree.{end, leaf, node}
 use Rattle.normal.proofs.Order.{before-cases}
 use Rattle.normal.specs.Canonical.{Above, Ascending}
 use Rattle.normal.specs.Normal.{rank}
-use Rattle.normal.specs.Witness.{member, names, once, slot}
+use Rattle.normal.specs.Witness.{member, names, once, putAscending}
 
 -- ---- ascending lists
 
@@ -67,22 +67,22 @@ increasing-absent x b [] h r = refl
 increasing-absent x b (y ∷ ys) h r = or-none {a = eqb x y} (omega (tests, r .0)) (increasing-absent x (suc y) ys (omega (arith, r .0)) (r .1))
 
 -- and goes to the front
-slot-first : (x : ℕ) (ys : List ℕ) → Increasing (suc x) ys → slot x ys ≡ x ∷ ys
-unfolding slot
-slot-first x [] r = refl
-slot-first x (y ∷ ys) r = let h : ltb x y ≡ true = omega (tests, r .0) in rw h
+put-first : (x : ℕ) (ys : List ℕ) → Increasing (suc x) ys → putAscending x ys ≡ x ∷ ys
+unfolding putAscending
+put-first x [] r = refl
+put-first x (y ∷ ys) r = let h : ltb x y ≡ true = omega (tests, r .0) in rw h
 
 once-first : (x : ℕ) (ys : List ℕ) → Increasing (suc x) ys → once x ys ≡ x ∷ ys
 unfolding once
-once-first x ys r = rw (increasing-absent x (suc x) ys (omega arith) r) (slot-first x ys r)
+once-first x ys r = rw (increasing-absent x (suc x) ys (omega arith) r) (put-first x ys r)
 
 -- or to the second place
 once-second : (x y : ℕ) (ys : List ℕ) → x < y → Increasing (suc y) ys → once y (x ∷ ys) ≡ x ∷ y ∷ ys
-unfolding once member slot
+unfolding once member putAscending
 once-second x y ys h r =
     let p : eqb y x ≡ false = omega tests in
     let q : ltb y x ≡ false = omega tests in
-    rw (p, increasing-absent y (suc y) ys (omega arith) r, q, slot-first y ys r)
+    rw (p, increasing-absent y (suc y) ys (omega arith) r, q, put-first y ys r)
 
 -- one that is there already stays
 once-there : (x : ℕ) (ys : List ℕ) → once x (x ∷ ys) ≡ x ∷ ys

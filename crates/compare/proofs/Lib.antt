@@ -20,7 +20,7 @@ pub mod WitnessLevels
 pub mod WitnessFields
 pub mod LinkPaths
 pub mod PathLaws
-pub mod GoalLaws
+pub mod TargetLaws
 pub mod NormalTable
 pub mod SpecimenLegal
 pub mod NotContained

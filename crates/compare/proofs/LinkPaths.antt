@@ -13,7 +13,7 @@ use Rattle.blocks.specs.Entries.{nth}
 use Rattle.blocks.specs.Owners.{chain, depthOf, ownerOf}
 use Rattle.blocks.specs.declared.Entry.{Entry}
 use Rattle.blocks.specs.declared.Schema.the-variants.{Description}
-use Rattle.compare.proofs.WitnessFields.{AllNames, GoalFields}
+use Rattle.compare.proofs.WitnessFields.{AllNames, TargetFields}
 use Rattle.fit.specs.Description.{atomOf, linksTo, linksUp}
 use Rattle.normal.proofs.EntryFields.{EntryFields, atom-fields}
 use Rattle.normal.proofs.PlaceSize.{depth-most}
@@ -78,6 +78,6 @@ module _ (Name Number : ℕ → Type 0) (d : List Entry) (L : Legal Description 
       (each (ownerOf d k) (omega arith) (omega arith) .name (λ y. omega arith), tt)))
 
   -- the fields of the links to an entry, and of the entry
-  pub goal-fields : (n : ℕ) → 1 ≤ n → n ≤ top → GoalFields Name Number (on (linksTo d n) (atomOf (nth d n)))
+  pub target-fields : (n : ℕ) → 1 ≤ n → n ≤ top → TargetFields Name Number (on (linksTo d n) (atomOf (nth d n)))
   unfolding linksTo
-  goal-fields n lo hi = (links-names n n lo hi, atom-fields Name Number (nth d n) (each n lo hi))
+  target-fields n lo hi = (links-names n n lo hi, atom-fields Name Number (nth d n) (each n lo hi))

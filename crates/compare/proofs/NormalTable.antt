@@ -25,7 +25,7 @@ use Rattle.normal.proofs.NormalLegal.{normal-legal}
 use Rattle.normal.proofs.Plain.{plain-normal}
 use Rattle.normal.specs.Answer.{normalEntries}
 use Rattle.normal.specs.Canonical.{Canonical}
-use Rattle.normal.specs.Normal.{before, dead}
+use Rattle.normal.specs.Normal.{before, isBottom}
 use Rattle.normal.specs.Rows.{entryBefore}
 use Rattle.normal.specs.Sorted.{AllAfter, Sorted}
 use Rattle.sorting.specs.Sorted.{sorted}
@@ -98,5 +98,5 @@ normal-table c L few total u =
 -- ---- its top
 
 -- the top of a normal form is normal, unless nothing fits it
-pub normal-canonical : (c : List Entry) → dead (placeOf (normalEntries c) 0) ≡ false → Canonical unrestricted (placeOf (normalEntries c) 0)
+pub normal-canonical : (c : List Entry) → isBottom (placeOf (normalEntries c) 0) ≡ false → Canonical unrestricted (placeOf (normalEntries c) 0)
 normal-canonical c h = alive lawful-unrestricted (placeOf (normalEntries c) 0) (rw normal-place (plain-normal (placeOf c 0))) h

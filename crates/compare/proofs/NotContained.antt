@@ -36,7 +36,7 @@ use Rattle.normal.proofs.Witness.{witness-fits, witness-refutes}
 use Rattle.normal.proofs.WitnessKeeps.{witness-keeps}
 use Rattle.normal.specs.Canonical.{Canonical}
 use Rattle.normal.specs.Holds.{holds, holdsAt}
-use Rattle.normal.specs.Normal.{dead, nf}
+use Rattle.normal.specs.Normal.{isBottom, nf}
 use Rattle.normal.specs.SpecimenTree.{SpecimenTree, fitsTop}
 use Rattle.normal.specs.Witness.{on, witness}
 
@@ -65,11 +65,11 @@ module _ {b : Background} (law : LawfulBackground b) (c d : List Entry) (Ld : Le
 
   not-at : holdsAt b normal (linksTo d n) said ≡ false
   unfolding holds
-  not-at = neither-right (dead normal) (holdsAt b normal (linksTo d n) said) not-held
+  not-at = neither-right (isBottom normal) (holdsAt b normal (linksTo d n) said) not-held
 
   living : Canonical b normal
   unfolding holds
-  living = alive law normal (nf-normal law (placeOf c 0)) (neither-left (dead normal) (holdsAt b normal (linksTo d n) said) not-held)
+  living = alive law normal (nf-normal law (placeOf c 0)) (neither-left (isBottom normal) (holdsAt b normal (linksTo d n) said) not-held)
 
   -- the top item fits C
   shown-fits : fitsTop (placeOf c 0) shown ≡ true

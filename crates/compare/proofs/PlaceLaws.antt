@@ -1,4 +1,4 @@
--- One place of the specimen: its properties and then its groups, with what the goal asks for.
+-- One place of the specimen: its properties and then its groups, with what the target asks for.
 -- Assumes nothing.
 use Prim.Native.Nat.{_%_, _*_, _+_, _/_, _≤_, max, pred, ℕ}
 use lib.ListN.{length}
@@ -11,14 +11,14 @@ use Rattle.blocks.specs.declared.Entry.{Entry}
 use Rattle.compare.proofs.RowLaws.{placed-after}
 use Rattle.compare.proofs.SpanLaws.{around-none, leaf-numbers}
 use Rattle.compare.proofs.WalkingLaws.{numbers-length}
-use Rattle.compare.specs.Codes.{Writable, askedBy, goalAt, goalBelow, groupsWith, jointsBy, leastFor, specimenNumber, upFrom}
+use Rattle.compare.specs.Codes.{Writable, askedBy, groupsWith, jointsBy, leastFor, specimenNumber, targetAt, targetBelow, upFrom}
 use Rattle.compare.specs.Laying.{Joint, Placed, Pushed, codes, joint, jointRows, leafRows, placeNumbers}
 use Rattle.compare.specs.Table.{around, entriesIn, nameOr, placeBelow}
 use Rattle.fit.specs.Description.{atomOf}
 use Rattle.normal.specs.SpecimenTree.{Group, group}
-use Rattle.normal.specs.Witness.{goalLinks, want}
+use Rattle.normal.specs.Witness.{targetLinks, want}
 
--- ---- what the goal asks for
+-- ---- what the target asks for
 
 around-same : {A : Type 0} (x : ℕ) (a : List A) (i j : A) (b : List A) → (x ≢ 65536 → i ≡ j) → around x a i b ≡ around x a j b
 around-same x a i j b f =
@@ -31,11 +31,11 @@ name-some z = rw (ne-eqb z)
 
 -- the groups of a place, with the number and the code that the code computes for the link that is asked for
 pub asked-joints : (form : List ℕ) (k : ℕ) (links : List ℕ) (m : ℕ) (e : Entry) (c l : ℕ) {number next : ℕ} → Writable form k links m e → l ≤ 65536
-    → goalLinks (goalAt (upFrom links m) (atomOf e) (c / 1024)) ≡ nameOr l
-    → (l ≢ 65536 → goalLinks (goalAt (upFrom links m) (atomOf e) (c / 1024)) ≡ l ∷ []
-    → number ≡ pred (max (leastFor (entriesIn form k) (c % 1024) l) (want (goalAt (upFrom links m) (atomOf e) (c / 1024)) l)))
-    → (l ≢ 65536 → goalLinks (goalAt (upFrom links m) (atomOf e) (c / 1024)) ≡ l ∷ []
-    → next ≡ 1024 * goalBelow (upFrom links m) (c / 1024) l + placeBelow (entriesIn form k) (c % 1024) l)
+    → targetLinks (targetAt (upFrom links m) (atomOf e) (c / 1024)) ≡ nameOr l
+    → (l ≢ 65536 → targetLinks (targetAt (upFrom links m) (atomOf e) (c / 1024)) ≡ l ∷ []
+    → number ≡ pred (max (leastFor (entriesIn form k) (c % 1024) l) (want (targetAt (upFrom links m) (atomOf e) (c / 1024)) l)))
+    → (l ≢ 65536 → targetLinks (targetAt (upFrom links m) (atomOf e) (c / 1024)) ≡ l ∷ []
+    → next ≡ 1024 * targetBelow (upFrom links m) (c / 1024) l + placeBelow (entriesIn form k) (c % 1024) l)
     → jointsBy form k links m e c ≡ groupsWith form k (c % 1024) l (joint (group l number) next)
 asked-joints form k links m e c l {number} {next} w b q f g =
     w .groups c l b q

@@ -13,7 +13,7 @@ use Rattle.blocks.specs.Entries.{formOk, nameOk, nth, numberOk, zeroEntry}
 use Rattle.blocks.specs.Owners.{ownerOf}
 use Rattle.blocks.specs.declared.Entry.{Entry}
 use Rattle.blocks.specs.declared.Schema.the-variants.{Description, Specimen}
-use Rattle.compare.proofs.LinkPaths.{goal-fields, links-fewer, links-most}
+use Rattle.compare.proofs.LinkPaths.{links-fewer, links-most, target-fields}
 use Rattle.compare.proofs.WitnessFields.{GroupFields, SpecimenFields, witness-fields}
 use Rattle.compare.proofs.WitnessLevels.{witness-levels}
 use Rattle.compare.proofs.WitnessSize.{witness-nodes}
@@ -126,7 +126,7 @@ module _ (b : Background) (c d : List Entry) (n : ℕ) (Lc : Legal Description c
       → SpecimenFields Name Number shown
   shown-fields Name Number none less ec ed =
       witness-fields Name Number none less (nf b (placeOf c 0)) (on (linksTo d n) (atomOf (nth d n)))
-      (nf-fields Name Number none b (placeOf c 0) (place-fields Name Number c ec 0)) (goal-fields Name Number d Ld (length d) (omega arith) ed n lo hi)
+      (nf-fields Name Number none b (placeOf c 0) (place-fields Name Number c ec 0)) (target-fields Name Number d Ld (length d) (omega arith) ed n lo hi)
 
   -- "Entries never exceed those of C and D together."
   pub shown-length : length (specimenFor (nf b (placeOf c 0)) d n) ≤ length c + length d

@@ -19,7 +19,7 @@ use Rattle.blocks.specs.declared.Schema.the-variants.{Description}
 use Rattle.compare.proofs.Lookups.{match-within, sub-place}
 use Rattle.compare.proofs.TablePlaces.{places-normal}
 use Rattle.compare.proofs.WalkingLaws.{Codes}
-use Rattle.compare.specs.Codes.{codeBelow, goalAt, goalBelow, groupsAt, propertiesAt, treeAt}
+use Rattle.compare.specs.Codes.{codeBelow, groupsAt, propertiesAt, targetAt, targetBelow, treeAt}
 use Rattle.compare.specs.Laying.{codes, joint, joints, leaves}
 use Rattle.compare.specs.Table.{Table, entryFor, placeBelow}
 use Rattle.fit.specs.Background.{unrestricted}
@@ -29,12 +29,12 @@ use Rattle.normal.proofs.WitnessTree.{below-witness}
 use Rattle.normal.specs.Canonical.{Canonical, canonical}
 use Rattle.normal.specs.Normal.{find, found}
 use Rattle.normal.specs.SpecimenTree.{Group, SpecimenTree, group}
-use Rattle.normal.specs.Witness.{Goal, below, build, countFor, goalLinks, groupsBy, member, names, next, off, on, want, withProperties, witness}
+use Rattle.normal.specs.Witness.{Target, below, build, countFor, groupsBy, member, names, next, off, on, targetLinks, want, withProperties, witness}
 
--- ---- the goal, by its number
+-- ---- the target, by its number
 
--- the links that a goal asks for are asked for
-want-some : (g : Goal) (l : ℕ) → member l (goalLinks g) ≡ true → 1 ≤ want g l
+-- the links that a target asks for are asked for
+want-some : (g : Target) (l : ℕ) → member l (targetLinks g) ≡ true → 1 ≤ want g l
 unfolding member
 want-some off l e = absurd (false≢true e)
 want-some (on [] (atom has n m)) l e = absurd (false≢true e)
@@ -51,20 +51,20 @@ drop-past zero (x ∷ w) h = absurd (omega arith)
 drop-past (suc i) [] h = refl
 drop-past (suc i) (x ∷ w) h = drop-past i w (omega arith)
 
--- the goal that a link leads to
-next-goal : (w : List ℕ) (a : Atom) (g l : ℕ) → next (goalAt w a g) l ≡ goalAt w a (goalBelow w g l)
-unfolding goalAt goalBelow
-next-goal w a zero l = refl
-next-goal w a (suc i) l =
+-- the target that a link leads to
+next-target : (w : List ℕ) (a : Atom) (g l : ℕ) → next (targetAt w a g) l ≡ targetAt w a (targetBelow w g l)
+unfolding targetAt targetBelow
+next-target w a zero l = refl
+next-target w a (suc i) l =
     lt-cases i (length w)
     (λ h. rw (lt-ltb h, drop-cons w i 0 h) (bool-cases (eqb l (getD w i 0)) (λ q. rw q) (λ q. rw q)))
     (λ h. rw (ge-ltb h, drop-past i w h))
 
--- a goal leads at most past the end of its path
-pub goal-most : (w : List ℕ) (g l : ℕ) → goalBelow w g l ≤ suc (length w)
-unfolding goalBelow
-goal-most w zero l = omega arith
-goal-most w (suc i) l =
+-- a target leads at most past the end of its path
+pub target-most : (w : List ℕ) (g l : ℕ) → targetBelow w g l ≤ suc (length w)
+unfolding targetBelow
+target-most w zero l = omega arith
+target-most w (suc i) l =
     bool-cases (ltb i (length w) && eqb l (getD w i 0))
     (λ q. rw q (let h : ltb i (length w) ≡ true = and-left (ltb i (length w)) (eqb l (getD w i 0)) q in omega tests))
     (λ q. rw q (omega arith))
@@ -89,10 +89,10 @@ groups-joints f s T c (l ∷ ls) e z =
 least-counts : (t : Place) → Canonical unrestricted t → (l m : ℕ) → find least l t ≡ some m → m ≢ 0
 least-counts t (canonical a c d s) l m e = eqb-ne (false-of-not (eqb m 0) (c least l m e .1))
 
--- the links of a normal place and of its goal all have items
-names-count : (t : Place) → Canonical unrestricted t → (g : Goal) (l : ℕ) → member l (names least t (goalLinks g)) ≡ true → countFor t g l ≢ 0
+-- the links of a normal place and of its target all have items
+names-count : (t : Place) → Canonical unrestricted t → (g : Target) (l : ℕ) → member l (names least t (targetLinks g)) ≡ true → countFor t g l ≢ 0
 names-count t normal g l h z =
-    or-cases (found (find least l t)) (member l (goalLinks g)) (rw member-names at h)
+    or-cases (found (find least l t)) (member l (targetLinks g)) (rw member-names at h)
     (λ q. opt-cases (find least l t)
     (λ e. false≢true (rw e at q))
     (λ m e. least-counts t normal l m e (let y : max m (want g l) ≡ 0 = rw e at z in omega arith)))
@@ -112,14 +112,14 @@ module _ (es : List Entry) (few : length es ≤ 1008) where
       eq-cases (entryFor es v 5 l) 0 (λ z. rw (eq-eqb z) (omega arith)) (λ z. rw (ne-eqb z) (omega (arith, match-within es v 5 l)))
 
   module _ (w : List ℕ) (c l : ℕ) where
-    -- the place and the goal of the code that a link leads to
+    -- the place and the target of the code that a link leads to
     pub code-place : codeBelow es w c l % 1024 ≡ placeBelow es (c % 1024) l
     unfolding codeBelow
-    code-place = place-of {r = 1024} (goalBelow w (c / 1024) l) (placeBelow es (c % 1024) l) (place-small (c % 1024) l)
+    code-place = place-of {r = 1024} (targetBelow w (c / 1024) l) (placeBelow es (c % 1024) l) (place-small (c % 1024) l)
 
-    pub code-goal : codeBelow es w c l / 1024 ≡ goalBelow w (c / 1024) l
+    pub code-target : codeBelow es w c l / 1024 ≡ targetBelow w (c / 1024) l
     unfolding codeBelow
-    code-goal = row-of {r = 1024} (goalBelow w (c / 1024) l) (placeBelow es (c % 1024) l) (place-small (c % 1024) l)
+    code-target = row-of {r = 1024} (targetBelow w (c / 1024) l) (placeBelow es (c % 1024) l) (place-small (c % 1024) l)
 
     -- a code is not 0, and fits 2 bytes
     pub code-some : 1 ≤ codeBelow es w c l
@@ -128,7 +128,7 @@ module _ (es : List Entry) (few : length es ≤ 1008) where
 
     pub code-narrow : length w ≤ 32 → codeBelow es w c l < 65536
     unfolding codeBelow
-    code-narrow h = omega (arith, place-small (c % 1024) l, goal-most w (c / 1024) l)
+    code-narrow h = omega (arith, place-small (c % 1024) l, target-most w (c / 1024) l)
 
 -- codes that are all good
 codes-each : (Good : ℕ → Type 0) (b : ℕ → Group) (d : ℕ → ℕ) (ls : List ℕ) → ((l : ℕ) → (d l ≢ 0) × Good (d l))
@@ -137,15 +137,15 @@ unfolding codes
 codes-each Good b d [] h = tt
 codes-each Good b d (l ∷ ls) h = (h l .0, h l .1, codes-each Good b d ls h)
 
--- the codes of the groups below a code lead to places, and to goals on the path
+-- the codes of the groups below a code lead to places, and to targets on the path
 pub codes-good : (es : List Entry) → length es ≤ 1008 → (w : List ℕ) (a : Atom) (c : ℕ)
     → Codes (λ d. d / 1024 ≤ suc (length w)) (codes (groupsAt es w a c))
 unfolding groupsAt
 codes-good es few w a c =
     let t : Place = placeOf es (c % 1024) in
-    let g : Goal = goalAt w a (c / 1024) in
-    codes-each (λ d. d / 1024 ≤ suc (length w)) (λ l. group l (pred (countFor t g l))) (codeBelow es w c) (names least t (goalLinks g))
-    (λ l. (λ z. omega (arith, code-some es few w c l), omega (arith, code-goal es few w c l, goal-most w (c / 1024) l)))
+    let g : Target = targetAt w a (c / 1024) in
+    codes-each (λ d. d / 1024 ≤ suc (length w)) (λ l. group l (pred (countFor t g l))) (codeBelow es w c) (names least t (targetLinks g))
+    (λ l. (λ z. omega (arith, code-some es few w c l), omega (arith, code-target es few w c l, target-most w (c / 1024) l)))
 
 -- ---- the specimen below a code
 
@@ -153,20 +153,20 @@ module _ (es : List Entry) (legal : Legal Description es) (normal : Canonical un
     (table : Table es form k) where
   module _ (w : List ℕ) (a : Atom) (c : ℕ) where
     -- what stands below the code that a link leads to
-    tree-below : (l : ℕ) → below (placeOf es (c % 1024)) l (next (goalAt w a (c / 1024)) l) ≡ treeAt es w a (codeBelow es w c l)
+    tree-below : (l : ℕ) → below (placeOf es (c % 1024)) l (next (targetAt w a (c / 1024)) l) ≡ treeAt es w a (codeBelow es w c l)
     unfolding treeAt
     tree-below l =
         let few : length es ≤ 1008 = omega (arith, table .few, table .total) in
-        below-witness (placeOf es (c % 1024)) l (next (goalAt w a (c / 1024)) l)
-        ∙ rw (code-place es few w c l, code-goal es few w c l, sub-place es legal few (c % 1024) l, next-goal w a (c / 1024) l)
+        below-witness (placeOf es (c % 1024)) l (next (targetAt w a (c / 1024)) l)
+        ∙ rw (code-place es few w c l, code-target es few w c l, sub-place es legal few (c % 1024) l, next-target w a (c / 1024) l)
 
     -- what stands below a code: its properties, and its groups with what stands below theirs
     pub tree-places : treeAt es w a c ≡ leaves (propertiesAt es w a c) (joints (treeAt es w a) (groupsAt es w a c))
     unfolding treeAt witness build propertiesAt groupsAt
     tree-places =
         let t : Place = placeOf es (c % 1024) in
-        let g : Goal = goalAt w a (c / 1024) in
+        let g : Target = targetAt w a (c / 1024) in
         properties-leaves _ _
         ∙ ap (λ (s : SpecimenTree). leaves (propertiesAt es w a c) s)
-        (groups-joints (countFor t g) (λ l. below t l (next g l)) (treeAt es w a) (codeBelow es w c) (names least t (goalLinks g)) tree-below
+        (groups-joints (countFor t g) (λ l. below t l (next g l)) (treeAt es w a) (codeBelow es w c) (names least t (targetLinks g)) tree-below
         (names-count t (places-normal es legal normal form k table (c % 1024)) g))

@@ -18,7 +18,7 @@ use Rattle.blocks.specs.declared.Schema.the-variants.{Description}
 use Rattle.compare.proofs.Answer.{not-contained-means}
 use Rattle.compare.proofs.AnswerLaws.{Comparable, compared, verdict-not}
 use Rattle.compare.proofs.SpecimenLegal.{specimen-bounded, specimen-length}
-use Rattle.compare.proofs.WitnessFields.{AllNames, GoalFields, SpecimenFields, witness-fields}
+use Rattle.compare.proofs.WitnessFields.{AllNames, SpecimenFields, TargetFields, witness-fields}
 use Rattle.compare.proofs.WritableLaws.{Tables, tables-shown, tables-specimen, tables-tree}
 use Rattle.compare.specs.Answer.{compareOf, failing, normalOf, outputAfter, outputOf, specimenOf}
 use Rattle.compare.specs.Codes.{treeBy, upFrom}
@@ -55,7 +55,7 @@ module _ {c d : List Entry} {n : ℕ} {form : List ℕ} {k : ℕ} {links : List 
       (place-fields Word Word (normalEntries c) (λ j lo hi. bounded-fields (t .unpacked .bounded j lo (omega (arith, t .total)))) 0)
 
   -- so are those of the path and of the entry that fails
-  path-fields : GoalFields Word Word (on (linksTo d n) (atomOf (nth d n)))
+  path-fields : TargetFields Word Word (on (linksTo d n) (atomOf (nth d n)))
   path-fields = (rw (t .path) (up-names links m (t .names)), atom-fields Word Word (nth d n) (bounded-fields (t .last)))
 
   -- the fields of the specimen's entries fit their bytes

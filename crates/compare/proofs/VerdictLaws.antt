@@ -50,7 +50,7 @@ use Rattle.normal.specs.First.{entryHolds, firstFailing}
 use Rattle.normal.specs.Holding.{holdingOf, unheld}
 use Rattle.normal.specs.Holds.{holds}
 use Rattle.normal.specs.Layout.{write}
-use Rattle.normal.specs.Normal.{dead}
+use Rattle.normal.specs.Normal.{isBottom}
 use Rattle.normal.specs.Tables.{Owned}
 use Rattle.normal.specs.declared.NormalAnswer.the-variants as normal
 use Rattle.normal.specs.declared.Holding.the-variants as holding
@@ -101,9 +101,9 @@ module _ {normal : List ℕ} {k : ℕ} {d : List ℕ} {total : ℕ} {out : List 
   failing-is = refl
 
   -- where nothing fits the first, none fails
-  dead-none : dead (normalOf es) ≡ true → failing es (entriesOf d) ≡ 0
+  bottom-none : isBottom (normalOf es) ≡ true → failing es (entriesOf d) ≡ 0
   unfolding failing entryHolds holds
-  dead-none z = none-failing unrestricted (normalOf es) (entriesOf d) (λ n lo hi. rw z (or-one (eqb (nth (entriesOf d) n .kind) 5)))
+  bottom-none z = none-failing unrestricted (normalOf es) (entriesOf d) (λ n lo hi. rw z (or-one (eqb (nth (entriesOf d) n .kind) 5)))
 
   module _ {form : List ℕ} (u : Unpacked (entriesOf normal) form k) where
     unpacked-normal : Unpacked (normalEntries es) form k
@@ -116,8 +116,8 @@ module _ {normal : List ℕ} {k : ℕ} {d : List ℕ} {total : ℕ} {out : List 
 
     module _ {n : ℕ} (fails : failing es (entriesOf d) ≡ n) (some′ : n ≢ 0) where
       -- something fits the first
-      alive : dead (normalOf es) ≡ false
-      alive = not-true (λ z. some′ (sym fails ∙ dead-none z))
+      alive : isBottom (normalOf es) ≡ false
+      alive = not-true (λ z. some′ (sym fails ∙ bottom-none z))
 
       -- the entry is one of the second's
       pub failing-within : (1 ≤ n) × (n ≤ total)

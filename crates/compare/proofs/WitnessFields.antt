@@ -13,7 +13,7 @@ use Rattle.normal.proofs.AllEntries.{AllEntries}
 use Rattle.normal.proofs.Fields.{AtomFields, Fields}
 use Rattle.normal.specs.Normal.{find, rank}
 use Rattle.normal.specs.SpecimenTree.{Group, SpecimenTree, group}
-use Rattle.normal.specs.Witness.{Goal, below, build, countFor, goalLinks, goalProperties, groupsBy, member, names, next, off, on, once, orZero, path, slot, want, withProperties, witness}
+use Rattle.normal.specs.Witness.{Target, below, build, countFor, groupsBy, member, names, next, off, on, once, orZero, path, putAscending, targetLinks, targetProperties, want, withProperties, witness}
 
 -- each of the names
 abbrev pub AllNames : (ℕ → Type 0) → List ℕ → Type 0
@@ -29,21 +29,21 @@ module _ (Name Number : ℕ → Type 0) where
   abbrev pub SpecimenFields : SpecimenTree → Type 0
   SpecimenFields s = AllEntries Name GroupFields s
 
-  -- the fields of a goal: the links to its entry, and the entry's own
-  abbrev pub GoalFields : Goal → Type 0
-  GoalFields off = Unit {0}
-  GoalFields (on w a) = AllNames Name w × AtomFields Name Number a
+  -- the fields of a target: the links to its entry, and the entry's own
+  abbrev pub TargetFields : Target → Type 0
+  TargetFields off = Unit {0}
+  TargetFields (on w a) = AllNames Name w × AtomFields Name Number a
 
   -- ---- lists of names
 
-  slot-names : (x : ℕ) (ys : List ℕ) → Name x → AllNames Name ys → AllNames Name (slot x ys)
-  unfolding slot
-  slot-names x [] n h = (n, tt)
-  slot-names x (y ∷ ys) n h = bool-cases (ltb x y) (λ q. rw q (n, h)) (λ q. rw q (h .0, slot-names x ys n (h .1)))
+  put-names : (x : ℕ) (ys : List ℕ) → Name x → AllNames Name ys → AllNames Name (putAscending x ys)
+  unfolding putAscending
+  put-names x [] n h = (n, tt)
+  put-names x (y ∷ ys) n h = bool-cases (ltb x y) (λ q. rw q (n, h)) (λ q. rw q (h .0, put-names x ys n (h .1)))
 
   once-names : (x : ℕ) (ys : List ℕ) → Name x → AllNames Name ys → AllNames Name (once x ys)
   unfolding once
-  once-names x ys n h = bool-cases (member x ys) (λ q. rw q h) (λ q. rw q (slot-names x ys n h))
+  once-names x ys n h = bool-cases (member x ys) (λ q. rw q h) (λ q. rw q (put-names x ys n h))
 
   -- an atom of a kind that is not 6 has a name
   atom-name : (k k′ : Kind) (n m : ℕ) → eqb (rank k) 6 ≡ false → eqb (rank k) (rank k′) ≡ true → AtomFields Name Number (atom k′ n m) → Name n
@@ -62,27 +62,27 @@ module _ (Name Number : ℕ → Type 0) where
       (λ q. rw q (names-all k e r ls (h .1) n))
   names-all k e (node l s r) ls h n = names-all k e r ls (h .2) n
 
-  -- ---- the goal
+  -- ---- the target
 
-  goal-links : (g : Goal) → GoalFields g → AllNames Name (goalLinks g)
-  goal-links off h = tt
-  goal-links (on [] (atom has n m)) h = tt
-  goal-links (on [] (atom lacks n m)) h = tt
-  goal-links (on [] (atom least n m)) h = tt
-  goal-links (on [] (atom most n m)) h = (h .1 .0, tt)
-  goal-links (on [] (atom nothing n m)) h = tt
-  goal-links (on (l ∷ w) a) h = (h .0 .0, tt)
+  target-links : (g : Target) → TargetFields g → AllNames Name (targetLinks g)
+  target-links off h = tt
+  target-links (on [] (atom has n m)) h = tt
+  target-links (on [] (atom lacks n m)) h = tt
+  target-links (on [] (atom least n m)) h = tt
+  target-links (on [] (atom most n m)) h = (h .1 .0, tt)
+  target-links (on [] (atom nothing n m)) h = tt
+  target-links (on (l ∷ w) a) h = (h .0 .0, tt)
 
-  goal-properties : (g : Goal) → GoalFields g → AllNames Name (goalProperties g)
-  goal-properties off h = tt
-  goal-properties (on [] (atom has n m)) h = tt
-  goal-properties (on [] (atom lacks n m)) h = (h .1 .0, tt)
-  goal-properties (on [] (atom least n m)) h = tt
-  goal-properties (on [] (atom most n m)) h = tt
-  goal-properties (on [] (atom nothing n m)) h = tt
-  goal-properties (on (l ∷ w) a) h = tt
+  target-properties : (g : Target) → TargetFields g → AllNames Name (targetProperties g)
+  target-properties off h = tt
+  target-properties (on [] (atom has n m)) h = tt
+  target-properties (on [] (atom lacks n m)) h = (h .1 .0, tt)
+  target-properties (on [] (atom least n m)) h = tt
+  target-properties (on [] (atom most n m)) h = tt
+  target-properties (on [] (atom nothing n m)) h = tt
+  target-properties (on (l ∷ w) a) h = tt
 
-  next-fields : (g : Goal) (l : ℕ) → GoalFields g → GoalFields (next g l)
+  next-fields : (g : Target) (l : ℕ) → TargetFields g → TargetFields (next g l)
   next-fields off l h = tt
   next-fields (on [] a) l h = tt
   next-fields (on (x ∷ w) a) l h = bool-cases (eqb l x) (λ q. rw q (h .0 .1, h .1)) (λ q. rw q tt)
@@ -90,8 +90,8 @@ module _ (Name Number : ℕ → Type 0) where
   -- ---- counts
 
   module _ (none : Number 0) (less : (m : ℕ) → Number m → Number (pred m)) where
-    -- the count that a goal asks for, less 1
-    want-number : (g : Goal) (l : ℕ) → GoalFields g → Number (pred (want g l))
+    -- the count that a target asks for, less 1
+    want-number : (g : Target) (l : ℕ) → TargetFields g → Number (pred (want g l))
     want-number off l h = none
     want-number (on [] (atom has n m)) l h = none
     want-number (on [] (atom lacks n m)) l h = none
@@ -134,22 +134,22 @@ module _ (Name Number : ℕ → Type 0) where
     properties-fields [] s n h = h
     properties-fields (p ∷ ps) s n h = (n .0, properties-fields ps s (n .1) h)
 
-    build-fields : (f : ℕ → Goal → SpecimenTree) (t : Place) (g : Goal) → Fields Name Number t → GoalFields g
-        → ((l : ℕ) (g′ : Goal) → GoalFields g′ → SpecimenFields (f l g′)) → SpecimenFields (build f t g)
+    build-fields : (f : ℕ → Target → SpecimenTree) (t : Place) (g : Target) → Fields Name Number t → TargetFields g
+        → ((l : ℕ) (g′ : Target) → TargetFields g′ → SpecimenFields (f l g′)) → SpecimenFields (build f t g)
     unfolding build
     build-fields f t g h e k =
-        properties-fields (names has t (goalProperties g)) (groupsBy (names least t (goalLinks g)) (countFor t g) (λ l. f l (next g l)))
-        (names-all has refl t (goalProperties g) h (goal-properties g e))
-        (groups-fields (countFor t g) (λ l. f l (next g l)) (names least t (goalLinks g)) (names-all least refl t (goalLinks g) h (goal-links g e))
+        properties-fields (names has t (targetProperties g)) (groupsBy (names least t (targetLinks g)) (countFor t g) (λ l. f l (next g l)))
+        (names-all has refl t (targetProperties g) h (target-properties g e))
+        (groups-fields (countFor t g) (λ l. f l (next g l)) (names least t (targetLinks g)) (names-all least refl t (targetLinks g) h (target-links g e))
         (λ l. max-number (orZero (find least l t)) (want g l) (listed-number t l h) (want-number g l e))
         (λ l. k l (next g l) (next-fields g l e)))
 
-    path-fields : (w : List ℕ) (a : Atom) → GoalFields (on w a) → SpecimenFields (path w a)
+    path-fields : (w : List ℕ) (a : Atom) → TargetFields (on w a) → SpecimenFields (path w a)
     unfolding path
     path-fields [] a e = build-fields (λ l g. end) end (on [] a) tt e (λ l g i. tt)
     path-fields (l ∷ w) a e = ((e .0 .0, none), path-fields w a (e .0 .1, e .1), tt)
 
-    below-fields : (t : Place) (l : ℕ) (g : Goal) → Fields Name Number t → GoalFields g → SpecimenFields (below t l g)
+    below-fields : (t : Place) (l : ℕ) (g : Target) → Fields Name Number t → TargetFields g → SpecimenFields (below t l g)
     unfolding below
     below-fields end l off h e = tt
     below-fields end l (on w a) h e = path-fields w a e
@@ -160,6 +160,6 @@ module _ (Name Number : ℕ → Type 0) where
         (λ q. rw q (below-fields r l g (h .2) e))
 
     -- the fields of a comparison's specimen
-    pub witness-fields : (t : Place) (g : Goal) → Fields Name Number t → GoalFields g → SpecimenFields (witness t g)
+    pub witness-fields : (t : Place) (g : Target) → Fields Name Number t → TargetFields g → SpecimenFields (witness t g)
     unfolding witness
     witness-fields t g h e = build-fields (λ l g′. below t l g′) t g h e (λ l g′ i. below-fields t l g′ h i)

@@ -8,14 +8,14 @@ use mathlib.Core.List.{List, [], _∷_}
 use mathlib.Core.Path.{_∙_, _≡_, sym}
 use native.Mathlib.Omega.{arith}
 use Rattle.base.proofs.Tests.{bool-cases, eqb-self, or-cases, or-left, or-right}
-use Rattle.compare.proofs.WitnessSize.{goalSize}
+use Rattle.compare.proofs.WitnessSize.{targetSize}
 use Rattle.fit.specs.Description.{Atom, Kind, Place, atom, has, least}
 use Rattle.fit.specs.Tree.{end, leaf, node}
 use Rattle.normal.proofs.Names.{member-names}
 use Rattle.normal.specs.Normal.{find, found, sub}
 use Rattle.normal.specs.Size.{levels, measure}
 use Rattle.normal.specs.SpecimenTree.{SpecimenTree}
-use Rattle.normal.specs.Witness.{Goal, below, build, countFor, goalLinks, goalProperties, groupsBy, member, names, next, off, on, path, withProperties, witness}
+use Rattle.normal.specs.Witness.{Target, below, build, countFor, groupsBy, member, names, next, off, on, path, targetLinks, targetProperties, withProperties, witness}
 
 -- groups have one level more than what their items have
 groups-levels : (f : ℕ → ℕ) (s : ℕ → SpecimenTree) (ls : List ℕ) (n : ℕ) → ((l : ℕ) → member l ls ≡ true → suc (levels (s l)) ≤ n)
@@ -49,34 +49,34 @@ sub-levels l end = omega arith
 sub-levels l (leaf a r) = omega (arith, sub-levels l r)
 sub-levels l (node l′ s r) = bool-cases (eqb l l′) (λ q. rw q (omega arith)) (λ q. rw q (omega (arith, sub-levels l r)))
 
--- the goal below is shorter
-next-size : (g : Goal) (l : ℕ) → goalSize (next g l) ≤ pred (goalSize g)
+-- the target below is shorter
+next-size : (g : Target) (l : ℕ) → targetSize (next g l) ≤ pred (targetSize g)
 next-size off l = omega arith
 next-size (on [] a) l = omega arith
 next-size (on (x ∷ w) a) l = bool-cases (eqb l x) (λ q. rw q (omega arith)) (λ q. rw q (omega arith))
 
--- a goal that asks for something has a level
-asks-level : (g : Goal) (x : ℕ) → (member x (goalLinks g) || member x (goalProperties g)) ≡ true → 1 ≤ goalSize g
+-- a target that asks for something has a level
+asks-level : (g : Target) (x : ℕ) → (member x (targetLinks g) || member x (targetProperties g)) ≡ true → 1 ≤ targetSize g
 unfolding member
 asks-level off x e = absurd (false≢true e)
 asks-level (on w a) x e = omega arith
 
-build-levels : (f : ℕ → Goal → SpecimenTree) (t : Place) (g : Goal) → ((l : ℕ) (g′ : Goal) → levels (f l g′) ≤ max (levels (sub l t)) (goalSize g′))
-    → levels (build f t g) ≤ max (levels t) (goalSize g)
+build-levels : (f : ℕ → Target → SpecimenTree) (t : Place) (g : Target) → ((l : ℕ) (g′ : Target) → levels (f l g′) ≤ max (levels (sub l t)) (targetSize g′))
+    → levels (build f t g) ≤ max (levels t) (targetSize g)
 unfolding build
 build-levels f t g h =
-    let ls : List ℕ = names least t (goalLinks g) in
-    let ps : List ℕ = names has t (goalProperties g) in
-    let n : ℕ = max (levels t) (goalSize g) in
+    let ls : List ℕ = names least t (targetLinks g) in
+    let ps : List ℕ = names has t (targetProperties g) in
+    let n : ℕ = max (levels t) (targetSize g) in
     properties-levels ps (groupsBy ls (countFor t g) (λ l. f l (next g l))) n
-    (λ p e. or-cases (found (find has p t)) (member p (goalProperties g)) (sym (member-names has p t (goalProperties g)) ∙ e)
+    (λ p e. or-cases (found (find has p t)) (member p (targetProperties g)) (sym (member-names has p t (targetProperties g)) ∙ e)
     (λ z. omega (arith, found-level t has p z))
-    (λ z. omega (arith, asks-level g p (or-right (member p (goalLinks g)) z))))
+    (λ z. omega (arith, asks-level g p (or-right (member p (targetLinks g)) z))))
     (groups-levels (countFor t g) (λ l. f l (next g l)) ls n
     (λ l e.
-    let some : 1 ≤ n = or-cases (found (find least l t)) (member l (goalLinks g)) (sym (member-names least l t (goalLinks g)) ∙ e)
+    let some : 1 ≤ n = or-cases (found (find least l t)) (member l (targetLinks g)) (sym (member-names least l t (targetLinks g)) ∙ e)
     (λ z. omega (arith, found-level t least l z))
-    (λ z. omega (arith, asks-level g l (or-left (member l (goalProperties g)) z))) in
+    (λ z. omega (arith, asks-level g l (or-left (member l (targetProperties g)) z))) in
     omega (arith, h l (next g l), sub-levels l t, next-size g l)))
 
 path-levels : (w : List ℕ) (a : Atom) → levels (path w a) ≤ suc (length w)
@@ -84,7 +84,7 @@ unfolding path measure
 path-levels [] a = omega (arith, build-levels (λ l g. end) end (on [] a) (λ l g. omega arith))
 path-levels (l ∷ w) a = omega (arith, path-levels w a)
 
-below-levels : (t : Place) (l : ℕ) (g : Goal) → levels (below t l g) ≤ max (levels (sub l t)) (goalSize g)
+below-levels : (t : Place) (l : ℕ) (g : Target) → levels (below t l g) ≤ max (levels (sub l t)) (targetSize g)
 unfolding below sub measure
 below-levels end l off = omega arith
 below-levels end l (on w a) = omega (arith, path-levels w a)
@@ -94,7 +94,7 @@ below-levels (node l′ s r) l g =
     (λ q. rw q (build-levels (λ l″ g′. below s l″ g′) s g (λ l″ g′. below-levels s l″ g′)))
     (λ q. rw q (below-levels r l g))
 
--- the specimen is no deeper than the normal place and the goal
-pub witness-levels : (t : Place) (g : Goal) → levels (witness t g) ≤ max (levels t) (goalSize g)
+-- the specimen is no deeper than the normal place and the target
+pub witness-levels : (t : Place) (g : Target) → levels (witness t g) ≤ max (levels t) (targetSize g)
 unfolding witness
 witness-levels t g = build-levels (λ l g′. below t l g′) t g (λ l g′. below-levels t l g′)

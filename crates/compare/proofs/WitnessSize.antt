@@ -17,23 +17,23 @@ use Rattle.normal.proofs.Sums.{sum-add, sum-le, sum-once, sum-zero}
 use Rattle.normal.specs.Normal.{rank, sub}
 use Rattle.normal.specs.Size.{measure, nodes}
 use Rattle.normal.specs.SpecimenTree.{SpecimenTree}
-use Rattle.normal.specs.Witness.{Goal, below, build, countFor, goalLinks, goalProperties, groupsBy, member, names, next, off, on, once, path, slot, withProperties, witness}
+use Rattle.normal.specs.Witness.{Target, below, build, countFor, groupsBy, member, names, next, off, on, once, path, putAscending, targetLinks, targetProperties, withProperties, witness}
 
--- what a goal adds: its path, and what is asked for at its end
-abbrev pub goalSize : Goal → ℕ
-goalSize off = 0
-goalSize (on w a) = suc (length w)
+-- what a target adds: its path, and what is asked for at its end
+abbrev pub targetSize : Target → ℕ
+targetSize off = 0
+targetSize (on w a) = suc (length w)
 
 -- ---- the lists of names
 
-length-slot : (l : ℕ) (ls : List ℕ) → length (slot l ls) ≡ suc (length ls)
-unfolding slot
-length-slot l [] = refl
-length-slot l (a ∷ ls) = bool-cases (ltb l a) (λ q. rw q) (λ q. rw (q, length-slot l ls))
+length-put : (l : ℕ) (ls : List ℕ) → length (putAscending l ls) ≡ suc (length ls)
+unfolding putAscending
+length-put l [] = refl
+length-put l (a ∷ ls) = bool-cases (ltb l a) (λ q. rw q) (λ q. rw (q, length-put l ls))
 
 length-once : (l : ℕ) (ls : List ℕ) → length (once l ls) ≤ suc (length ls)
 unfolding once
-length-once l ls = bool-cases (member l ls) (λ q. rw q (omega arith)) (λ q. rw q (omega (arith, length-slot l ls)))
+length-once l ls = bool-cases (member l ls) (λ q. rw q (omega arith)) (λ q. rw q (omega (arith, length-put l ls)))
 
 -- the entries of kind k of a place
 listedOf : Kind → Place → ℕ
@@ -66,16 +66,16 @@ length-names k (leaf (atom k′ n m) r) ls =
     (λ q. rw q (omega (arith, length-names k r ls)))
 length-names k (node l s r) ls = length-names k r ls
 
--- a goal names a link once
-goal-different : (g : Goal) → Different (goalLinks g)
+-- a target names a link once
+target-different : (g : Target) → Different (targetLinks g)
 unfolding member
-goal-different off = tt
-goal-different (on [] (atom has n m)) = tt
-goal-different (on [] (atom lacks n m)) = tt
-goal-different (on [] (atom least n m)) = tt
-goal-different (on [] (atom most n m)) = (refl, tt)
-goal-different (on [] (atom nothing n m)) = tt
-goal-different (on (l ∷ w) a) = (refl, tt)
+target-different off = tt
+target-different (on [] (atom has n m)) = tt
+target-different (on [] (atom lacks n m)) = tt
+target-different (on [] (atom least n m)) = tt
+target-different (on [] (atom most n m)) = (refl, tt)
+target-different (on [] (atom nothing n m)) = tt
+target-different (on (l ∷ w) a) = (refl, tt)
 
 -- ---- entries
 
@@ -93,8 +93,8 @@ owned-sum (node l s r) ls u =
           (λ l′. bool-cases (eqb l′ l) (λ q. rw q (omega arith)) (λ q. rw q (omega arith))),
     )
 
--- a goal is used up by what it asks for here and by what it asks for below
-next-sum : (g : Goal) (ls : List ℕ) → Different ls → length (goalProperties g) + length (goalLinks g) + sumIn (λ l. goalSize (next g l)) ls ≤ goalSize g
+-- a target is used up by what it asks for here and by what it asks for below
+next-sum : (g : Target) (ls : List ℕ) → Different ls → length (targetProperties g) + length (targetLinks g) + sumIn (λ l. targetSize (next g l)) ls ≤ targetSize g
 next-sum off ls u = omega (arith, sum-zero ls)
 next-sum (on [] (atom has n m)) ls u = omega (arith, sum-zero ls)
 next-sum (on [] (atom lacks n m)) ls u = omega (arith, sum-zero ls)
@@ -106,7 +106,7 @@ next-sum (on (x ∷ w) a) ls u =
       arith,
       sum-zero ls,
       sum-once (suc (length w)) x (λ l. 0) ls u,
-      sum-le (λ l. goalSize (next (on (x ∷ w) a) l)) (λ l. cond (eqb l x) (suc (length w) + 0) 0) ls
+      sum-le (λ l. targetSize (next (on (x ∷ w) a) l)) (λ l. cond (eqb l x) (suc (length w) + 0) 0) ls
           (λ l. bool-cases (eqb l x) (λ q. rw q (omega arith)) (λ q. rw q (omega arith))),
     )
 
@@ -120,23 +120,23 @@ unfolding measure groupsBy sumIn
 groups-nodes f s [] = omega arith
 groups-nodes f s (l ∷ ls) = bool-cases (eqb (f l) 0) (λ q. rw q (omega (arith, groups-nodes f s ls))) (λ q. rw q (omega (arith, groups-nodes f s ls)))
 
-build-nodes : (f : ℕ → Goal → SpecimenTree) (t : Place) (g : Goal) → ((l : ℕ) (g′ : Goal) → nodes (f l g′) ≤ nodes (sub l t) + goalSize g′)
-    → nodes (build f t g) ≤ nodes t + goalSize g
+build-nodes : (f : ℕ → Target → SpecimenTree) (t : Place) (g : Target) → ((l : ℕ) (g′ : Target) → nodes (f l g′) ≤ nodes (sub l t) + targetSize g′)
+    → nodes (build f t g) ≤ nodes t + targetSize g
 unfolding build
 build-nodes f t g h =
-    let ls : List ℕ = names least t (goalLinks g) in
-    let u : Different ls = different-names least t (goalLinks g) (goal-different g) in
+    let ls : List ℕ = names least t (targetLinks g) in
+    let u : Different ls = different-names least t (targetLinks g) (target-different g) in
     omega (
       arith,
-      properties-nodes (names has t (goalProperties g)) (groupsBy ls (countFor t g) (λ l. f l (next g l))),
+      properties-nodes (names has t (targetProperties g)) (groupsBy ls (countFor t g) (λ l. f l (next g l))),
       groups-nodes (countFor t g) (λ l. f l (next g l)) ls,
-      length-names has t (goalProperties g),
-      length-names least t (goalLinks g),
+      length-names has t (targetProperties g),
+      length-names least t (targetLinks g),
       listed-nodes t,
       owned-sum t ls u,
       next-sum g ls u,
-      sum-le (λ l. nodes (f l (next g l))) (λ l. nodes (sub l t) + goalSize (next g l)) ls (λ l. h l (next g l)),
-      sum-add (λ l. nodes (sub l t)) (λ l. goalSize (next g l)) ls,
+      sum-le (λ l. nodes (f l (next g l))) (λ l. nodes (sub l t) + targetSize (next g l)) ls (λ l. h l (next g l)),
+      sum-add (λ l. nodes (sub l t)) (λ l. targetSize (next g l)) ls,
     )
 
 path-nodes : (w : List ℕ) (a : Atom) → nodes (path w a) ≤ suc (length w)
@@ -144,7 +144,7 @@ unfolding path measure
 path-nodes [] a = omega (arith, build-nodes (λ l g. end) end (on [] a) (λ l g. omega arith))
 path-nodes (l ∷ w) a = omega (arith, path-nodes w a)
 
-below-nodes : (t : Place) (l : ℕ) (g : Goal) → nodes (below t l g) ≤ nodes (sub l t) + goalSize g
+below-nodes : (t : Place) (l : ℕ) (g : Target) → nodes (below t l g) ≤ nodes (sub l t) + targetSize g
 unfolding below sub measure
 below-nodes end l off = omega arith
 below-nodes end l (on w a) = omega (arith, path-nodes w a)
@@ -154,7 +154,7 @@ below-nodes (node l′ s r) l g =
     (λ q. rw q (build-nodes (λ l″ g′. below s l″ g′) s g (λ l″ g′. below-nodes s l″ g′)))
     (λ q. rw q (below-nodes r l g))
 
--- the specimen has no more entries than the normal place and the goal
-pub witness-nodes : (t : Place) (g : Goal) → nodes (witness t g) ≤ nodes t + goalSize g
+-- the specimen has no more entries than the normal place and the target
+pub witness-nodes : (t : Place) (g : Target) → nodes (witness t g) ≤ nodes t + targetSize g
 unfolding witness
 witness-nodes t g = build-nodes (λ l g′. below t l g′) t g (λ l g′. below-nodes t l g′)

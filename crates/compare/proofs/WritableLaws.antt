@@ -24,7 +24,7 @@ use Rattle.compare.proofs.NotContained.{Shown, not-contained-shown}
 use Rattle.compare.proofs.SpanLaws.{around-none, around-some, rank-ranked}
 use Rattle.compare.proofs.SpecimenPlaces.{tree-places}
 use Rattle.compare.specs.Answer.{failing, normalOf, specimenOf}
-use Rattle.compare.specs.Codes.{Writable, askedBy, codeBelow, goalAt, groupAt, groupsWith, jointsBy, leastFor, propertiesBy, specimenNumber, treeAt, treeBy, upFrom}
+use Rattle.compare.specs.Codes.{Writable, askedBy, codeBelow, groupAt, groupsWith, jointsBy, leastFor, propertiesBy, specimenNumber, targetAt, treeAt, treeBy, upFrom}
 use Rattle.compare.specs.Specimen.{rowEntry, specimenEntries, specimenFor}
 use Rattle.compare.specs.Table.{Formed, Narrow, Ranked, Table, Unpacked, entriesFrom, entriesIn, entryFor, entryIn, keyOf, nameIn, nameOr, namesWith, numberIn, spanFrom, wordOf}
 use Rattle.fit.specs.Background.{unrestricted}
@@ -35,9 +35,9 @@ use Rattle.normal.proofs.NormalLegal.{normal-legal}
 use Rattle.normal.specs.Answer.{normalEntries}
 use Rattle.normal.specs.Canonical.{Canonical}
 use Rattle.normal.specs.Layout.{write}
-use Rattle.normal.specs.Normal.{dead, find}
+use Rattle.normal.specs.Normal.{find, isBottom}
 use Rattle.normal.specs.SpecimenTree.{Group}
-use Rattle.normal.specs.Witness.{goalLinks, goalProperties, on, orZero, witness}
+use Rattle.normal.specs.Witness.{on, orZero, targetLinks, targetProperties, witness}
 
 -- the tables of a comparison that finds entry n of D to fail: the normal form of C, and the path to the entry
 pub record Tables (c d : List Entry) (n : ℕ) (form : List ℕ) (k : ℕ) (links : List ℕ) (m : ℕ) : Type 0 where
@@ -45,7 +45,7 @@ pub record Tables (c d : List Entry) (n : ℕ) (form : List ℕ) (k : ℕ) (link
   pub service : Legal Description d
   pub few : length c ≤ 1008
   pub fewer : length d ≤ 1008
-  pub alive : dead (normalOf c) ≡ false
+  pub alive : isBottom (normalOf c) ≡ false
   pub fails : failing c d ≡ n
   pub some′ : n ≢ 0
   pub unpacked : Unpacked (normalEntries c) form k
@@ -126,7 +126,7 @@ module _ (form : List ℕ) (k : ℕ) (formed : Formed form k) (legal : Legal Des
   span-end v κ q = rw (q, keys-next v κ) (span-ranked v (suc κ) 0)
 
   -- the properties of a place
-  place-properties : (c x : ℕ) → x ≤ 65536 → goalProperties (goalAt w (atomOf e) (c / 1024)) ≡ nameOr x
+  place-properties : (c x : ℕ) → x ≤ 65536 → targetProperties (targetAt w (atomOf e) (c / 1024)) ≡ nameOr x
       → propertiesBy form k links m e c ≡ namesWith form k (c % 1024) 1 x
   place-properties c x h g =
       let v : ℕ = c % 1024 in
@@ -137,13 +137,13 @@ module _ (form : List ℕ) (k : ℕ) (formed : Formed form k) (legal : Legal Des
       (properties-extra es legal normal form k formed w (atomOf e) c x (omega arith) (g ∙ rw (ne-eqb z))
       (span-ranked v 1 0) (span-ranked v 1 x) (span-ranked v 1 (suc x)) (span-ranked v 2 0)))
 
-  -- the group of the link that the goal asks for
+  -- the group of the link that the target asks for
   group-asked : (c l : ℕ) → groupAt es w (atomOf e) c l ≡ askedBy form k links m e c l
   unfolding codeBelow
   group-asked c l = rw (least-listed es legal (c % 1024) l)
 
   -- the groups of a place
-  place-groups : (c x : ℕ) → x ≤ 65536 → goalLinks (goalAt w (atomOf e) (c / 1024)) ≡ nameOr x
+  place-groups : (c x : ℕ) → x ≤ 65536 → targetLinks (targetAt w (atomOf e) (c / 1024)) ≡ nameOr x
       → jointsBy form k links m e c ≡ groupsWith form k (c % 1024) x (askedBy form k links m e c x)
   place-groups c x h g =
       let v : ℕ = c % 1024 in
@@ -180,7 +180,7 @@ module _ {c d : List Entry} {n : ℕ} {form : List ℕ} {k : ℕ} {links : List 
 
   -- the top of the specimen, by the tables
   pub tables-tree : treeBy form k links m (nth d n) 1024 ≡ witness (normalOf c) (on (linksTo d n) (atomOf (nth d n)))
-  unfolding treeAt goalAt normalOf
+  unfolding treeAt targetAt normalOf
   tables-tree = rw (form-entries, normal-place, t .path)
 
   -- the specimen's entries are the rows that the tables give

@@ -17,35 +17,35 @@ use Rattle.fit.specs.Description.{Atom, atomOf, has, least, placeOf}
 use Rattle.fit.specs.Tree.{Row}
 use Rattle.normal.specs.Layout.{write}
 use Rattle.normal.specs.SpecimenTree.{Group, SpecimenTree, group}
-use Rattle.normal.specs.Witness.{Goal, countFor, goalLinks, goalProperties, names, off, on, want, witness}
+use Rattle.normal.specs.Witness.{Target, countFor, names, off, on, targetLinks, targetProperties, want, witness}
 
--- the goal of number g: 0 asks nothing, i + 1 asks for the atom at the end of the path, of which i links are passed
-unfoldable pub goalAt : List ℕ → Atom → ℕ → Goal
-goalAt w a zero = off
-goalAt w a (suc i) = on (drop i w) a
+-- the target of number g: 0 asks nothing, i + 1 asks for the atom at the end of the path, of which i links are passed
+unfoldable pub targetAt : List ℕ → Atom → ℕ → Target
+targetAt w a zero = off
+targetAt w a (suc i) = on (drop i w) a
 
--- the number of the goal that link l leads to
-unfoldable pub goalBelow : List ℕ → ℕ → ℕ → ℕ
-goalBelow w zero l = 0
-goalBelow w (suc i) l = cond (ltb i (length w) && eqb l (getD w i 0)) (suc (suc i)) 0
+-- the number of the target that link l leads to
+unfoldable pub targetBelow : List ℕ → ℕ → ℕ → ℕ
+targetBelow w zero l = 0
+targetBelow w (suc i) l = cond (ltb i (length w) && eqb l (getD w i 0)) (suc (suc i)) 0
 
--- what stands below the place of a code, 1,024 times the number of its goal and the number of its place in the normal form es
+-- what stands below the place of a code, 1,024 times the number of its target and the number of its place in the normal form es
 unfoldable pub treeAt : List Entry → List ℕ → Atom → ℕ → SpecimenTree
-treeAt es w a c = witness (placeOf es (c % 1024)) (goalAt w a (c / 1024))
+treeAt es w a c = witness (placeOf es (c % 1024)) (targetAt w a (c / 1024))
 
 -- the code of the place that link l leads to
 unfoldable pub codeBelow : List Entry → List ℕ → ℕ → ℕ → ℕ
-codeBelow es w c l = 1024 * goalBelow w (c / 1024) l + placeBelow es (c % 1024) l
+codeBelow es w c l = 1024 * targetBelow w (c / 1024) l + placeBelow es (c % 1024) l
 
 -- its properties, and its groups
 unfoldable pub propertiesAt : List Entry → List ℕ → Atom → ℕ → List ℕ
-propertiesAt es w a c = names has (placeOf es (c % 1024)) (goalProperties (goalAt w a (c / 1024)))
+propertiesAt es w a c = names has (placeOf es (c % 1024)) (targetProperties (targetAt w a (c / 1024)))
 
 abbrev pub groupAt : List Entry → List ℕ → Atom → ℕ → ℕ → Joint Group
-groupAt es w a c l = joint (group l (pred (countFor (placeOf es (c % 1024)) (goalAt w a (c / 1024)) l))) (codeBelow es w c l)
+groupAt es w a c l = joint (group l (pred (countFor (placeOf es (c % 1024)) (targetAt w a (c / 1024)) l))) (codeBelow es w c l)
 
 unfoldable pub groupsAt : List Entry → List ℕ → Atom → ℕ → List (Joint Group)
-groupsAt es w a c = map (groupAt es w a c) (names least (placeOf es (c % 1024)) (goalLinks (goalAt w a (c / 1024))))
+groupsAt es w a c = map (groupAt es w a c) (names least (placeOf es (c % 1024)) (targetLinks (targetAt w a (c / 1024))))
 
 -- the groups that n words from index i on give at place v
 unfoldable pub groupsFrom : List Entry → List ℕ → ℕ → ℕ → ℕ → List (Joint Group)
@@ -84,7 +84,7 @@ jointsBy form k links m e c = groupsAt (entriesIn form k) (upFrom links m) (atom
 abbrev pub numbersBy : List ℕ → ℕ → List ℕ → ℕ → Entry → ℕ → ℕ → List ℕ
 numbersBy form k links m e o c = placeNumbers specimenNumber o (propertiesBy form k links m e c) (jointsBy form k links m e c)
 
--- a code whose goal is on the path, or none
+-- a code whose target is on the path, or none
 abbrev pub OnPath : ℕ → ℕ → Type 0
 OnPath m c = c / 1024 ≤ suc m
 
@@ -92,20 +92,20 @@ OnPath m c = c / 1024 ≤ suc m
 unfoldable pub leastFor : List Entry → ℕ → ℕ → ℕ
 leastFor es v l = cond (eqb (entryFor es v 3 l) 0) 0 (nth es (entryFor es v 3 l) .number)
 
--- the group of a link that the goal asks for
+-- the group of a link that the target asks for
 abbrev pub askedBy : List ℕ → ℕ → List ℕ → ℕ → Entry → ℕ → ℕ → Joint Group
 askedBy form k links m e c l =
-    joint (group l (pred (max (leastFor (entriesIn form k) (c % 1024) l) (want (goalAt (upFrom links m) (atomOf e) (c / 1024)) l))))
-    (1024 * goalBelow (upFrom links m) (c / 1024) l + placeBelow (entriesIn form k) (c % 1024) l)
+    joint (group l (pred (max (leastFor (entriesIn form k) (c % 1024) l) (want (targetAt (upFrom links m) (atomOf e) (c / 1024)) l))))
+    (1024 * targetBelow (upFrom links m) (c / 1024) l + placeBelow (entriesIn form k) (c % 1024) l)
 
--- What the tables give for each place of the specimen: its properties and its groups in spans of the normal form, around what the goal
+-- What the tables give for each place of the specimen: its properties and its groups in spans of the normal form, around what the target
 -- asks for; and a table of 2,016 has room for all rows.
 pub record Writable (form : List ℕ) (k : ℕ) (links : List ℕ) (m : ℕ) (e : Entry) : Type 0 where
   pub formed : Formed form k
   pub short : m ≤ 32
-  pub properties : (c x : ℕ) → x ≤ 65536 → goalProperties (goalAt (upFrom links m) (atomOf e) (c / 1024)) ≡ nameOr x
+  pub properties : (c x : ℕ) → x ≤ 65536 → targetProperties (targetAt (upFrom links m) (atomOf e) (c / 1024)) ≡ nameOr x
       → propertiesBy form k links m e c ≡ namesWith form k (c % 1024) 1 x
-  pub groups : (c x : ℕ) → x ≤ 65536 → goalLinks (goalAt (upFrom links m) (atomOf e) (c / 1024)) ≡ nameOr x
+  pub groups : (c x : ℕ) → x ≤ 65536 → targetLinks (targetAt (upFrom links m) (atomOf e) (c / 1024)) ≡ nameOr x
       → jointsBy form k links m e c ≡ groupsWith form k (c % 1024) x (askedBy form k links m e c x)
   pub trees : (c : ℕ) → treeBy form k links m e c ≡ leaves (propertiesBy form k links m e c) (joints (treeBy form k links m e) (jointsBy form k links m e c))
   pub room : length (write (treeBy form k links m e 1024)) ≤ 2016

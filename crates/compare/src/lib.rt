@@ -5,7 +5,7 @@
 // The contracts cite specs/: Answer says what is answered and written, Specimen what the specimen is; Table, Codes, Laying and Prepared
 // mirror the code, and no public promise names them. What the answer means in every finite record is proved in proofs/: Contained,
 // NotContained, Answer.
-mod goal;
+mod asked;
 mod lookup;
 mod path;
 mod places;

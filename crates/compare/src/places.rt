@@ -1,4 +1,4 @@
-// The rows of one place of the specimen: the properties and groups that the normal form lists there, and what its goal asks for.
+// The rows of one place of the specimen: the properties and groups that the normal form lists there, and what its target asks for.
 ghost use mathlib.Core.Path.{_≡_};
 ghost use mathlib.Core.List.{List, [], _∷_, map};
 ghost use mathlib.Core.Logic.{_≢_};
@@ -6,14 +6,14 @@ ghost use Prim.Native.Nat.{ℕ, _+_, _*_, _/_, _≤_, _<_, max, pred};
 ghost use lib.ListN.{length};
 ghost use Rattle.fit.specs.Description.{Atom, atomOf};
 ghost use Rattle.normal.specs.SpecimenTree.{group};
-ghost use Rattle.normal.specs.Witness.{goalLinks, want};
+ghost use Rattle.normal.specs.Witness.{targetLinks, want};
 ghost use Rattle.compare.specs.Table.{Formed, entriesIn, namesWith, placeBelow, spanFrom};
 ghost use Rattle.compare.specs.Laying.{Placed, Pushed, codes, joint, jointRows, leafRows};
-ghost use Rattle.compare.specs.Codes.{OnPath, PlacedBy, Writable, goalAt, goalBelow, groupsWith, leastFor, numbersBy, specimenNumber, upFrom};
-use crate::goal::asked_count;
-use crate::goal::asked_link;
-use crate::goal::asked_property;
-use crate::goal::goal_below;
+ghost use Rattle.compare.specs.Codes.{OnPath, PlacedBy, Writable, groupsWith, leastFor, numbersBy, specimenNumber, targetAt, targetBelow, upFrom};
+use crate::asked::asked_count;
+use crate::asked::asked_link;
+use crate::asked::asked_property;
+use crate::asked::target_below;
 use crate::lookup::find_link;
 use crate::lookup::number_of;
 use crate::lookup::place_below;
@@ -108,37 +108,37 @@ fn listed_least(form: &[u64; 1008], k: usize, v: u64, l: Link) -> u64
     number_of(form, k, j)
 }
 
-// The number of the group of a link that the goal asks for, one less than its count.
+// The number of the group of a link that the target asks for, one less than its count.
 fn asked_number(
     form: &[u64; 1008],
     k: usize,
     v: u64,
     x: u64,
-    goal: usize,
+    target: usize,
     m: usize,
     e: Entry,
 ) -> u16
-    requires { ⌜ Formed (now form) k × (v < 1024) × (x ≤ 65536) × (goal ≤ m + 1) × (m ≤ 32) ⌝ }
-    ensures { λ r. ⌜ (x ≢ 65536 → (links : List ℕ) → goalLinks (goalAt (upFrom links m) (atomOf e) goal) ≡ x ∷ [] → r ≡ pred (max (leastFor (entriesIn (now (form .entry)) k) v x) (want (goalAt (upFrom links m) (atomOf e) goal) x))) ⌝ }
+    requires { ⌜ Formed (now form) k × (v < 1024) × (x ≤ 65536) × (target ≤ m + 1) × (m ≤ 32) ⌝ }
+    ensures { λ r. ⌜ (x ≢ 65536 → (links : List ℕ) → targetLinks (targetAt (upFrom links m) (atomOf e) target) ≡ x ∷ [] → r ≡ pred (max (leastFor (entriesIn (now (form .entry)) k) v x) (want (targetAt (upFrom links m) (atomOf e) target) x))) ⌝ }
 {
     if x == 65536 {
         return 0;
     }
     less_one(larger(
         listed_least(form, k, v, Link(x as u16)),
-        asked_count(goal, m, e),
+        asked_count(target, m, e),
     ))
 }
 
 // The code of the place below it.
-fn asked_code(form: &[u64; 1008], k: usize, v: u64, x: u64, goal: usize, m: usize) -> u16
-    requires { ⌜ Formed (now form) k × (v < 1024) × (x ≤ 65536) × (goal ≤ m + 1) × (m ≤ 32) ⌝ }
-    ensures { λ r. ⌜ (x ≢ 65536 → (links : List ℕ) (a : Atom) → goalLinks (goalAt (upFrom links m) a goal) ≡ x ∷ [] → r ≡ 1024 * goalBelow (upFrom links m) goal x + placeBelow (entriesIn (now (form .entry)) k) v x) ⌝ }
+fn asked_code(form: &[u64; 1008], k: usize, v: u64, x: u64, target: usize, m: usize) -> u16
+    requires { ⌜ Formed (now form) k × (v < 1024) × (x ≤ 65536) × (target ≤ m + 1) × (m ≤ 32) ⌝ }
+    ensures { λ r. ⌜ (x ≢ 65536 → (links : List ℕ) (a : Atom) → targetLinks (targetAt (upFrom links m) a target) ≡ x ∷ [] → r ≡ 1024 * targetBelow (upFrom links m) target x + placeBelow (entriesIn (now (form .entry)) k) v x) ⌝ }
 {
     if x == 65536 {
         return 0;
     }
-    (1024 * goal_below(goal, m) + place_below(form, k, v, Link(x as u16))) as u16
+    (1024 * target_below(target, m) + place_below(form, k, v, Link(x as u16))) as u16
 }
 
 // Pushes the rows of the place of a code, of this owner: its properties, then its groups.
@@ -158,11 +158,11 @@ pub(crate) fn push_place(
     ensures { λ r. ⌜ PlacedBy (now (form .entry)) k (now (links .entry)) m e owner code (now (rows .entry)) count (now (below .entry)) (now (rows .exit)) r (now (below .exit)) ⌝ }
 {
     let v = (code % 1024) as u64;
-    let goal = code / 1024;
-    let p = asked_property(goal, m, e);
+    let target = code / 1024;
+    let p = asked_property(target, m, e);
     let n = push_properties(owner, v, p, form, k, rows, count);
-    let l = asked_link(goal, links, m, e);
-    let number = asked_number(form, k, v, l, goal, m, e);
-    let next = asked_code(form, k, v, l, goal, m);
+    let l = asked_link(target, links, m, e);
+    let number = asked_number(form, k, v, l, target, m, e);
+    let next = asked_code(form, k, v, l, target, m);
     push_joints(owner, v, l, number, next, form, k, rows, below, n)
 }

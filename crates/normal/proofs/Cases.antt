@@ -28,7 +28,7 @@ use Rattle.normal.specs.Answer.{normalEntries, normaliseOf, normalisedOf
 use Rattle.blocks.specs.declared.Finding.the-variants.{Clean}
 use Rattle.normal.specs.Cases.{Line, lines, normalises}
 use Rattle.normal.specs.Layout.{later, lay, weight, write}
-use Rattle.normal.specs.Normal.{add, dead, excluded, fill, find, insert, nf, put, putEvery, remove, removeEvery, removeLacks, sub, within}
+use Rattle.normal.specs.Normal.{add, excluded, fill, find, insert, isBottom, nf, put, putEvery, remove, removeEvery, removeLacks, sub, within}
 use Rattle.normal.specs.SpecimenTree.{total}
 use Rattle.normal.specs.declared.NormalAnswer.the-variants.{Normalised}
 
@@ -65,7 +65,7 @@ each-right (_also_ {l = a} h hs) l m = ⊎-elim (λ q. rw q (computes-right a h)
 
 -- every example is right
 pub lines-right : (l : Line) → List·Memᴰ l lines → Right l
-unfolding lines normalEntries first entryFaults formOk nameOk numberOk ownerOk ownerOf nth depthOk depthOf chain kindOf rowOf placeOf tree nf add within fill insert put putEvery remove removeEvery removeLacks find sub excluded dead write lay later weight
+unfolding lines normalEntries first entryFaults formOk nameOk numberOk ownerOk ownerOf nth depthOk depthOf chain kindOf rowOf placeOf tree nf add within fill insert put putEvery remove removeEvery removeLacks find sub excluded isBottom write lay later weight
 lines-right =
     each-right
     ((refl, refl, refl) also (refl, refl, refl) also (refl, refl, refl) also (refl, refl, refl)

@@ -11,7 +11,7 @@ use Rattle.fit.specs.Background.{unrestricted}
 use Rattle.fit.specs.Description.{Atom}
 use Rattle.fit.specs.Tree.{Row, tree}
 use Rattle.normal.proofs.CellLaws.{cell-irreflexive, cell-trans, cells-sorted}
-use Rattle.normal.proofs.FormNormal.{form-says, form-top, top-nothing}
+use Rattle.normal.proofs.FormNormal.{form-nonempty, form-top, top-nothing}
 use Rattle.normal.proofs.Forms.{form, form-written}
 use Rattle.normal.proofs.LayoutLaws.{weight-nodes, write-length}
 use Rattle.normal.proofs.Merged.{tree-nodes}
@@ -23,7 +23,7 @@ use Rattle.normal.proofs.Written.{kept}
 use Rattle.normal.specs.Layout.{lay, weight, write}
 use Rattle.normal.specs.Normal.{atMost, nf}
 use Rattle.normal.specs.Pipeline.{beforeCell, enoughFor, keeping, normalRows, rowsFrom, sortedCells}
-use Rattle.normal.specs.Slots.{Cell, Slot, cells, dies, slots}
+use Rattle.normal.specs.Slots.{Cell, Slot, cells, inconsistent, slots}
 use Rattle.normal.specs.Sorted.{Sorted, sort}
 
 module _ (rs : List (Row Atom ℕ)) where
@@ -33,7 +33,7 @@ module _ (rs : List (Row Atom ℕ)) where
   -- an 'every' is kept where its place is not empty
   keeping-kept : keeping ss ≡ kept (form ss)
   keeping-kept =
-      fun-ext (λ j. fun-ext (λ b. fun-ext (λ hi. ap (λ (x : Bool). b && (x && not (atMost 0 hi))) (form-says rs j))))
+      fun-ext (λ j. fun-ext (λ b. fun-ext (λ hi. ap (λ (x : Bool). b && (x && not (atMost 0 hi))) (form-nonempty rs j))))
 
   enough-weight : weight (nf unrestricted (tree 1 rs 0)) ≤ enoughFor rs
   enough-weight = omega (arith, weight-nodes (nf unrestricted (tree 1 rs 0)), nf-nodes unrestricted (tree 1 rs 0), tree-nodes rs)
@@ -42,7 +42,7 @@ module _ (rs : List (Row Atom ℕ)) where
   pub rows-exact : (f : ℕ) → enoughFor rs ≤ f → rowsFrom (slots rs) (sortedCells (slots rs)) f ≡ write (nf unrestricted (tree 1 rs 0))
   unfolding rowsFrom
   rows-exact f i =
-      bool-cases (dies 1 ss 0)
+      bool-cases (inconsistent 1 ss 0)
       (λ z. rw (z, top-nothing rs z) (unfold write lay weight in refl))
       (λ z.
       let e : form ss 0 ≡ nf unrestricted (tree 1 rs 0) = form-top rs z in

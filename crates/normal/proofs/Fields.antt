@@ -9,7 +9,7 @@ use Rattle.fit.specs.Description.{Atom, Kind, Place, atom, has, lacks, least, m
 use Rattle.fit.specs.Tree.{end, leaf, node}
 use Rattle.normal.proofs.AllEntries.{AllEntries}
 use Rattle.normal.proofs.Thinner.{Thinner, done, dropAtom, dropEvery, keepAtom, keepEvery, thinner-clear, thinner-remove, thinner-removeEvery}
-use Rattle.normal.specs.Normal.{add, before, clash, clear, dead, fill, insert, isEnd, nf, put, putEvery, rank, remove, removeEvery, stored, sub, supports, within}
+use Rattle.normal.specs.Normal.{add, before, clash, clear, fill, insert, isBottom, isEnd, nf, put, putEvery, rank, remove, removeEvery, stored, sub, supports, within}
 
 module _ (Name Number : ℕ → Type 0) where
   -- the name and the number of an atom; kind 6 has none
@@ -66,7 +66,7 @@ module _ (Name Number : ℕ → Type 0) where
       insert-fields : (a : Atom) (t : Place) → AtomFields a → Fields t → Fields (insert b a t)
       unfolding insert
       insert-fields (atom k n m) t a h =
-          bool-cases (dead t || supports b t (atom k n m))
+          bool-cases (isBottom t || supports b t (atom k n m))
           (λ q. rw q h)
           (λ q. bool-cases (clash b t (atom k n m))
           (λ z. rw (q, z) (tt, tt))
@@ -78,9 +78,9 @@ module _ (Name Number : ℕ → Type 0) where
       unfolding within fill
       within-fields l f g t a h =
           let below : Fields (f (sub l t)) = g (sub l t) (sub-fields l t h) in
-          bool-cases (dead t || supports b t (atom most l 0))
+          bool-cases (isBottom t || supports b t (atom most l 0))
           (λ q. rw q h)
-          (λ q. bool-cases (dead (f (sub l t)))
+          (λ q. bool-cases (isBottom (f (sub l t)))
           (λ z. rw (q, z) (insert-fields (atom most l 0) t (a, none) h))
           (λ z. bool-cases (isEnd (f (sub l t)))
           (λ y. rw (q, z, y) h)

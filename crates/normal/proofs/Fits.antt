@@ -13,7 +13,7 @@ use Rattle.fit.specs.Description.{Kind, Place, atom, most, nothing}
 use Rattle.fit.specs.Record.{Record, count, eachLinked, fits, meets, successors}
 use Rattle.fit.specs.Tree.{end, leaf, node}
 use Rattle.normal.proofs.Lookup.{same-kind, same-name, same-rank}
-use Rattle.normal.specs.Normal.{before, dead, find, isEnd, put, putEvery, rank, remove, removeEvery, same, sub}
+use Rattle.normal.specs.Normal.{before, find, isBottom, isEnd, put, putEvery, rank, remove, removeEvery, same, sub}
 
 -- ---- counting
 
@@ -119,8 +119,8 @@ module _ (c : Record) where
       rw z)
 
   -- an 'every' whose place nothing fits: at most 0
-  pub linked-dead : (l x : ℕ) (p : ℕ → Bool) → ((y : ℕ) → p y ≡ false) → eachLinked c l x p ≡ meets c (atom most l 0) x
-  linked-dead l x p f =
+  pub linked-bottom : (l x : ℕ) (p : ℕ → Bool) → ((y : ℕ) → p y ≡ false) → eachLinked c l x p ≡ meets c (atom most l 0) x
+  linked-bottom l x p f =
       iff-eq
       (λ e.
       let none-linked : (y : ℕ) → y < c .size → c .link l x y ≡ false
@@ -129,12 +129,12 @@ module _ (c : Record) where
       omega tests)
       (λ e. linked-none l x p (omega tests))
 
-  -- nothing fits a dead place
-  pub dead-sound : (t : Place) (x : ℕ) → dead t ≡ true → fits c t x ≡ false
-  unfolding dead fits
-  dead-sound end x e = cc
-  dead-sound (leaf (atom k n m) r) x e = let i : nothing ≡ k = same-rank nothing k e in rw (← i)
-  dead-sound (node l s r) x e = cc
+  -- nothing fits a place that is bottom
+  pub bottom-sound : (t : Place) (x : ℕ) → isBottom t ≡ true → fits c t x ≡ false
+  unfolding isBottom fits
+  bottom-sound end x e = cc
+  bottom-sound (leaf (atom k n m) r) x e = let i : nothing ≡ k = same-rank nothing k e in rw (← i)
+  bottom-sound (node l s r) x e = cc
 
   -- all items fit an empty place
   pub end-sound : (s : Place) (y : ℕ) → isEnd s ≡ true → fits c s y ≡ true

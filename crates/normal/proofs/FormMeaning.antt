@@ -12,14 +12,14 @@ use Rattle.fit.proofs.Counting.{every-ext}
 use Rattle.fit.specs.Description.{Place}
 use Rattle.fit.specs.Record.{Record, eachLinked, fits, successors}
 use Rattle.normal.proofs.CellLaws.{all-sort}
-use Rattle.normal.proofs.Fits.{linked-dead, linked-none}
+use Rattle.normal.proofs.Fits.{linked-bottom, linked-none}
 use Rattle.normal.proofs.Forms.{Formed, formed-here, formed-next}
 use Rattle.normal.proofs.SlotBounds.{capped, eachBelow, inside}
 use Rattle.normal.proofs.SlotMeaning.{asks}
 use Rattle.normal.proofs.WrittenMeaning.{cellFits, cellSays, written-end, written-fits}
 use Rattle.normal.proofs.WrittenPasses.{allCells}
 use Rattle.normal.specs.Normal.{found, isEnd, under}
-use Rattle.normal.specs.Slots.{Cell, EarlySlots, Slot, broken, cell, cells, dies, says, settled, shut, slot}
+use Rattle.normal.specs.Slots.{Cell, EarlySlots, Slot, broken, cell, cells, closed, inconsistent, nonempty, settled, slot}
 
 either : (a d : Bool) → (a || not d) ≡ not (not a && d)
 either true d = refl
@@ -32,13 +32,13 @@ abbrev pub cellWhole : Cell → Bool
 cellWhole (cell j b n lo hi) = not (broken b lo hi)
 
 -- a place is possible if all its cells are
-pub dies-cells : (k : ℕ) (ss : List Slot) (v : ℕ) → dies k ss v ≡ not (allCells cellWhole (cells k ss v))
-unfolding dies cells allCells
-dies-cells k [] v = refl
-dies-cells k (slot u b n lo hi ∷ ss) v =
+pub inconsistent-cells : (k : ℕ) (ss : List Slot) (v : ℕ) → inconsistent k ss v ≡ not (allCells cellWhole (cells k ss v))
+unfolding inconsistent cells allCells
+inconsistent-cells k [] v = refl
+inconsistent-cells k (slot u b n lo hi ∷ ss) v =
     bool-cases (eqb v u)
-    (λ q. rw (q, dies-cells (suc k) ss v) (either (broken b lo (shut (b && dies (suc k) ss k) hi)) (allCells cellWhole (cells (suc k) ss v))))
-    (λ q. rw (q, dies-cells (suc k) ss v))
+    (λ q. rw (q, inconsistent-cells (suc k) ss v) (either (broken b lo (closed (b && inconsistent (suc k) ss k) hi)) (allCells cellWhole (cells (suc k) ss v))))
+    (λ q. rw (q, inconsistent-cells (suc k) ss v))
 
 no-count : (lo s : ℕ) (hi : Option ℕ) → under lo hi ≡ true → (leb lo s && capped hi s) ≡ false
 no-count lo s none e = cc
@@ -51,28 +51,28 @@ broken-inside c false n lo hi x e =
     let q : found hi ≡ true = and-right (not (eqb lo 0)) (found hi) e in
     rw (p, q) (bool-cases (c .property n x) (λ z. rw z) (λ z. rw z))
 
-cells-dead : (c : Record) (T : ℕ → Place) (x : ℕ) (q : List Cell) → allCells cellWhole q ≡ false → allCells (cellFits c T x) q ≡ false
+cells-bottom : (c : Record) (T : ℕ → Place) (x : ℕ) (q : List Cell) → allCells cellWhole q ≡ false → allCells (cellFits c T x) q ≡ false
 unfolding allCells
-cells-dead c T x [] e = e
-cells-dead c T x (cell j b n lo hi ∷ q) e =
+cells-bottom c T x [] e = e
+cells-bottom c T x (cell j b n lo hi ∷ q) e =
     bool-cases (broken b lo hi)
     (λ z. rw (broken-inside c b n lo hi x z))
-    (λ z. rw (cells-dead c T x q (rw z at e)) (and-zero (inside c b n lo hi x && eachBelow c b n x (λ y. fits c (T j) y))))
+    (λ z. rw (cells-bottom c T x q (rw z at e)) (and-zero (inside c b n lo hi x && eachBelow c b n x (λ y. fits c (T j) y))))
 
 -- no item fits what the cells of an impossible place ask
-pub dies-empty : (c : Record) (T : ℕ → Place) (x k : ℕ) (ss : List Slot) (v : ℕ) → dies k ss v ≡ true → allCells (cellFits c T x) (cells k ss v) ≡ false
-dies-empty c T x k ss v e =
-    cells-dead c T x (cells k ss v) (false-of-not (allCells cellWhole (cells k ss v)) (sym (dies-cells k ss v) ∙ e))
+pub inconsistent-empty : (c : Record) (T : ℕ → Place) (x k : ℕ) (ss : List Slot) (v : ℕ) → inconsistent k ss v ≡ true → allCells (cellFits c T x) (cells k ss v) ≡ false
+inconsistent-empty c T x k ss v e =
+    cells-bottom c T x (cells k ss v) (false-of-not (allCells cellWhole (cells k ss v)) (sym (inconsistent-cells k ss v) ∙ e))
 
 -- ---- what the cells of a place mean
 
 module _ (c : Record) (T : ℕ → Place) where
-  -- a link to an impossible place is shut
-  shut-link : (n lo : ℕ) (hi : Option ℕ) (x : ℕ) (p q : ℕ → Bool) → ((y : ℕ) → y < c .size → q y ≡ false)
+  -- a link to an impossible place is closed
+  closed-link : (n lo : ℕ) (hi : Option ℕ) (x : ℕ) (p q : ℕ → Bool) → ((y : ℕ) → y < c .size → q y ≡ false)
       → (inside c true n lo (some 0) x && eachLinked c n x p) ≡ (inside c true n lo hi x && eachLinked c n x q)
-  shut-link n lo hi x p q f =
+  closed-link n lo hi x p q f =
       let e : eachLinked c n x q ≡ leb (successors c n x) 0
-      = every-ext _ _ (c .size) (λ y i. ap (λ (z : Bool). not (c .link n x y) || z) (f y i)) ∙ linked-dead c n x (λ y. false) (λ y. refl) in
+      = every-ext _ _ (c .size) (λ y i. ap (λ (z : Bool). not (c .link n x y) || z) (f y i)) ∙ linked-bottom c n x (λ y. false) (λ y. refl) in
       bool-cases (leb (successors c n x) 0)
       (λ z. rw (e, z, linked-none c n x p (omega tests), zero-capped hi (successors c n x) (omega tests)))
       (λ z. rw (e, z) (drop-both (leb lo (successors c n x)) (capped hi (successors c n x)) (eachLinked c n x p)))
@@ -87,12 +87,12 @@ module _ (c : Record) (T : ℕ → Place) where
   -- what one slot asks, settled or not
   slot-means : (k : ℕ) (ss : List Slot) (b : Bool) (n lo : ℕ) (hi : Option ℕ) (x : ℕ)
       → ((y : ℕ) → y < c .size → fits c (T k) y ≡ asks c (suc k) ss (λ v x. true) k y)
-      → (dies (suc k) ss k ≡ true → (y : ℕ) → y < c .size → asks c (suc k) ss (λ v x. true) k y ≡ false)
-      → (inside c b n lo (shut (b && dies (suc k) ss k) hi) x && eachBelow c b n x (λ y. fits c (T k) y))
+      → (inconsistent (suc k) ss k ≡ true → (y : ℕ) → y < c .size → asks c (suc k) ss (λ v x. true) k y ≡ false)
+      → (inside c b n lo (closed (b && inconsistent (suc k) ss k) hi) x && eachBelow c b n x (λ y. fits c (T k) y))
       ≡ (inside c b n lo hi x && eachBelow c b n x (λ y. asks c (suc k) ss (λ v x. true) k y))
   slot-means k ss true n lo hi x f g =
-      bool-cases (dies (suc k) ss k)
-      (λ d. rw d (shut-link n lo hi x (λ y. fits c (T k) y) (λ y. asks c (suc k) ss (λ v x. true) k y) (g d)))
+      bool-cases (inconsistent (suc k) ss k)
+      (λ d. rw d (closed-link n lo hi x (λ y. fits c (T k) y) (λ y. asks c (suc k) ss (λ v x. true) k y) (g d)))
       (λ d. rw d (ap (λ (z : Bool). inside c true n lo hi x && z) (every-ext _ _ (c .size) (λ y i. ap (λ (z : Bool). not (c .link n x y) || z) (f y i)))))
   slot-means k ss false n lo hi x f g = refl
 
@@ -107,8 +107,8 @@ module _ (c : Record) (T : ℕ → Place) where
       = cells-mean (suc k) ss (e .1) (formed-next T k s ss e h) in
       let f : (y : ℕ) → y < c .size → fits c (T k) y ≡ asks c (suc k) ss (λ v x. true) k y
       = λ y j. ap (λ (t : Place). fits c t y) (formed-here T k s ss e h) ∙ written-fits c T y _ ∙ all-sort (cellFits c T y) (cells (suc k) ss k) ∙ ih k y j in
-      let g : dies (suc k) ss k ≡ true → (y : ℕ) → y < c .size → asks c (suc k) ss (λ v x. true) k y ≡ false
-      = λ d y j. sym (ih k y j) ∙ dies-empty c T y (suc k) ss k d in
+      let g : inconsistent (suc k) ss k ≡ true → (y : ℕ) → y < c .size → asks c (suc k) ss (λ v x. true) k y ≡ false
+      = λ d y j. sym (ih k y j) ∙ inconsistent-empty c T y (suc k) ss k d in
       bool-cases (eqb v u)
       (λ q. rw (q, slot-means k ss b n lo hi x f g, ih v x i))
       (λ q. rw q (ih v x i))
@@ -117,15 +117,15 @@ module _ (c : Record) (T : ℕ → Place) where
 
 -- a place has anything to say unless no cell has
 pub cells-say : (T : ℕ → Place) (k : ℕ) (ss : List Slot) → EarlySlots k ss → Formed T k ss → (v : ℕ)
-    → says k (settled k ss) v ≡ not (allCells (λ c. not (cellSays T c)) (cells k ss v))
-unfolding says settled cells allCells
+    → nonempty k (settled k ss) v ≡ not (allCells (λ c. not (cellSays T c)) (cells k ss v))
+unfolding nonempty settled cells allCells
 cells-say T k [] e h v = refl
 cells-say T k (slot u b n lo hi ∷ ss) e h v =
     let s : Slot = slot u b n lo hi in
-    let ih : (w : ℕ) → says (suc k) (settled (suc k) ss) w ≡ not (allCells (λ c. not (cellSays T c)) (cells (suc k) ss w))
+    let ih : (w : ℕ) → nonempty (suc k) (settled (suc k) ss) w ≡ not (allCells (λ c. not (cellSays T c)) (cells (suc k) ss w))
     = cells-say T (suc k) ss (e .1) (formed-next T k s ss e h) in
-    let f : says (suc k) (settled (suc k) ss) k ≡ not (isEnd (T k))
+    let f : nonempty (suc k) (settled (suc k) ss) k ≡ not (isEnd (T k))
     = ih k ∙ ap not (sym (ap isEnd (formed-here T k s ss e h) ∙ written-end T _ ∙ all-sort (λ c. not (cellSays T c)) (cells (suc k) ss k))) in
     bool-cases (eqb v u)
-    (λ q. rw (q, f, ih v) (either (cellSays T (cell k b n lo (shut (b && dies (suc k) ss k) hi))) (allCells (λ c. not (cellSays T c)) (cells (suc k) ss v))))
+    (λ q. rw (q, f, ih v) (either (cellSays T (cell k b n lo (closed (b && inconsistent (suc k) ss k) hi))) (allCells (λ c. not (cellSays T c)) (cells (suc k) ss v))))
     (λ q. rw (q, ih v))

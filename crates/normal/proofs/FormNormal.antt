@@ -15,7 +15,7 @@ use Rattle.fit.specs.Record.{Record, fits}
 use Rattle.fit.specs.Tree.{Row, tree}
 use Rattle.normal.proofs.BuildSound.{slots-sound}
 use Rattle.normal.proofs.CellLaws.{all-sort, cells-distinct, cells-sorted, lookup-sort}
-use Rattle.normal.proofs.FormMeaning.{cellWhole, cells-mean, cells-say, dies-cells, dies-empty}
+use Rattle.normal.proofs.FormMeaning.{cellWhole, cells-mean, cells-say, inconsistent-cells, inconsistent-empty}
 use Rattle.normal.proofs.Forms.{Formed, form, form-written, formed-here, formed-next}
 use Rattle.normal.proofs.Normal.{canonical-alive}
 use Rattle.normal.proofs.SlotLaws.{slots-distinct, slots-early}
@@ -27,27 +27,27 @@ use Rattle.normal.proofs.WrittenMeaning.{cellFits, cellSays, written-en
 use Rattle.normal.proofs.WrittenNormal.{written-normal}
 use Rattle.normal.proofs.WrittenPasses.{allCells}
 use Rattle.normal.specs.Canonical.{Canonical}
-use Rattle.normal.specs.Normal.{bottom, dead, find, isEnd, nf, sub}
+use Rattle.normal.specs.Normal.{bottom, find, isBottom, isEnd, nf, sub}
 use Rattle.normal.specs.Pipeline.{beforeCell, sortedCells}
-use Rattle.normal.specs.Slots.{Cell, DistinctSlots, EarlySlots, Slot, cell, cells, dies, isLink, lookup, says, settled, shut, slot, slots}
+use Rattle.normal.specs.Slots.{Cell, DistinctSlots, EarlySlots, Slot, cell, cells, closed, inconsistent, isLink, lookup, nonempty, settled, slot, slots}
 use Rattle.normal.specs.Sorted.{sort}
 
 -- ---- normal places
 
 -- an 'every' that is written leads to a possible place
-kept-possible : (T : ℕ → Place) (j : ℕ) (b d : Bool) (hi : Option ℕ) → kept T j b (shut (b && d) hi) ≡ true → d ≡ false
+kept-possible : (T : ℕ → Place) (j : ℕ) (b d : Bool) (hi : Option ℕ) → kept T j b (closed (b && d) hi) ≡ true → d ≡ false
 kept-possible T j true true hi e = absurd (false≢true (and-right (not (isEnd (T j))) false e))
 kept-possible T j true false hi e = refl
 kept-possible T j false d hi e = absurd (false≢true e)
 
 module _ (T : ℕ → Place) where
   -- a possible place, where those below it that are written are normal
-  place-normal : (k : ℕ) (ss : List Slot) (v : ℕ) → DistinctSlots ss → dies k ss v ≡ false
+  place-normal : (k : ℕ) (ss : List Slot) (v : ℕ) → DistinctSlots ss → inconsistent k ss v ≡ false
       → ((j : ℕ) (b : Bool) (n lo : ℕ) (hi : Option ℕ) → List·Memᴰ (cell j b n lo hi) (cells k ss v) → kept T j b hi ≡ true → Canonical unrestricted (T j))
       → Canonical unrestricted (written T (sort beforeCell (cells k ss v)))
   place-normal k ss v d z f =
       written-normal T (sort beforeCell (cells k ss v)) (cells-sorted k ss v d)
-      (all-sort cellWhole (cells k ss v) ∙ true-of-not (allCells cellWhole (cells k ss v)) (sym (dies-cells k ss v) ∙ z))
+      (all-sort cellWhole (cells k ss v) ∙ true-of-not (allCells cellWhole (cells k ss v)) (sym (inconsistent-cells k ss v) ∙ z))
       (λ j b n lo hi m. f j b n lo hi (sort-within beforeCell (cells k ss v) (cell j b n lo hi) m))
 
   below-normal : (k : ℕ) (ss : List Slot) → EarlySlots k ss → DistinctSlots ss → Formed T k ss → (v j : ℕ) (b : Bool) (n lo : ℕ) (hi : Option ℕ)
@@ -63,8 +63,8 @@ module _ (T : ℕ → Place) where
       (λ i.
       let ij : j ≡ k = cc in
       let ib : b ≡ b₀ = cc in
-      let ih′ : hi ≡ shut (b₀ && dies (suc k) ss k) hi₀ = cc in
-      let z : dies (suc k) ss k ≡ false = kept-possible T k b₀ (dies (suc k) ss k) hi₀ (rw (ij, ib, ih′) at y) in
+      let ih′ : hi ≡ closed (b₀ && inconsistent (suc k) ss k) hi₀ = cc in
+      let z : inconsistent (suc k) ss k ≡ false = kept-possible T k b₀ (inconsistent (suc k) ss k) hi₀ (rw (ij, ib, ih′) at y) in
       rw (ij, formed-here T k s ss e h) (place-normal (suc k) ss k (d .1) z (ih k)))
       (λ i. ih v j b n lo hi i y)
       (List·Memᴰ·cases-cons (rw q at m)))
@@ -81,7 +81,7 @@ module _ (rs : List (Row Atom ℕ)) where
   form-formed v i = form-written ss (slots-early rs) v
 
   -- a possible place is normal
-  pub form-normal : (v : ℕ) → dies 1 (slots rs) v ≡ false → Canonical unrestricted (form (slots rs) v)
+  pub form-normal : (v : ℕ) → inconsistent 1 (slots rs) v ≡ false → Canonical unrestricted (form (slots rs) v)
   unfolding sortedCells
   form-normal v z =
       rw (form-written ss (slots-early rs) v)
@@ -103,9 +103,9 @@ module _ (rs : List (Row Atom ℕ)) where
       ∙ ap (λ (o : Option Cell). below (form ss) o) (lookup-sort (cells 1 ss v) (cells-distinct 1 ss v (slots-distinct rs)) true l)
 
   -- a place has anything to say unless it is empty
-  pub form-says : (v : ℕ) → says 1 (settled 1 (slots rs)) v ≡ not (isEnd (form (slots rs) v))
+  pub form-nonempty : (v : ℕ) → nonempty 1 (settled 1 (slots rs)) v ≡ not (isEnd (form (slots rs) v))
   unfolding sortedCells
-  form-says v =
+  form-nonempty v =
       cells-say (form ss) 1 ss (slots-early rs) form-formed v
       ∙ ap not (sym (ap isEnd (form-written ss (slots-early rs) v) ∙ written-end (form ss) _ ∙ all-sort (λ c. not (cellSays (form ss) c)) (cells 1 ss v)))
 
@@ -115,7 +115,7 @@ module _ (rs : List (Row Atom ℕ)) where
   top-means c x i = cells-mean c (form ss) 1 ss (slots-early rs) form-formed 0 x i ∙ slots-sound c rs x
 
   -- a possible top is the normal form
-  pub form-top : dies 1 (slots rs) 0 ≡ false → form (slots rs) 0 ≡ nf unrestricted (tree 1 rs 0)
+  pub form-top : inconsistent 1 (slots rs) 0 ≡ false → form (slots rs) 0 ≡ nf unrestricted (tree 1 rs 0)
   unfolding sortedCells
   form-top z =
       only-normal lawful-unrestricted (form ss 0) (tree 1 rs 0) (inr (form-normal 0 z))
@@ -123,15 +123,15 @@ module _ (rs : List (Row Atom ℕ)) where
       ∙ all-sort (cellFits c (form ss) x) (cells 1 ss 0) ∙ top-means c x i)
 
   -- an impossible top: nothing fits
-  pub top-nothing : dies 1 (slots rs) 0 ≡ true → nf unrestricted (tree 1 rs 0) ≡ bottom
+  pub top-nothing : inconsistent 1 (slots rs) 0 ≡ true → nf unrestricted (tree 1 rs 0) ≡ bottom
   unfolding fits
   top-nothing z =
-      sym (only-normal lawful-unrestricted bottom (tree 1 rs 0) (inl refl) (λ c kept x i. sym (dies-empty c (form ss) x 1 ss 0 z) ∙ top-means c x i))
+      sym (only-normal lawful-unrestricted bottom (tree 1 rs 0) (inl refl) (λ c kept x i. sym (inconsistent-empty c (form ss) x 1 ss 0 z) ∙ top-means c x i))
 
   -- the second pass tells which it is
-  pub top-dead : dead (nf unrestricted (tree 1 rs 0)) ≡ dies 1 (slots rs) 0
-  unfolding dead
-  top-dead =
-      bool-cases (dies 1 ss 0)
+  pub top-bottom : isBottom (nf unrestricted (tree 1 rs 0)) ≡ inconsistent 1 (slots rs) 0
+  unfolding isBottom
+  top-bottom =
+      bool-cases (inconsistent 1 ss 0)
       (λ z. rw (z, top-nothing z))
       (λ z. rw (z, ← (form-top z)) (canonical-alive (form-normal 0 z)))

@@ -21,7 +21,7 @@ use Rattle.fit.specs.Background.{unrestricted}
 use Rattle.fit.specs.Description.{Atom, Kind, atom, atomOf, has, kindOf, lacks, least, linksTo, most, placeOf, rowOf}
 use Rattle.fit.specs.Tree.{Row, end}
 use Rattle.normal.proofs.FirstLaws.{first-same, none-failing}
-use Rattle.normal.proofs.FormNormal.{form-top, top-dead}
+use Rattle.normal.proofs.FormNormal.{form-top, top-bottom}
 use Rattle.normal.proofs.Forms.{form, formed}
 use Rattle.normal.proofs.Plain.{supports-plain}
 use Rattle.normal.proofs.SlotLaws.{position-from}
@@ -30,7 +30,7 @@ use Rattle.normal.proofs.WrittenLists.{value-none}
 use Rattle.normal.specs.First.{entryHolds, firstFailing, firstFrom}
 use Rattle.normal.specs.Holds.{holds, holdsAt}
 use Rattle.normal.specs.Normal.{atMost, enough, find, found, nf, sub, supports}
-use Rattle.normal.specs.Slots.{Slot, dies, isLink, position, slots, taken, value}
+use Rattle.normal.specs.Slots.{Slot, inconsistent, isLink, position, slots, taken, value}
 use Rattle.normal.specs.States.{entrySlot, heldAt, heldIn, highAt, linkName, lowAt, slotFor, stateBelow, stateOf, supportedBy}
 
 -- ---- the states
@@ -260,14 +260,14 @@ module _ (rs : List (Row Atom ℕ)) (few : length (slots rs) ≤ 1008) (d : List
 
 module _ (c d : List Entry) where
   -- where the top is possible, the first entry that fails by the slots is the first that the normal form does not hold
-  pub slots-first : length (slots (map rowOf c)) ≤ 1008 → Legal Description d → dies 1 (slots (map rowOf c)) 0 ≡ false
+  pub slots-first : length (slots (map rowOf c)) ≤ 1008 → Legal Description d → inconsistent 1 (slots (map rowOf c)) 0 ≡ false
       → firstFrom (heldIn (slots (map rowOf c)) d) 1 (length d) ≡ firstFailing unrestricted (nf unrestricted (placeOf c 0)) d
   unfolding firstFailing entryHolds holds placeOf
   slots-first few lawful z =
       first-same _ _ 1 (length d) (λ j lo hi.
-      slots-hold (map rowOf c) few d lawful j lo (omega arith) ∙ rw (top-dead (map rowOf c), z, ← (form-top (map rowOf c) z)))
+      slots-hold (map rowOf c) few d lawful j lo (omega arith) ∙ rw (top-bottom (map rowOf c), z, ← (form-top (map rowOf c) z)))
 
   -- where it is impossible, the normal form holds all
-  pub dead-first : dies 1 (slots (map rowOf c)) 0 ≡ true → firstFailing unrestricted (nf unrestricted (placeOf c 0)) d ≡ 0
+  pub bottom-first : inconsistent 1 (slots (map rowOf c)) 0 ≡ true → firstFailing unrestricted (nf unrestricted (placeOf c 0)) d ≡ 0
   unfolding entryHolds holds placeOf
-  dead-first z = none-failing unrestricted _ d (λ n lo hi. rw (top-dead (map rowOf c), z) (or-one (eqb (nth d n .kind) 5)))
+  bottom-first z = none-failing unrestricted _ d (λ n lo hi. rw (top-bottom (map rowOf c), z) (or-one (eqb (nth d n .kind) 5)))

@@ -17,7 +17,7 @@ use Rattle.normal.proofs.WitnessKeeps.{counterexample}
 use Rattle.normal.specs.Canonical.{Canonical, Normal}
 use Rattle.normal.specs.Holds.{holds, holdsAt}
 use Rattle.normal.specs.Meaning.{Says}
-use Rattle.normal.specs.Normal.{bottom, dead, nf, sub, supports}
+use Rattle.normal.specs.Normal.{bottom, isBottom, nf, sub, supports}
 
 -- what a place holds, it says
 pub holdsAt-sound : {b : Background} (t : Place) (w : List ℕ) (a : Atom) → holdsAt b t w a ≡ true → Says b t w a
@@ -47,7 +47,7 @@ module _ {b : Background} (law : LawfulBackground b) where
 
   -- a normal place holds exactly what it says
   pub holds-says : {t : Place} → Normal b t → (w : List ℕ) (a : Atom) → (holds b t w a ≡ true) ↔ Says b t w a
-  unfolding holds dead fits
+  unfolding holds isBottom fits
   holds-says {t} (inl e) w a = (λ z c kept x i h. let d : fits c bottom x ≡ true = rw e at h in absurd (false≢true d), λ f. rw e)
   holds-says {t} (inr h) w a = rw (canonical-alive h) (holdsAt-says h w a)
 

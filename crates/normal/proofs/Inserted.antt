@@ -18,7 +18,7 @@ use Rattle.normal.proofs.Lookup.{same-kind, same-name}
 use Rattle.normal.proofs.Passes.{find-put-other, find-put-same, find-remove-same, find-removeLacks, sub-put, sub-removeEvery-same}
 use Rattle.normal.proofs.Thinner.{Thinner, ascending-thinner, listed-thinner, owned-thinner, thinner-clear, thinner-remove}
 use Rattle.normal.specs.Canonical.{Ascending, Clean, Normal, canonical, telling}
-use Rattle.normal.specs.Normal.{atMost, clash, clear, dead, enough, excluded, find, found, insert, isEnd, put, rank, remove, same, stored, sub, supports}
+use Rattle.normal.specs.Normal.{atMost, clash, clear, enough, excluded, find, found, insert, isBottom, isEnd, put, rank, remove, same, stored, sub, supports}
 
 -- a property has no number
 clash-stored : (b : Background) (t : Place) (k : Kind) (n m : ℕ) → clash b t (atom k n (stored k m)) ≡ clash b t (atom k n m)
@@ -152,10 +152,10 @@ module _ {b : Background} (law : LawfulBackground b) (t : Place) (k : Kind) (n m
 
 -- a normal place with an atom added is normal
 pub insert-normal : {b : Background} → LawfulBackground b → (a : Atom) (t : Place) → Normal b t → Normal b (insert b a t)
-unfolding insert dead
+unfolding insert isBottom
 insert-normal law (atom k n m) t (inl e) = inl (rw e)
 insert-normal {b} law (atom k n m) t (inr (canonical a c d s)) =
-    bool-cases (dead t)
+    bool-cases (isBottom t)
     (λ z. rw z (inr (canonical a c d s)))
     (λ z. bool-cases (supports b t (atom k n m))
     (λ y. rw (z, y) (inr (canonical a c d s)))

@@ -10,40 +10,40 @@ use Rattle.base.proofs.Tests.{bool-cases, eqb-eq, neither-left, neither-right, 
 use Rattle.fit.specs.Description.{Kind, Place, atom}
 use Rattle.fit.specs.Tree.{end, leaf, node}
 use Rattle.normal.specs.Normal.{find, found, rank}
-use Rattle.normal.specs.Witness.{member, names, once, slot}
+use Rattle.normal.specs.Witness.{member, names, once, putAscending}
 
-member-slot : (x y : ℕ) (ys : List ℕ) → member x (slot y ys) ≡ eqb x y || member x ys
-unfolding member slot
-member-slot x y [] = refl
-member-slot x y (a ∷ ys) =
+member-put : (x y : ℕ) (ys : List ℕ) → member x (putAscending y ys) ≡ eqb x y || member x ys
+unfolding member putAscending
+member-put x y [] = refl
+member-put x y (a ∷ ys) =
     bool-cases (ltb y a)
     (λ h. rw h)
-    (λ h. rw (h, member-slot x y ys) (or-swap (eqb x a) (eqb x y) (member x ys)))
+    (λ h. rw (h, member-put x y ys) (or-swap (eqb x a) (eqb x y) (member x ys)))
 
 member-once : (x y : ℕ) (ys : List ℕ) → member x (once y ys) ≡ eqb x y || member x ys
 unfolding once
 member-once x y ys =
     bool-cases (member y ys)
     (λ h. rw h (bool-cases (eqb x y) (λ q. let e : x ≡ y = eqb-eq q in rw (q, e, h)) (λ q. rw q)))
-    (λ h. rw h (member-slot x y ys))
+    (λ h. rw h (member-put x y ys))
 
 -- no number stands twice
 abbrev pub Different : List ℕ → Type 0
 Different [] = Unit {0}
 Different (y ∷ ys) = (member y ys ≡ false) × Different ys
 
-different-slot : (x : ℕ) (ys : List ℕ) → member x ys ≡ false → Different ys → Different (slot x ys)
-unfolding slot member
-different-slot x [] n u = (refl, tt)
-different-slot x (y ∷ ys) n u =
+different-put : (x : ℕ) (ys : List ℕ) → member x ys ≡ false → Different ys → Different (putAscending x ys)
+unfolding putAscending member
+different-put x [] n u = (refl, tt)
+different-put x (y ∷ ys) n u =
     let z : eqb x y ≡ false = neither-left (eqb x y) (member x ys) n in
     bool-cases (ltb x y)
     (λ h. rw h (n, u))
-    (λ h. rw h (member-slot y x ys ∙ or-none {a = eqb y x} (omega tests) (u .0), different-slot x ys (neither-right (eqb x y) (member x ys) n) (u .1)))
+    (λ h. rw h (member-put y x ys ∙ or-none {a = eqb y x} (omega tests) (u .0), different-put x ys (neither-right (eqb x y) (member x ys) n) (u .1)))
 
 different-once : (x : ℕ) (ys : List ℕ) → Different ys → Different (once x ys)
 unfolding once
-different-once x ys u = bool-cases (member x ys) (λ h. rw h u) (λ h. rw h (different-slot x ys h u))
+different-once x ys u = bool-cases (member x ys) (λ h. rw h u) (λ h. rw h (different-put x ys h u))
 
 -- the names of a kind are those that are listed
 pub member-names : (k : Kind) (x : ℕ) (t : Place) (ys : List ℕ) → member x (names k t ys) ≡ found (find k x t) || member x ys

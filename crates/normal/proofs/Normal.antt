@@ -17,7 +17,7 @@ use Rattle.normal.proofs.Lookup.{find-head, is-end, same-rank}
 use Rattle.normal.proofs.Passes.{find-putEvery, find-removeEvery, sub-putEvery-other, sub-putEvery-same, sub-removeEvery-other, sub-removeEvery-same}
 use Rattle.normal.proofs.Thinner.{ascending-thinner, thinner-removeEvery}
 use Rattle.normal.specs.Canonical.{Ascending, Canonical, Normal, canonical, telling}
-use Rattle.normal.specs.Normal.{add, dead, fill, find, isEnd, nf, putEvery, removeEvery, sub, supports, within}
+use Rattle.normal.specs.Normal.{add, fill, find, isBottom, isEnd, nf, putEvery, removeEvery, sub, supports, within}
 use Rattle.normal.specs.Witness.{below}
 
 module _ {b : Background} (law : LawfulBackground b) where
@@ -34,9 +34,9 @@ module _ {b : Background} (law : LawfulBackground b) where
       (λ e. rw (is-end (sub l t) e) canonical-end)
       (λ e. s l e)
 
-  -- a normal place that is not dead
-  pub alive : (t : Place) → Normal b t → dead t ≡ false → Canonical b t
-  unfolding dead
+  -- a normal place that is not bottom
+  pub alive : (t : Place) → Normal b t → isBottom t ≡ false → Canonical b t
+  unfolding isBottom
   alive t (inl e) h = both-ways (rw e) h
   alive t (inr c) h = c
 
@@ -66,14 +66,14 @@ module _ {b : Background} (law : LawfulBackground b) where
   -- a normal place with what f adds under a link is normal
   pub within-normal : (l : ℕ) (f : Place → Place) → ((u : Place) → Normal b u → Normal b (f u)) → (t : Place) → Normal b t
       → Normal b (within b l f t)
-  unfolding within fill dead
+  unfolding within fill isBottom
   within-normal l f g t (inl e) = inl (rw e)
   within-normal l f g t (inr h) =
-      bool-cases (dead t)
+      bool-cases (isBottom t)
       (λ z. rw z (inr h))
       (λ z. bool-cases (supports b t (atom most l 0))
       (λ y. rw (z, y) (inr h))
-      (λ y. bool-cases (dead (f (sub l t)))
+      (λ y. bool-cases (isBottom (f (sub l t)))
       (λ x. rw (z, y, x) (insert-normal law (atom most l 0) t (inr h)))
       (λ x. bool-cases (isEnd (f (sub l t)))
       (λ w. rw (z, y, x, w) (inr h))
@@ -91,8 +91,8 @@ module _ {b : Background} (law : LawfulBackground b) where
   nf-normal d = add-normal d end (inr canonical-end)
 
 -- a normal place other than `bottom` is alive
-pub canonical-alive : {b : Background} {t : Place} → Canonical b t → dead t ≡ false
-unfolding dead
+pub canonical-alive : {b : Background} {t : Place} → Canonical b t → isBottom t ≡ false
+unfolding isBottom
 canonical-alive {t = end} h = refl
 canonical-alive {b} {t = leaf (atom k n m) r} (canonical a c d s) =
     not-true (λ z.

@@ -16,7 +16,7 @@ use Rattle.blocks.specs.declared.Entry.{Entry}
 use Rattle.fit.specs.Description.{rowOf}
 use Rattle.normal.proofs.SlotLaws.{slots-early}
 use Rattle.normal.specs.Keys.{SmallRows, SmallSlots, SmallTop}
-use Rattle.normal.specs.Slots.{EarlySlots, Slot, dies, says, settled, shut, slot}
+use Rattle.normal.specs.Slots.{EarlySlots, Slot, closed, inconsistent, nonempty, settled, slot}
 use Rattle.normal.specs.Tables.{Built, Placed, Settled, Settling, keyIn, lowPart, slotIn, slotsFrom}
 
 -- ---- slots of a table
@@ -31,22 +31,22 @@ unfolding slotsFrom slotIn
 low-at t k zero h j lo hi = absurd (omega arith)
 low-at t k (suc n) h j lo hi = eq-cases j k (λ e. rw e (h .0 .1)) (λ e. low-at t (suc k) n (h .1) j (omega arith) (omega arith))
 
-small-shut : (b : Bool) (hi : Option ℕ) → SmallTop hi → SmallTop (shut b hi)
-small-shut true hi s = omega arith
-small-shut false hi s = s
+small-closed : (b : Bool) (hi : Option ℕ) → SmallTop hi → SmallTop (closed b hi)
+small-closed true hi s = omega arith
+small-closed false hi s = s
 
 pub small-settled : (k : ℕ) (ss : List Slot) → SmallSlots ss → SmallSlots (settled k ss)
 unfolding settled
 small-settled k [] s = tt
-small-settled k (slot u b n lo hi ∷ ss) s = ((s .0 .0, s .0 .1, small-shut (b && dies (suc k) ss k) hi (s .0 .2)), small-settled (suc k) ss (s .1))
+small-settled k (slot u b n lo hi ∷ ss) s = ((s .0 .0, s .0 .1, small-closed (b && inconsistent (suc k) ss k) hi (s .0 .2)), small-settled (suc k) ss (s .1))
 
 -- no slot stands beyond the table
-pub says-far : (k : ℕ) (ss : List Slot) (v : ℕ) → EarlySlots k ss → k + length ss ≤ v → says k (settled k ss) v ≡ false
-unfolding says settled
-says-far k [] v h l = refl
-says-far k (slot u b n lo hi ∷ ss) v h l =
+pub nonempty-far : (k : ℕ) (ss : List Slot) (v : ℕ) → EarlySlots k ss → k + length ss ≤ v → nonempty k (settled k ss) v ≡ false
+unfolding nonempty settled
+nonempty-far k [] v h l = refl
+nonempty-far k (slot u b n lo hi ∷ ss) v h l =
     let e : v ≢ u = λ q. omega (arith, h .0, q) in
-    rw (settled, says, ne-eqb e) (says-far (suc k) ss v (h .1) (omega arith))
+    rw (settled, nonempty, ne-eqb e) (nonempty-far (suc k) ss v (h .1) (omega arith))
 
 -- ---- the entries
 

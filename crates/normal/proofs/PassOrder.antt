@@ -20,7 +20,7 @@ use Rattle.fit.specs.Tree.{leafRow}
 use Rattle.normal.proofs.Exact.{normal-exact, normal-length}
 use Rattle.normal.proofs.KeyLaws.{slots-small}
 use Rattle.normal.proofs.NormalOrdered.{normal-ordered}
-use Rattle.normal.proofs.PassLaws.{all-bounded, low-at, rows-small, says-far, small-settled}
+use Rattle.normal.proofs.PassLaws.{all-bounded, low-at, nonempty-far, rows-small, small-settled}
 use Rattle.normal.proofs.SlotLaws.{slots-early, slots-length}
 use Rattle.normal.proofs.TagLaws.{number-key, number-slot}
 use Rattle.normal.proofs.TagOrder.{Numbers, numbers-many, numbers-slot}
@@ -31,7 +31,7 @@ use Rattle.normal.specs.Layout.{write}
 use Rattle.normal.specs.Normal.{nf, same}
 use Rattle.normal.specs.Ordered.{firstFrom, runFrom, runOf, tagNumbers, tagPlace, tagSlot}
 use Rattle.normal.specs.Pipeline.{enoughFor, keeping, normalRows, rowsFrom}
-use Rattle.normal.specs.Slots.{dies, low, says, settled, slot, slots}
+use Rattle.normal.specs.Slots.{inconsistent, low, nonempty, settled, slot, slots}
 use Rattle.normal.specs.Tables.{Settled, keyIn, lowPart}
 use Rattle.sorting.proofs.Elements.{member-of-sorted}
 use Rattle.sorting.specs.Sorted.{sorted}
@@ -116,10 +116,10 @@ pub keeps-same : {d : List ℕ} {used : ℕ} {t bad full : List ℕ} → Settled
 keeps-same {d} {full = full} s few =
     let rs = map rowOf (entriesOf d) in
     let far : length (slots rs) ≤ 1008 = omega (arith, slots-length rs, length-map (entriesOf d) rowOf, few) in
-    let mark : (j : ℕ) → not (eqb (getD full j 0) 0) ≡ says 1 (settled 1 (slots rs)) j = λ j.
+    let mark : (j : ℕ) → not (eqb (getD full j 0) 0) ≡ nonempty 1 (settled 1 (slots rs)) j = λ j.
     lt-cases j 1009
-    (λ l. rw (s .fulls j l) (mark-test (says 1 (settled 1 (slots rs)) j)))
-    (λ l. rw (List·getD-eq-default full 0 {n = j} (omega (arith, s .full-size)), says-far 1 (slots rs) j (slots-early rs) (omega (arith, far)))) in
+    (λ l. rw (s .fulls j l) (mark-test (nonempty 1 (settled 1 (slots rs)) j)))
+    (λ l. rw (List·getD-eq-default full 0 {n = j} (omega (arith, s .full-size)), nonempty-far 1 (slots rs) j (slots-early rs) (omega (arith, far)))) in
     fun-ext (λ j. fun-ext (λ b. fun-ext (λ hi. rw (mark j))))
 
 -- ---- all passes
@@ -131,15 +131,15 @@ unfolding allRows rowsFrom placeOf
 rows-alive {d} {used} {t} s few z =
     let rs = map rowOf (entriesOf d) in
     let places : enoughFor rs ≤ 2018 = omega (arith, length-map (entriesOf d) rowOf, few) in
-    let lives : dies 1 (slots rs) 0 ≡ false = bool-cases (dies 1 (slots rs) 0) (λ e. absurd (omega (arith, z, s .bads ∙ ap bit e))) (λ e. e) in
+    let lives : inconsistent 1 (slots rs) 0 ≡ false = bool-cases (inconsistent 1 (slots rs) 0) (λ e. absurd (omega (arith, z, s .bads ∙ ap bit e))) (λ e. e) in
     rw (keeps-same s few) (rw (rowsFrom, lives) at (normal-ordered rs t used (s .few) (s .slotted) (s .apart) 2018 places))
 
-pub rows-dead : {d : List ℕ} {used : ℕ} {t bad full : List ℕ} → Settled d used t bad full → getD bad 0 0 ≢ 0
+pub rows-bottom : {d : List ℕ} {used : ℕ} {t bad full : List ℕ} → Settled d used t bad full → getD bad 0 0 ≢ 0
     → write (nf unrestricted (placeOf (entriesOf d) 0)) ≡ leafRow 0 (atom nothing 0 0) ∷ []
 unfolding normalRows rowsFrom placeOf
-rows-dead {d} s z =
+rows-bottom {d} s z =
     let rs = map rowOf (entriesOf d) in
-    let falls : dies 1 (slots rs) 0 ≡ true = bool-cases (dies 1 (slots rs) 0) (λ e. e) (λ e. absurd (z (s .bads ∙ ap bit e))) in
+    let falls : inconsistent 1 (slots rs) 0 ≡ true = bool-cases (inconsistent 1 (slots rs) 0) (λ e. e) (λ e. absurd (z (s .bads ∙ ap bit e))) in
     sym (normal-exact rs) ∙ rw (normalRows, rowsFrom, falls)
 
 pub rows-few : (d : List ℕ) → length (entriesOf d) ≤ 1008 → length (write (nf unrestricted (placeOf (entriesOf d) 0))) ≤ 1008

@@ -13,14 +13,14 @@ use Rattle.base.proofs.Tests.{and-zero, bool-cases, eq-cases, eq-eqb, ne-eqb}
 use Rattle.fit.specs.Record.{bit}
 use Rattle.normal.proofs.TableLaws.{high-made, key-made, low-made, slots-other}
 use Rattle.normal.specs.Normal.{found}
-use Rattle.normal.specs.Slots.{Slot, broken, dies, says, settled, shut, slot}
-use Rattle.normal.specs.Tables.{Placed, Settling, Slotted, highIn, highPart, keyIn, lowPart, shutBound, slotIn, slotNumber, slotsFrom}
+use Rattle.normal.specs.Slots.{Slot, broken, closed, inconsistent, nonempty, settled, slot}
+use Rattle.normal.specs.Tables.{Placed, Settling, Slotted, closedBound, highIn, highPart, keyIn, lowPart, slotIn, slotNumber, slotsFrom}
 use Rattle.normal.specs.Witness.{below}
 
--- an upper bound that is shut
-shut-high : (c : Bool) (h : ℕ) → highIn (cond c 0 h) ≡ shut c (highIn h)
-shut-high true h = refl
-shut-high false h = refl
+-- an upper bound that is closed
+closed-high : (c : Bool) (h : ℕ) → highIn (cond c 0 h) ≡ closed c (highIn h)
+closed-high true h = refl
+closed-high false h = refl
 
 -- a mark is a bit
 bit-set : (c : Bool) → not (eqb (bit c) 0) ≡ c
@@ -37,7 +37,7 @@ mark-or true marks u v d l e =
 mark-or false marks u v d l e = rw (and-zero (eqb v u)) e
 
 pub settle-starts : {t bad full : List ℕ} {used : ℕ} → length t ≡ 1009 → bad ≡ replicate 1009 0 → full ≡ replicate 1009 0 → Settling t used used t bad full
-unfolding slotsFrom settled dies says
+unfolding slotsFrom settled inconsistent nonempty
 settle-starts {t} {bad} {full} {used} n e f =
     let none-left′ : used - used ≡ 0 = omega arith in
     record {
@@ -65,34 +65,34 @@ module _ {o t bad full : List ℕ} {used s : ℕ} (S : Settling o used s t bad f
   same-slot : getD t s 0 ≡ X
   same-slot = S .below s (omega arith)
 
-  -- the bound after it is shut
-  bound-is : shutBound t bad s ≡ cond (isLinkHere && dies (suc s) Rest s) 0 (highPart X)
-  bound-is = rw (same-slot, S .bads s (omega arith), bit-set (dies (suc s) Rest s))
+  -- the bound after it is closed
+  bound-is : closedBound t bad s ≡ cond (isLinkHere && inconsistent (suc s) Rest s) 0 (highPart X)
+  bound-is = rw (same-slot, S .bads s (omega arith), bit-set (inconsistent (suc s) Rest s))
 
   abbrev Y : ℕ
-  Y = slotNumber (keyIn X) (lowPart X) (cond (isLinkHere && dies (suc s) Rest s) 0 (highPart X))
+  Y = slotNumber (keyIn X) (lowPart X) (cond (isLinkHere && inconsistent (suc s) Rest s) 0 (highPart X))
 
   table-is : t′ ≡ set t s Y
   table-is = T .table ∙ rw (bound-is, same-slot)
 
-  small-bound : cond (isLinkHere && dies (suc s) Rest s) 0 (highPart X) < 131072
+  small-bound : cond (isLinkHere && inconsistent (suc s) Rest s) 0 (highPart X) < 131072
   unfolding highPart
-  small-bound = bool-cases (isLinkHere && dies (suc s) Rest s) (λ q. rw q (omega arith)) (λ q. rw q (omega arith))
+  small-bound = bool-cases (isLinkHere && inconsistent (suc s) Rest s) (λ q. rw q (omega arith)) (λ q. rw q (omega arith))
 
   small-low : lowPart X < 131072
   unfolding lowPart
   small-low = omega arith
 
   -- the settled slot
-  slot-now : slotIn Y ≡ slot (keyIn X / 131072) isLinkHere (keyIn X % 65536) (lowPart X) (shut (isLinkHere && dies (suc s) Rest s) (highIn (highPart X)))
+  slot-now : slotIn Y ≡ slot (keyIn X / 131072) isLinkHere (keyIn X % 65536) (lowPart X) (closed (isLinkHere && inconsistent (suc s) Rest s) (highIn (highPart X)))
   unfolding slotIn
   slot-now =
       rw (
         slotIn,
-        key-made (keyIn X) (lowPart X) (cond (isLinkHere && dies (suc s) Rest s) 0 (highPart X)) small-low small-bound,
-        low-made (keyIn X) (lowPart X) (cond (isLinkHere && dies (suc s) Rest s) 0 (highPart X)) small-low small-bound,
-        high-made (keyIn X) (lowPart X) (cond (isLinkHere && dies (suc s) Rest s) 0 (highPart X)) small-low small-bound,
-        shut-high (isLinkHere && dies (suc s) Rest s) (highPart X),
+        key-made (keyIn X) (lowPart X) (cond (isLinkHere && inconsistent (suc s) Rest s) 0 (highPart X)) small-low small-bound,
+        low-made (keyIn X) (lowPart X) (cond (isLinkHere && inconsistent (suc s) Rest s) 0 (highPart X)) small-low small-bound,
+        high-made (keyIn X) (lowPart X) (cond (isLinkHere && inconsistent (suc s) Rest s) 0 (highPart X)) small-low small-bound,
+        closed-high (isLinkHere && inconsistent (suc s) Rest s) (highPart X),
       )
 
   more-left : used - (s - 1) ≡ suc (used - s)
@@ -102,18 +102,18 @@ module _ {o t bad full : List ℕ} {used s : ℕ} (S : Settling o used s t bad f
   next-one = omega arith
 
   pub settle-goes : Settling o used (s - 1) t′ bad′ full′
-  unfolding slotsFrom settled dies says slotIn
+  unfolding slotsFrom settled inconsistent nonempty slotIn
   settle-goes =
       let inside : s < length t = omega (arith, S .size) in
       let here : getD (set t s Y) s 0 ≡ Y = getD-set-same t s Y 0 inside in
-      let d = dies (suc s) Rest s in
-      let h = shut (isLinkHere && d) (highIn (highPart X)) in
+      let d = inconsistent (suc s) Rest s in
+      let h = closed (isLinkHere && d) (highIn (highPart X)) in
       let place-small : keyIn X / 131072 < 1009 = omega (arith, P .lower s one le) in
       let bad-is : bad′ ≡ cond (broken isLinkHere (lowPart X) h) (set bad (keyIn X / 131072) 1) bad =
-      T .badly ∙ rw (bound-is, same-slot, shut-high (isLinkHere && d) (highPart X)) in
-      let say = says (suc s) (settled (suc s) Rest) s in
+      T .badly ∙ rw (bound-is, same-slot, closed-high (isLinkHere && d) (highPart X)) in
+      let say = nonempty (suc s) (settled (suc s) Rest) s in
       let full-is : full′ ≡ cond (not (eqb (lowPart X) 0) || (found h || (isLinkHere && say))) (set full (keyIn X / 131072) 1) full =
-      T .fully ∙ rw (bound-is, same-slot, shut-high (isLinkHere && d) (highPart X), S .fulls s (omega arith), bit-set say) in
+      T .fully ∙ rw (bound-is, same-slot, closed-high (isLinkHere && d) (highPart X), S .fulls s (omega arith), bit-set say) in
       record {
         size = ap length table-is ∙ length-set t s Y ∙ S .size;
         bad-size = rw bad-is (bool-cases (broken isLinkHere (lowPart X) h) (λ q. rw q (length-set bad (keyIn X / 131072) 1 ∙ S .bad-size)) (λ q. rw q (S .bad-size)));
@@ -123,7 +123,7 @@ module _ {o t bad full : List ℕ} {used s : ℕ} (S : Settling o used s t bad f
             (λ q. rw q (ap keyIn here ∙ key-made (keyIn X) (lowPart X) (cond (isLinkHere && d) 0 (highPart X)) small-low small-bound))
             (λ q. ap keyIn (getD-set-other t s j Y 0 q) ∙ S .keys j));
         above = rw (more-left, next-one, table-is, slotsFrom, here, slots-other t s Y (suc s) (used - s) (inl (omega arith)), S .above, slot-now);
-        bads = λ v l. rw (more-left, next-one, bad-is) (mark-or (broken isLinkHere (lowPart X) h) bad (keyIn X / 131072) v (dies (suc s) Rest v) (omega (arith, S .bad-size)) (S .bads v l));
+        bads = λ v l. rw (more-left, next-one, bad-is) (mark-or (broken isLinkHere (lowPart X) h) bad (keyIn X / 131072) v (inconsistent (suc s) Rest v) (omega (arith, S .bad-size)) (S .bads v l));
         fulls = λ v l. rw (more-left, next-one, full-is)
-            (mark-or (not (eqb (lowPart X) 0) || (found h || (isLinkHere && say))) full (keyIn X / 131072) v (says (suc s) (settled (suc s) Rest) v) (omega (arith, S .full-size)) (S .fulls v l));
+            (mark-or (not (eqb (lowPart X) 0) || (found h || (isLinkHere && say))) full (keyIn X / 131072) v (nonempty (suc s) (settled (suc s) Rest) v) (omega (arith, S .full-size)) (S .fulls v l));
       }

@@ -10,7 +10,7 @@ use Rattle.fit.specs.Background.{Background}
 use Rattle.fit.specs.Description.{Atom, Kind, Place, atom, most}
 use Rattle.fit.specs.Tree.{end, leaf, node}
 use Rattle.normal.proofs.Thinner.{Thinner, done, dropAtom, dropEvery, keepAtom, keepEvery, thinner-clear, thinner-remove}
-use Rattle.normal.specs.Normal.{add, before, clash, clear, dead, fill, insert, isEnd, nf, put, putEvery, rank, removeEvery, sub, supports, within}
+use Rattle.normal.specs.Normal.{add, before, clash, clear, fill, insert, isBottom, isEnd, nf, put, putEvery, rank, removeEvery, sub, supports, within}
 use Rattle.normal.specs.Size.{levels, measure, nodes}
 
 -- what adding up and taking the larger have in common
@@ -94,7 +94,7 @@ module _ {join : ℕ → ℕ → ℕ} (j : Joining join) where
   insert-size : (b : Background) (a : Atom) (t : Place) → size (insert b a t) ≤ join 1 (size t)
   unfolding insert
   insert-size b (atom k n m) t =
-      bool-cases (dead t || supports b t (atom k n m))
+      bool-cases (isBottom t || supports b t (atom k n m))
       (λ q. rw q (j .grows 1 (size t)))
       (λ q. bool-cases (clash b t (atom k n m))
       (λ z. rw (q, z) (unfold measure in grow 1 (omega arith)))
@@ -108,9 +108,9 @@ module _ {join : ℕ → ℕ → ℕ} (j : Joining join) where
   within-size b l f n h t =
       let kept = j .grows (suc n) (size t) in
       let rest : ℕ = size (removeEvery l t) in
-      bool-cases (dead t || supports b t (atom most l 0))
+      bool-cases (isBottom t || supports b t (atom most l 0))
       (λ q. rw q kept)
-      (λ q. bool-cases (dead (f (sub l t)))
+      (λ q. bool-cases (isBottom (f (sub l t)))
       (λ z. rw (q, z) (omega (arith, insert-size b (atom most l 0) t, j .mono 1 (size t) (suc n) (size t) (omega arith) (omega arith))))
       (λ z. bool-cases (isEnd (f (sub l t)))
       (λ y. rw (q, z, y) kept)

@@ -6,28 +6,28 @@ use Rattle.fit.specs.Description.{atom, has, lacks, least, most, nothing}
 use Rattle.fit.specs.Tree.{leafRow, nodeRow}
 use Rattle.normal.specs.Layout.{later}
 use Rattle.normal.specs.Pipeline.{normalRows, outEvery, outKind, rowsFrom, sortedCells, walk}
-use Rattle.normal.specs.Slots.{build, cells, dies, position, says, settled, slots, tighten}
+use Rattle.normal.specs.Slots.{build, cells, inconsistent, nonempty, position, settled, slots, tighten}
 use Rattle.normal.specs.Sorted.{insertIn, sort}
 
 -- 'every' entries of one link merge, and names ascend
 merging : normalRows (nodeRow 0 7 ∷ leafRow 1 (atom has 5 0) ∷ nodeRow 0 7 ∷ leafRow 3 (atom has 4 0) ∷ [])
     ≡ nodeRow 0 7 ∷ leafRow 1 (atom has 4 0) ∷ leafRow 1 (atom has 5 0) ∷ []
-unfolding normalRows rowsFrom slots build tighten position dies settled says cells sort insertIn sortedCells walk outKind outEvery later
+unfolding normalRows rowsFrom slots build tighten position inconsistent settled nonempty cells sort insertIn sortedCells walk outKind outEvery later
 merging = refl
 
 -- an impossible place: at most 0 of its link; of several at most the smallest, at least 0 goes
-shutting : normalRows (leafRow 0 (atom least 9 0) ∷ nodeRow 0 7 ∷ leafRow 2 (atom lacks 5 0) ∷ leafRow 0 (atom most 8 4) ∷ leafRow 2 (atom has 5 0) ∷ leafRow 0 (atom most 8 3) ∷ [])
+closing : normalRows (leafRow 0 (atom least 9 0) ∷ nodeRow 0 7 ∷ leafRow 2 (atom lacks 5 0) ∷ leafRow 0 (atom most 8 4) ∷ leafRow 2 (atom has 5 0) ∷ leafRow 0 (atom most 8 3) ∷ [])
     ≡ leafRow 0 (atom most 7 0) ∷ leafRow 0 (atom most 8 3) ∷ []
-unfolding normalRows rowsFrom slots build tighten position dies settled says cells sort insertIn sortedCells walk outKind outEvery later
-shutting = refl
+unfolding normalRows rowsFrom slots build tighten position inconsistent settled nonempty cells sort insertIn sortedCells walk outKind outEvery later
+closing = refl
 
 -- at least 2 and at most 1 of one link: nothing fits
 impossible : normalRows (leafRow 0 (atom least 7 2) ∷ leafRow 0 (atom has 3 0) ∷ leafRow 0 (atom most 7 1) ∷ []) ≡ leafRow 0 (atom nothing 0 0) ∷ []
-unfolding normalRows rowsFrom slots build tighten position dies settled says cells sort insertIn sortedCells walk outKind outEvery later
+unfolding normalRows rowsFrom slots build tighten position inconsistent settled nonempty cells sort insertIn sortedCells walk outKind outEvery later
 impossible = refl
 
 -- places below places, breadth first; an 'every' that owns nothing goes
 deep : normalRows (nodeRow 0 7 ∷ nodeRow 1 8 ∷ leafRow 2 (atom has 1 0) ∷ nodeRow 0 6 ∷ nodeRow 4 9 ∷ nodeRow 1 5 ∷ leafRow 6 (atom lacks 2 0) ∷ [])
     ≡ nodeRow 0 7 ∷ nodeRow 1 5 ∷ nodeRow 1 8 ∷ leafRow 2 (atom lacks 2 0) ∷ leafRow 3 (atom has 1 0) ∷ []
-unfolding normalRows rowsFrom slots build tighten position dies settled says cells sort insertIn sortedCells walk outKind outEvery later
+unfolding normalRows rowsFrom slots build tighten position inconsistent settled nonempty cells sort insertIn sortedCells walk outKind outEvery later
 deep = refl

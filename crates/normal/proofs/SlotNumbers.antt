@@ -16,7 +16,7 @@ use Rattle.normal.proofs.Forms.{form}
 use Rattle.normal.proofs.SlotLaws.{key-name, key-place, name-class, name-eq, position-from}
 use Rattle.normal.proofs.WrittenLists.{value-none}
 use Rattle.normal.specs.Normal.{atMost, find, sub}
-use Rattle.normal.specs.Slots.{Cell, Slot, cell, cells, dies, isLink, lookup, position, sameKey, sameName, settled, shut, slot, slotAt, slotHigh, slotLow, slots, taken, value}
+use Rattle.normal.specs.Slots.{Cell, Slot, cell, cells, closed, inconsistent, isLink, lookup, position, sameKey, sameName, settled, slot, slotAt, slotHigh, slotLow, slots, taken, value}
 
 -- the slots of one key are among them
 pub position-range : (k : ℕ) (ss : List Slot) (v : ℕ) (b : Bool) (n : ℕ) → taken ss v b n ≡ true → position k ss v b n < k + length ss
@@ -40,7 +40,7 @@ lookup-number k (slot u b′ n′ lo hi ∷ ss) v b n =
     let iu : u ≡ v = key-place u b′ n′ v b n q in
     let s : sameName b′ n′ b n ≡ true = key-name u b′ n′ v b n q in
     let z : eqb v u ≡ true = omega tests in
-    rw (q, z, s, eqb-self k) (ap (λ (c : Cell). some c) (renamed k lo (shut (b′ && dies (suc k) ss k) hi) (name-class b′ n′ b n s) (name-eq b′ n′ b n s))))
+    rw (q, z, s, eqb-self k) (ap (λ (c : Cell). some c) (renamed k lo (closed (b′ && inconsistent (suc k) ss k) hi) (name-class b′ n′ b n s) (name-eq b′ n′ b n s))))
     (λ q.
     let p : eqb (position (suc k) ss v b n) k ≡ false = omega (tests, position-from (suc k) ss v b n) in
     rw (q, p) (bool-cases (eqb v u)

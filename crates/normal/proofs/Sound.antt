@@ -12,10 +12,10 @@ use Rattle.fit.specs.Background.{Background, Keeps}
 use Rattle.fit.specs.Description.{Atom, Kind, Place, atom, has, lacks, least, most, nothing}
 use Rattle.fit.specs.Record.{Record, eachLinked, fits, meets, successors}
 use Rattle.fit.specs.Tree.{end, leaf, node}
-use Rattle.normal.proofs.Fits.{dead-sound, end-sound, find-sound, fits-sub, linked-dead, linked-none, put-sound, putEvery-sound, remove-sound, sub-sound}
+use Rattle.normal.proofs.Fits.{bottom-sound, end-sound, find-sound, fits-sub, linked-bottom, linked-none, put-sound, putEvery-sound, remove-sound, sub-sound}
 use Rattle.normal.proofs.Lookup.{excluder, same-rank}
 use Rattle.normal.proofs.Passes.{find-removeEvery, find-removeLacks}
-use Rattle.normal.specs.Normal.{add, atMost, clash, clear, dead, excluded, fill, find, found, insert, isEnd, nf, rank, removeEvery, removeLacks, stored, sub, supports, under, within}
+use Rattle.normal.specs.Normal.{add, atMost, clash, clear, excluded, fill, find, found, insert, isBottom, isEnd, nf, rank, removeEvery, removeLacks, stored, sub, supports, under, within}
 
 -- ---- bounds
 
@@ -129,8 +129,8 @@ module _ (c : Record) {b : Background} (kept : Keeps b c) where
   pub insert-sound : (a : Atom) (t : Place) (x : ℕ) → x < c .size → fits c (insert b a t) x ≡ meets c a x && fits c t x
   unfolding insert fits
   insert-sound (atom k n m) t x i =
-      bool-cases (dead t)
-      (λ d. rw (d, dead-sound c t x d) (sym (and-zero (meets c (atom k n m) x))))
+      bool-cases (isBottom t)
+      (λ d. rw (d, bottom-sound c t x d) (sym (and-zero (meets c (atom k n m) x))))
       (λ d. bool-cases (supports b t (atom k n m))
       (λ s. rw (d, s) (sym (and-drop (supports-sound t (atom k n m) x i s))))
       (λ s. bool-cases (clash b t (atom k n m))
@@ -157,15 +157,15 @@ module _ (c : Record) {b : Background} (kept : Keeps b c) where
     pub within-sound : (t : Place) (x : ℕ) → x < c .size → fits c (within b l f t) x ≡ eachLinked c l x (λ y. fits c s y) && fits c t x
     unfolding within fill
     within-sound t x i =
-        bool-cases (dead t)
-        (λ d. rw (d, dead-sound c t x d) (simp and-zero))
+        bool-cases (isBottom t)
+        (λ d. rw (d, bottom-sound c t x d) (simp and-zero))
         (λ d. bool-cases (supports b t (atom most l 0))
         (λ q. rw (d, q) (sym (and-drop {a = eachLinked c l x (λ y. fits c s y)} (λ h.
         let z : leb (successors c l x) 0 ≡ true = supports-sound t (atom most l 0) x i q h in
         linked-none c l x (λ y. fits c s y) (omega tests)))))
-        (λ q. bool-cases (dead (f (sub l t)))
+        (λ q. bool-cases (isBottom (f (sub l t)))
         (λ z. rw (d, q, z) (insert-sound (atom most l 0) t x i
-        ∙ and-cong-left (λ h. sym (linked-dead c l x _ (λ y. dead-sound c (f (sub l t)) y z)) ∙ linked-s t x h)))
+        ∙ and-cong-left (λ h. sym (linked-bottom c l x _ (λ y. bottom-sound c (f (sub l t)) y z)) ∙ linked-s t x h)))
         (λ z. bool-cases (isEnd (f (sub l t)))
         (λ e. rw (d, q, z, e)
         (sym (and-drop (λ h. sym (linked-s t x h) ∙ every-of _ _ (λ y _. or-right (not (c .link l x y)) (end-sound c (f (sub l t)) y e))))))

@@ -12,7 +12,7 @@ use Rattle.fit.specs.Tree.{end, leaf, node}
 use Rattle.normal.proofs.AllEntries.{AllEntries}
 use Rattle.normal.proofs.Fields.{AtomFields, Fields}
 use Rattle.normal.proofs.Thinner.{Thinner, done, dropAtom, dropEvery, keepAtom, keepEvery, thinner-clear, thinner-remove, thinner-removeEvery}
-use Rattle.normal.specs.Normal.{add, before, clash, clear, dead, fill, insert, isEnd, nf, put, putEvery, rank, remove, removeEvery, stored, sub, supports, within}
+use Rattle.normal.specs.Normal.{add, before, clash, clear, fill, insert, isBottom, isEnd, nf, put, putEvery, rank, remove, removeEvery, stored, sub, supports, within}
 
 module _ (P : Atom → Type 0) (Q : ℕ → Type 0) where
   abbrev All : Place → Type 0
@@ -57,7 +57,7 @@ module _ (P : Atom → Type 0) (Q : ℕ → Type 0) where
     insert-all : (a : Atom) (t : Place) → S a → All t → All (insert b a t)
     unfolding insert
     insert-all (atom k n m) t a h =
-        bool-cases (dead t || supports b t (atom k n m))
+        bool-cases (isBottom t || supports b t (atom k n m))
         (λ q. rw q h)
         (λ q. bool-cases (clash b t (atom k n m))
         (λ z. rw (q, z) (bottom-holds, tt))
@@ -69,9 +69,9 @@ module _ (P : Atom → Type 0) (Q : ℕ → Type 0) where
     unfolding within fill
     within-all l f g t a h =
         let below : All (f (sub l t)) = g (sub l t) (sub-all l t h) in
-        bool-cases (dead t || supports b t (atom most l 0))
+        bool-cases (isBottom t || supports b t (atom most l 0))
         (λ q. rw q h)
-        (λ q. bool-cases (dead (f (sub l t)))
+        (λ q. bool-cases (isBottom (f (sub l t)))
         (λ z. rw (q, z) (insert-all (atom most l 0) t (zero-holds l a) h))
         (λ z. bool-cases (isEnd (f (sub l t)))
         (λ y. rw (q, z, y) h)

@@ -21,12 +21,12 @@ use Rattle.normal.specs.declared.Holding.the-variants.{All, Fails, Refus
 use Rattle.blocks.specs.declared.Schema.the-variants.{Description}
 use Rattle.fit.specs.Description.{rowOf}
 use Rattle.fit.specs.Record.{bit, every}
-use Rattle.normal.proofs.HoldingLaws.{dead-first, slots-first}
+use Rattle.normal.proofs.HoldingLaws.{bottom-first, slots-first}
 use Rattle.normal.proofs.TableLaws.{length-slots}
 use Rattle.normal.proofs.Written.{kept}
 use Rattle.normal.specs.First.{firstFrom}
 use Rattle.normal.specs.Holding.{heldBy, holdingOf, holdingReturned, unheld}
-use Rattle.normal.specs.Slots.{Slot, dies, settled, slot, slots}
+use Rattle.normal.specs.Slots.{Slot, inconsistent, settled, slot, slots}
 use Rattle.normal.specs.States.{Indexed, heldIn}
 use Rattle.normal.specs.Tables.{Chained, Owned}
 use Rattle.blocks.specs.declared.Reading.the-variants as reading
@@ -158,7 +158,7 @@ module _ {c t next head bad full : List ℕ} {used : ℕ} (s : Chained c used t 
   -- nothing fits the first
   pub unheld-none : {b : ℕ} → b ≡ getD bad 0 0 → b ≢ 0 → 0 ≡ unheld c d
   unfolding unheld
-  unheld-none e z = sym (dead-first (entriesOf c) (entriesOf d) (bit-true (dies 1 ss 0) (λ q. z (e ∙ s .settled′ .bads ∙ q))))
+  unheld-none e z = sym (bottom-first (entriesOf c) (entriesOf d) (bit-true (inconsistent 1 ss 0) (λ q. z (e ∙ s .settled′ .bads ∙ q))))
 
   few-slots : length ss ≤ used
   few-slots = omega (arith, length-settled 1 ss, ap length (s .settled′ .slotted), length-slots t 1 used)
@@ -170,4 +170,4 @@ module _ {c t next head bad full : List ℕ} {used : ℕ} (s : Chained c used t 
   unheld-found {m = m} e z f h =
       h ∙ ap (firstFrom (heldIn ss (entriesOf d)) 1) (accepted-few 2 d f .0)
       ∙ slots-first (entriesOf c) (entriesOf d) (omega (arith, few-slots, s .settled′ .few)) (sound-of-accepted Description 2 d f .entries)
-      (bit-false (dies 1 ss 0) (sym (s .settled′ .bads) ∙ sym e ∙ z))
+      (bit-false (inconsistent 1 ss 0) (sym (s .settled′ .bads) ∙ sym e ∙ z))

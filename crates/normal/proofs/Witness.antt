@@ -20,7 +20,7 @@ use Rattle.normal.specs.Canonical.{Ascending, Canonical, canonical}
 use Rattle.normal.specs.Holds.{holdsAt}
 use Rattle.normal.specs.Normal.{atMost, clash, excluded, find, found, isEnd, sub, supports}
 use Rattle.normal.specs.SpecimenTree.{SpecimenTree, alongTop, eachIn, fitsTop, meetsTop}
-use Rattle.normal.specs.Witness.{Goal, goalProperties, member, next, off, on, want, witness}
+use Rattle.normal.specs.Witness.{Target, member, next, off, on, targetProperties, want, witness}
 
 -- an ascending place is fitted if what it lists is met
 fits-listed : (s : SpecimenTree) (t : Place) → Ascending t → ((k : Kind) (n m : ℕ) → find k n t ≡ some m → meetsTop (atom k n m) s ≡ true)
@@ -38,32 +38,32 @@ fits-listed s (node l d r) h f g =
     let z : sub l′ (node l d r) ≡ sub l′ r = sub-rest l d r (h .0) l′ e in
     ap (λ (x : Place). eachIn l′ (λ u. fitsTop x u) s) (sym z) ∙ g l′ (rw z e)))
 
--- a goal asks for one property at most
-pub goal-one : (g : Goal) (p q : ℕ) → member p (goalProperties g) ≡ true → member q (goalProperties g) ≡ true → p ≡ q
+-- a target asks for one property at most
+pub target-one : (g : Target) (p q : ℕ) → member p (targetProperties g) ≡ true → member q (targetProperties g) ≡ true → p ≡ q
 unfolding member
-goal-one off p q d e = absurd (false≢true e)
-goal-one (on [] (atom has n m)) p q d e = absurd (false≢true e)
-goal-one (on [] (atom lacks n m)) p q d e =
+target-one off p q d e = absurd (false≢true e)
+target-one (on [] (atom has n m)) p q d e = absurd (false≢true e)
+target-one (on [] (atom lacks n m)) p q d e =
     let i : eqb p n ≡ true = or-cases (eqb p n) false d (λ z. z) (λ z. absurd (false≢true z)) in
     let j : eqb q n ≡ true = or-cases (eqb q n) false e (λ z. z) (λ z. absurd (false≢true z)) in
     omega tests
-goal-one (on [] (atom least n m)) p q d e = absurd (false≢true e)
-goal-one (on [] (atom most n m)) p q d e = absurd (false≢true e)
-goal-one (on [] (atom nothing n m)) p q d e = absurd (false≢true e)
-goal-one (on (l ∷ w) a) p q d e = absurd (false≢true e)
+target-one (on [] (atom least n m)) p q d e = absurd (false≢true e)
+target-one (on [] (atom most n m)) p q d e = absurd (false≢true e)
+target-one (on [] (atom nothing n m)) p q d e = absurd (false≢true e)
+target-one (on (l ∷ w) a) p q d e = absurd (false≢true e)
 
 -- an at most, listed or by a cap, bounds what it does not support
 under-bound : (o : Option ℕ) (m q : ℕ) → o ≡ some m → atMost q o ≡ false → q < m
 under-bound o m q e z = let y : leb m q ≡ false = rw e at z in omega tests
 
 module _ (b : Background) where
-  -- the goal's atom does not hold
-  abbrev pub Open : Place → Goal → Type 0
+  -- the target's atom does not hold
+  abbrev pub Open : Place → Target → Type 0
   Open t off = Unit {0}
   Open t (on w a) = holdsAt b t w a ≡ false
 
-  -- so it is for the place below and its part of the goal
-  pub open-next : (t : Place) (g : Goal) (l : ℕ) → Open t g → Open (sub l t) (next g l)
+  -- so it is for the place below and its part of the target
+  pub open-next : (t : Place) (g : Target) (l : ℕ) → Open t g → Open (sub l t) (next g l)
   unfolding holdsAt
   open-next t off l o = tt
   open-next t (on [] a) l o = tt
@@ -72,21 +72,21 @@ module _ (b : Background) where
       (λ q. let e : l ≡ l′ = eqb-eq q in rw (q, e) (neither-right (supports b t (atom most l′ 0)) (holdsAt b (sub l′ t) w a) o))
       (λ q. rw q tt)
 
-  -- ---- what the goal asks for
+  -- ---- what the target asks for
 
-  -- a property that the goal asks for is one whose lack is not supported
-  pub goal-lack : (t : Place) (g : Goal) (p : ℕ) → Open t g → member p (goalProperties g) ≡ true → supports b t (atom lacks p 0) ≡ false
+  -- a property that the target asks for is one whose lack is not supported
+  pub target-lack : (t : Place) (g : Target) (p : ℕ) → Open t g → member p (targetProperties g) ≡ true → supports b t (atom lacks p 0) ≡ false
   unfolding member holdsAt
-  goal-lack t off p o e = absurd (false≢true e)
-  goal-lack t (on [] (atom has n m)) p o e = absurd (false≢true e)
-  goal-lack t (on [] (atom lacks n m)) p o e = let i : p ≡ n = eqb-eq (or-cases (eqb p n) false e (λ z. z) (λ z. absurd (false≢true z))) in rw i o
-  goal-lack t (on [] (atom least n m)) p o e = absurd (false≢true e)
-  goal-lack t (on [] (atom most n m)) p o e = absurd (false≢true e)
-  goal-lack t (on [] (atom nothing n m)) p o e = absurd (false≢true e)
-  goal-lack t (on (l ∷ w) a) p o e = absurd (false≢true e)
+  target-lack t off p o e = absurd (false≢true e)
+  target-lack t (on [] (atom has n m)) p o e = absurd (false≢true e)
+  target-lack t (on [] (atom lacks n m)) p o e = let i : p ≡ n = eqb-eq (or-cases (eqb p n) false e (λ z. z) (λ z. absurd (false≢true z))) in rw i o
+  target-lack t (on [] (atom least n m)) p o e = absurd (false≢true e)
+  target-lack t (on [] (atom most n m)) p o e = absurd (false≢true e)
+  target-lack t (on [] (atom nothing n m)) p o e = absurd (false≢true e)
+  target-lack t (on (l ∷ w) a) p o e = absurd (false≢true e)
 
   -- it asks for no more items than a bound m allows, if each at most that is not supported is below m
-  want-within : (t : Place) (g : Goal) (n m : ℕ) → Open t g → ((q : ℕ) → supports b t (atom most n q) ≡ false → q < m) → want g n ≤ m
+  want-within : (t : Place) (g : Target) (n m : ℕ) → Open t g → ((q : ℕ) → supports b t (atom most n q) ≡ false → q < m) → want g n ≤ m
   unfolding holdsAt
   want-within t off n m o f = omega arith
   want-within t (on [] (atom has n′ m′)) n m o f = omega arith
@@ -103,23 +103,23 @@ module _ (b : Background) where
       (λ q. rw q (omega arith))
 
   -- an at most, listed or by a cap, is such a bound
-  want-most : (t : Place) (g : Goal) (n m : ℕ) → Open t g → find most n t ≡ some m → want g n ≤ m
+  want-most : (t : Place) (g : Target) (n m : ℕ) → Open t g → find most n t ≡ some m → want g n ≤ m
   want-most t g n m o e =
       want-within t g n m o (λ q z. under-bound (find most n t) m q e (neither-left (atMost q (find most n t)) (atMost q (b .cap n)) z))
 
-  pub want-cap : (t : Place) (g : Goal) (n m : ℕ) → Open t g → b .cap n ≡ some m → want g n ≤ m
+  pub want-cap : (t : Place) (g : Target) (n m : ℕ) → Open t g → b .cap n ≡ some m → want g n ≤ m
   want-cap t g n m o e =
       want-within t g n m o (λ q z. under-bound (b .cap n) m q e (neither-right (atMost q (find most n t)) (atMost q (b .cap n)) z))
 
   -- ---- the specimen fits
 
   -- the top item meets what the place lists
-  met : (t : Place) (g : Goal) (k : Kind) (n m : ℕ) → Open t g → find k n t ≡ some m → clash b t (atom k n m) ≡ false
+  met : (t : Place) (g : Target) (k : Kind) (n m : ℕ) → Open t g → find k n t ≡ some m → clash b t (atom k n m) ≡ false
       → meetsTop (atom k n m) (witness t g) ≡ true
   met t g has n m o e c = given-witness t g n ∙ rw e
   met t g lacks n m o e c =
-      let z : member n (goalProperties g) ≡ false
-      = not-true (λ y. both-ways (rw e) (neither-left (found (find lacks n t)) (excluded b n t) (goal-lack t g n o y))) in
+      let z : member n (targetProperties g) ≡ false
+      = not-true (λ y. both-ways (rw e) (neither-left (found (find lacks n t)) (excluded b n t) (target-lack t g n o y))) in
       not-to-true (given-witness t g n ∙ or-none c z)
   met t g least n m o e c = rw (total-witness t g n, e) (omega tests)
   met t g most n m o e c =
@@ -130,7 +130,7 @@ module _ (b : Background) where
   met t g nothing n m o e c = absurd (true≢false c)
 
   -- the top item fits the place
-  pub witness-fits : (t : Place) → Canonical b t → (g : Goal) → Open t g → fitsTop t (witness t g) ≡ true
+  pub witness-fits : (t : Place) → Canonical b t → (g : Target) → Open t g → fitsTop t (witness t g) ≡ true
   witness-fits t (canonical a c d s) g o =
       fits-listed (witness t g) t a (λ k n m e. met t g k n m o e (c k n m e .0))
       (λ l e. each-witness t g l (λ u. fitsTop (sub l t) u) (witness-fits (sub l t) (s l e) (next g l) (open-next t g l o)))

@@ -16,25 +16,25 @@ use Rattle.fit.specs.Tree.{end}
 use Rattle.normal.proofs.Lookup.{is-end, is-excluded}
 use Rattle.normal.proofs.Normal.{canonical-end, canonical-sub}
 use Rattle.normal.proofs.TreeRecord.{top-along, top-below, top-fits, tree-keeps, treeRecord}
-use Rattle.normal.proofs.Witness.{Open, goal-lack, goal-one, open-next, want-cap, witness-fits, witness-refutes}
+use Rattle.normal.proofs.Witness.{Open, open-next, target-lack, target-one, want-cap, witness-fits, witness-refutes}
 use Rattle.normal.proofs.WitnessTree.{given-witness, kept-witness, total-witness}
 use Rattle.normal.specs.Canonical.{Canonical, Clean, canonical}
 use Rattle.normal.specs.Holds.{holdsAt}
 use Rattle.normal.specs.Normal.{excluded, find, found, isEnd, sub, under}
 use Rattle.normal.specs.SpecimenTree.{KeepsTop, KeptBelow, SpecimenTree, given}
-use Rattle.normal.specs.Witness.{Goal, build, goalProperties, groupsBy, member, names, next, off, on, withProperties, witness}
+use Rattle.normal.specs.Witness.{Target, build, groupsBy, member, names, next, off, on, targetProperties, withProperties, witness}
 
 module _ {b : Background} (law : LawfulBackground b) where
   -- ---- one item
 
   -- an item has no property that a listed one excludes
-  given-free : (t : Place) (g : Goal) (p : ℕ) → Clean b t → Open b t g → given p (witness t g) ≡ true → excluded b p t ≡ false
+  given-free : (t : Place) (g : Target) (p : ℕ) → Clean b t → Open b t g → given p (witness t g) ≡ true → excluded b p t ≡ false
   given-free t g p c o e =
-      or-cases (found (find has p t)) (member p (goalProperties g)) (sym (given-witness t g p) ∙ e)
+      or-cases (found (find has p t)) (member p (targetProperties g)) (sym (given-witness t g p) ∙ e)
       (λ z. opt-cases (find has p t)
       (λ q. both-ways z (rw q))
       (λ m q. neither-right (found (find lacks p t)) (excluded b p t) (c has p m q .0)))
-      (λ z. neither-right (found (find lacks p t)) (excluded b p t) (goal-lack b t g p o z))
+      (λ z. neither-right (found (find lacks p t)) (excluded b p t) (target-lack b t g p o z))
 
   -- a listed property that excludes q
   listed-excludes : (t : Place) (p q : ℕ) → found (find has p t) ≡ true → b .excludes p q ≡ true → excluded b q t ≡ true
@@ -44,17 +44,17 @@ module _ {b : Background} (law : LawfulBackground b) where
       (λ m z. is-excluded b q t (record { name = p; number = m; listed = z; against = x }))
 
   -- no two properties of an item exclude each other
-  given-apart : (t : Place) (g : Goal) (p q : ℕ) → Clean b t → Open b t g → b .excludes p q ≡ true → given p (witness t g) ≡ true
+  given-apart : (t : Place) (g : Target) (p q : ℕ) → Clean b t → Open b t g → b .excludes p q ≡ true → given p (witness t g) ≡ true
       → given q (witness t g) ≡ true → ⊥
   given-apart t g p q c o x e f =
-      or-cases (found (find has p t)) (member p (goalProperties g)) (sym (given-witness t g p) ∙ e)
+      or-cases (found (find has p t)) (member p (targetProperties g)) (sym (given-witness t g p) ∙ e)
       (λ z. both-ways (listed-excludes t p q z x) (given-free t g q c o f))
-      (λ z. or-cases (found (find has q t)) (member q (goalProperties g)) (sym (given-witness t g q) ∙ f)
+      (λ z. or-cases (found (find has q t)) (member q (targetProperties g)) (sym (given-witness t g q) ∙ f)
       (λ y. both-ways (listed-excludes t q p y (law .both-ways q p ∙ x)) (given-free t g p c o e))
-      (λ y. let i : p ≡ q = goal-one g p q z y in both-ways (rw i at x) (law .not-itself q)))
+      (λ y. let i : p ≡ q = target-one g p q z y in both-ways (rw i at x) (law .not-itself q)))
 
   -- the top item keeps the background
-  keeps-top : (t : Place) → Clean b t → (g : Goal) → Open b t g → KeepsTop b (witness t g)
+  keeps-top : (t : Place) → Clean b t → (g : Target) → Open b t g → KeepsTop b (witness t g)
   keeps-top t c g o =
       record {
         caps = λ l m e. rw (total-witness t g l)
@@ -72,7 +72,7 @@ module _ {b : Background} (law : LawfulBackground b) where
   clean : {t : Place} → Canonical b t → Clean b t
   clean (canonical a c d s) = c
 
-  -- below a place that asks nothing: the goal's path alone
+  -- below a place that asks nothing: the target's path alone
   kept-off : KeptBelow b (witness end off)
   unfolding witness build names withProperties groupsBy
   kept-off = tt
@@ -89,12 +89,12 @@ module _ {b : Background} (law : LawfulBackground b) where
             (λ q. rw q kept-off),
       ))
 
-  kept-end : (g : Goal) → Open b end g → KeptBelow b (witness end g)
+  kept-end : (g : Target) → Open b end g → KeptBelow b (witness end g)
   kept-end off o = kept-off
   kept-end (on w a) o = kept-path w a o
 
   -- all items below keep it
-  kept-all : (t : Place) → Canonical b t → (g : Goal) → Open b t g → KeptBelow b (witness t g)
+  kept-all : (t : Place) → Canonical b t → (g : Target) → Open b t g → KeptBelow b (witness t g)
   kept-all t (canonical a c d s) g o =
       kept-witness t g b
       (λ l. let n = open-next b t g l o in (
@@ -105,7 +105,7 @@ module _ {b : Background} (law : LawfulBackground b) where
       ))
 
   -- the specimen of a comparison keeps the background
-  pub witness-keeps : (t : Place) → Canonical b t → (g : Goal) → Open b t g → KeepsTop b (witness t g) × KeptBelow b (witness t g)
+  pub witness-keeps : (t : Place) → Canonical b t → (g : Target) → Open b t g → KeepsTop b (witness t g) × KeptBelow b (witness t g)
   witness-keeps t h g o = (keeps-top t (clean h) g o, kept-all t h g o)
 
 -- ---- the record

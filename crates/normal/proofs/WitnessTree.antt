@@ -14,7 +14,7 @@ use Rattle.fit.specs.Tree.{end, leaf, node}
 use Rattle.normal.proofs.Names.{Different, different-names, member-names}
 use Rattle.normal.specs.Normal.{find, found, sub}
 use Rattle.normal.specs.SpecimenTree.{KeepsTop, KeptBelow, SpecimenTree, eachIn, given, total}
-use Rattle.normal.specs.Witness.{Goal, below, build, countFor, goalLinks, goalProperties, groupsBy, member, names, next, off, on, path, pathOf, want, withProperties, witness}
+use Rattle.normal.specs.Witness.{Target, below, build, countFor, groupsBy, member, names, next, off, on, path, pathOf, targetLinks, targetProperties, want, withProperties, witness}
 
 -- ---- groups
 
@@ -98,21 +98,21 @@ unfolding withProperties
 kept-properties b [] s h = h
 kept-properties b (p ∷ ps) s h = kept-properties b ps s h
 
--- ---- the goal
+-- ---- the target
 
--- a goal names a link once
-different-goal : (g : Goal) → Different (goalLinks g)
+-- a target names a link once
+different-target : (g : Target) → Different (targetLinks g)
 unfolding member
-different-goal off = tt
-different-goal (on [] (atom has n m)) = tt
-different-goal (on [] (atom lacks n m)) = tt
-different-goal (on [] (atom least n m)) = tt
-different-goal (on [] (atom most n m)) = (refl, tt)
-different-goal (on [] (atom nothing n m)) = tt
-different-goal (on (l ∷ w) a) = (refl, tt)
+different-target off = tt
+different-target (on [] (atom has n m)) = tt
+different-target (on [] (atom lacks n m)) = tt
+different-target (on [] (atom least n m)) = tt
+different-target (on [] (atom most n m)) = (refl, tt)
+different-target (on [] (atom nothing n m)) = tt
+different-target (on (l ∷ w) a) = (refl, tt)
 
--- the goal asks for no items by other links
-pub want-none : (g : Goal) (l : ℕ) → member l (goalLinks g) ≡ false → want g l ≡ 0
+-- the target asks for no items by other links
+pub want-none : (g : Target) (l : ℕ) → member l (targetLinks g) ≡ false → want g l ≡ 0
 unfolding member
 want-none off l e = refl
 want-none (on [] (atom has n m)) l e = refl
@@ -129,32 +129,32 @@ found-none (some m) e = cc
 
 -- ---- one place of the specimen
 
-module _ (f : ℕ → Goal → SpecimenTree) (t : Place) (g : Goal) where
-  given-build : (p : ℕ) → given p (build f t g) ≡ found (find has p t) || member p (goalProperties g)
+module _ (f : ℕ → Target → SpecimenTree) (t : Place) (g : Target) where
+  given-build : (p : ℕ) → given p (build f t g) ≡ found (find has p t) || member p (targetProperties g)
   unfolding build
   given-build p = given-properties p _ _ ∙ rw (given-groups, member-names) (or-false _)
 
   total-build : (l : ℕ) → total l (build f t g) ≡ countFor t g l
   unfolding build
   total-build l =
-      total-properties l _ _ ∙ total-groups _ _ l _ (different-names least t (goalLinks g) (different-goal g)) ∙ rw member-names
-      (bool-cases (found (find least l t) || member l (goalLinks g))
+      total-properties l _ _ ∙ total-groups _ _ l _ (different-names least t (targetLinks g) (different-target g)) ∙ rw member-names
+      (bool-cases (found (find least l t) || member l (targetLinks g))
       (λ q. rw q)
       (λ q. rw (
         q,
-        found-none (find least l t) (neither-left (found (find least l t)) (member l (goalLinks g)) q),
-        want-none g l (neither-right (found (find least l t)) (member l (goalLinks g)) q),
+        found-none (find least l t) (neither-left (found (find least l t)) (member l (targetLinks g)) q),
+        want-none g l (neither-right (found (find least l t)) (member l (targetLinks g)) q),
       )))
 
   each-build : (l : ℕ) (p : SpecimenTree → Bool) → p (f l (next g l)) ≡ true → eachIn l p (build f t g) ≡ true
   unfolding build
   each-build l p e = each-properties l p _ _ ∙ each-groups _ _ l p _ e
 
-  not-each-build : (l : ℕ) (p : SpecimenTree → Bool) → p (f l (next g l)) ≡ false → member l (goalLinks g) ≡ true → 0 < want g l
+  not-each-build : (l : ℕ) (p : SpecimenTree → Bool) → p (f l (next g l)) ≡ false → member l (targetLinks g) ≡ true → 0 < want g l
       → eachIn l p (build f t g) ≡ false
   unfolding build
   not-each-build l p e h i =
-      each-properties l p _ _ ∙ not-each-groups _ _ l p _ e (member-names least l t (goalLinks g) ∙ or-right (found (find least l t)) h) (omega arith)
+      each-properties l p _ _ ∙ not-each-groups _ _ l p _ e (member-names least l t (targetLinks g) ∙ or-right (found (find least l t)) h) (omega arith)
 
   kept-build : (b : Background) → ((l : ℕ) → KeepsTop b (f l (next g l)) × KeptBelow b (f l (next g l))) → KeptBelow b (build f t g)
   unfolding build
@@ -162,14 +162,14 @@ module _ (f : ℕ → Goal → SpecimenTree) (t : Place) (g : Goal) where
 
 -- ---- the whole specimen
 
-path-witness : (g : Goal) → pathOf g ≡ witness end g
+path-witness : (g : Target) → pathOf g ≡ witness end g
 unfolding path witness build names withProperties groupsBy below find
 path-witness off = refl
 path-witness (on [] a) = refl
 path-witness (on (l ∷ w) a) = rw (eqb-self l)
 
 -- the specimen of the place that a link leads to
-pub below-witness : (t : Place) (l : ℕ) (g : Goal) → below t l g ≡ witness (sub l t) g
+pub below-witness : (t : Place) (l : ℕ) (g : Target) → below t l g ≡ witness (sub l t) g
 unfolding below sub
 below-witness end l g = path-witness g
 below-witness (leaf a r) l g = below-witness r l g
@@ -178,9 +178,9 @@ below-witness (node l′ s r) l g =
     (λ q. rw q (unfold witness in refl))
     (λ q. rw q (below-witness r l g))
 
-module _ (t : Place) (g : Goal) where
-  -- its properties: those that are listed, and the goal's
-  pub given-witness : (p : ℕ) → given p (witness t g) ≡ found (find has p t) || member p (goalProperties g)
+module _ (t : Place) (g : Target) where
+  -- its properties: those that are listed, and the target's
+  pub given-witness : (p : ℕ) → given p (witness t g) ≡ found (find has p t) || member p (targetProperties g)
   unfolding witness
   given-witness p = given-build _ t g p
 
@@ -193,8 +193,8 @@ module _ (t : Place) (g : Goal) where
   unfolding witness
   each-witness l p e = each-build (λ l′ g′. below t l′ g′) t g l p (rw (below-witness t l (next g l)) e)
 
-  -- and it fails if it fails there, and the goal asks for items by l
-  pub not-each-witness : (l : ℕ) (p : SpecimenTree → Bool) → p (witness (sub l t) (next g l)) ≡ false → member l (goalLinks g) ≡ true
+  -- and it fails if it fails there, and the target asks for items by l
+  pub not-each-witness : (l : ℕ) (p : SpecimenTree → Bool) → p (witness (sub l t) (next g l)) ≡ false → member l (targetLinks g) ≡ true
       → 0 < want g l → eachIn l p (witness t g) ≡ false
   unfolding witness
   not-each-witness l p e h i = not-each-build (λ l′ g′. below t l′ g′) t g l p (rw (below-witness t l (next g l)) e) h i

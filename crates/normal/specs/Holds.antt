@@ -5,7 +5,7 @@ use mathlib.Core.Bool.{Bool, _||_}
 use mathlib.Core.List.{List, [], _∷_}
 use Rattle.fit.specs.Background.{Background}
 use Rattle.fit.specs.Description.{Atom, Place, atom, most}
-use Rattle.normal.specs.Normal.{dead, sub, supports}
+use Rattle.normal.specs.Normal.{isBottom, sub, supports}
 
 -- "if N has at most 0 of the next link at a place passed on W; or if N's place W (empty if N has none) supports it"
 unfoldable pub holdsAt : Background → Place → List ℕ → Atom → Bool
@@ -14,4 +14,4 @@ holdsAt b t (l ∷ w) a = supports b t (atom most l 0) || holdsAt b (sub l t) w 
 
 -- "It holds if N is kind 6; or .."
 unfoldable pub holds : Background → Place → List ℕ → Atom → Bool
-holds b t w a = dead t || holdsAt b t w a
+holds b t w a = isBottom t || holdsAt b t w a

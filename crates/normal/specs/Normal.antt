@@ -46,11 +46,11 @@ excluded b p end = false
 excluded b p (leaf (atom k q m) r) = (eqb (rank has) (rank k) && b .excludes q p) || excluded b p r
 excluded b p (node l s r) = excluded b p r
 
--- nothing fits the place, as its first entry says
-unfoldable pub dead : Place → Bool
-dead end = false
-dead (leaf (atom k n m) r) = eqb (rank nothing) (rank k)
-dead (node l s r) = false
+-- the place is bottom: its first entry is of kind 6, 'nothing fits'
+unfoldable pub isBottom : Place → Bool
+isBottom end = false
+isBottom (leaf (atom k n m) r) = eqb (rank nothing) (rank k)
+isBottom (node l s r) = false
 
 -- "an 'every' that owns nothing": the place is empty
 abbrev pub isEnd : Place → Bool
@@ -162,17 +162,17 @@ stored nothing m = 0
 -- is listed and not supporting is weaker.
 unfoldable pub insert : Background → Atom → Place → Place
 insert b (atom k n m) t =
-    cond (dead t || supports b t (atom k n m)) t
+    cond (isBottom t || supports b t (atom k n m)) t
     (cond (clash b t (atom k n m)) bottom (put k n (stored k m) (remove k n (clear b (atom k n m) t))))
 
 -- The 'every' of link l now owns s: an impossible place "goes with all below it, and its owner's place gains at most 0 of that
 -- link"; "an 'every' that owns nothing goes".
 unfoldable pub fill : Background → ℕ → Place → Place → Place
-fill b l s t = cond (dead s) (insert b (atom most l 0) t) (cond (isEnd s) t (putEvery l s (removeEvery l t)))
+fill b l s t = cond (isBottom s) (insert b (atom most l 0) t) (cond (isEnd s) t (putEvery l s (removeEvery l t)))
 
 -- what f adds, added under link l: "'every' entries of one owner and link merge"
 unfoldable pub within : Background → ℕ → (Place → Place) → Place → Place
-within b l f t = cond (dead t || supports b t (atom most l 0)) t (fill b l (f (sub l t)) t)
+within b l f t = cond (isBottom t || supports b t (atom most l 0)) t (fill b l (f (sub l t)) t)
 
 -- the normal place t with the entries of a place added
 unfoldable pub add : Background → Place → Place → Place

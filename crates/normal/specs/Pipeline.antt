@@ -11,7 +11,7 @@ use Rattle.fit.specs.Record.{bit}
 use Rattle.fit.specs.Tree.{Row, leafRow, nodeRow}
 use Rattle.normal.specs.Layout.{Queue, done, job, later}
 use Rattle.normal.specs.Normal.{atMost, before}
-use Rattle.normal.specs.Slots.{Cell, Slot, cell, cells, dies, isLink, sameClass, says, settled, shut, slot, slots, value}
+use Rattle.normal.specs.Slots.{Cell, Slot, cell, cells, closed, inconsistent, isLink, nonempty, sameClass, settled, slot, slots, value}
 use Rattle.normal.specs.Sorted.{sort}
 
 -- ---- the third pass: the cells of each place in ascending order
@@ -52,13 +52,13 @@ walk keep S (suc f) k (job o v Q) =
 
 -- an 'every' is written if its place has anything to say and its link is not at most 0
 abbrev pub keeping : List Slot → ℕ → Bool → Option ℕ → Bool
-keeping ss j b hi = b && (says 1 (settled 1 ss) j && not (atMost 0 hi))
+keeping ss j b hi = b && (nonempty 1 (settled 1 ss) j && not (atMost 0 hi))
 
 -- ---- all passes
 
 -- the rows from the slots ss, in at most f places, where S gives the cells of each place
 unfoldable pub rowsFrom : List Slot → (ℕ → List Cell) → ℕ → List (Row Atom ℕ)
-rowsFrom ss S f = cond (dies 1 ss 0) (leafRow 0 (atom nothing 0 0) ∷ []) (walk (keeping ss) S f 1 (job 0 0 done))
+rowsFrom ss S f = cond (inconsistent 1 ss 0) (leafRow 0 (atom nothing 0 0) ∷ []) (walk (keeping ss) S f 1 (job 0 0 done))
 
 -- enough places for so many rows
 abbrev pub enoughFor : List (Row Atom ℕ) → ℕ
@@ -76,7 +76,7 @@ pub data Tag : Type 0 where
 
 unfoldable pub tags : ℕ → List Slot → List Tag
 tags k [] = []
-tags k (slot u b n lo hi ∷ ss) = tag u (cell k b n lo (shut (b && dies (suc k) ss k) hi)) ∷ tags (suc k) ss
+tags k (slot u b n lo hi ∷ ss) = tag u (cell k b n lo (closed (b && inconsistent (suc k) ss k) hi)) ∷ tags (suc k) ss
 
 -- by place, then by class and name
 abbrev pub beforeTag : Tag → Tag → Bool

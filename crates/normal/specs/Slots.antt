@@ -128,33 +128,33 @@ atTop = leading (λ j. none) 0 0
 unfoldable pub slots : List (Row Atom ℕ) → List Slot
 slots rs = build atTop [] 1 rs
 
--- ---- the second pass, last to first: which places are impossible, what their slots become, which have anything to say
+-- ---- the second pass, last to first: which places are impossible, what their slots become, which are not empty
 
--- a link to an impossible place has at most 0
-abbrev pub shut : Bool → Option ℕ → Option ℕ
-shut true hi = some 0
-shut false hi = hi
+-- the upper bound of a link, closed where the place below it is impossible: its owner's place "gains at most 0 of that link"
+abbrev pub closed : Bool → Option ℕ → Option ℕ
+closed true hi = some 0
+closed false hi = hi
 
 -- a slot that nothing meets
 abbrev pub broken : Bool → ℕ → Option ℕ → Bool
 broken true lo hi = under lo hi
 broken false lo hi = not (eqb lo 0) && found hi
 
--- nothing fits the place v
-unfoldable pub dies : ℕ → List Slot → ℕ → Bool
-dies k [] v = false
-dies k (slot u b n lo hi ∷ ss) v = (eqb v u && broken b lo (shut (b && dies (suc k) ss k) hi)) || dies (suc k) ss v
+-- the place v is inconsistent, "impossible": nothing fits it
+unfoldable pub inconsistent : ℕ → List Slot → ℕ → Bool
+inconsistent k [] v = false
+inconsistent k (slot u b n lo hi ∷ ss) v = (eqb v u && broken b lo (closed (b && inconsistent (suc k) ss k) hi)) || inconsistent (suc k) ss v
 
--- the slots, where the links to impossible places are shut
+-- the slots, where the links to impossible places are closed
 unfoldable pub settled : ℕ → List Slot → List Slot
 settled k [] = []
-settled k (slot u b n lo hi ∷ ss) = slot u b n lo (shut (b && dies (suc k) ss k) hi) ∷ settled (suc k) ss
+settled k (slot u b n lo hi ∷ ss) = slot u b n lo (closed (b && inconsistent (suc k) ss k) hi) ∷ settled (suc k) ss
 
--- some of these settled slots asks something of the place v
-unfoldable pub says : ℕ → List Slot → ℕ → Bool
-says k [] v = false
-says k (slot u b n lo hi ∷ ss) v =
-    (eqb v u && (not (eqb lo 0) || (found hi || (b && says (suc k) ss k)))) || says (suc k) ss v
+-- the place v is not empty: some of these settled slots asks something of it
+unfoldable pub nonempty : ℕ → List Slot → ℕ → Bool
+nonempty k [] v = false
+nonempty k (slot u b n lo hi ∷ ss) v =
+    (eqb v u && (not (eqb lo 0) || (found hi || (b && nonempty (suc k) ss k)))) || nonempty (suc k) ss v
 
 -- ---- the slots of one place
 
@@ -166,7 +166,7 @@ pub data Cell : Type 0 where
 unfoldable pub cells : ℕ → List Slot → ℕ → List Cell
 cells k [] v = []
 cells k (slot u b n lo hi ∷ ss) v =
-    cond (eqb v u) (cell k b n lo (shut (b && dies (suc k) ss k) hi) ∷ cells (suc k) ss v) (cells (suc k) ss v)
+    cond (eqb v u) (cell k b n lo (closed (b && inconsistent (suc k) ss k) hi) ∷ cells (suc k) ss v) (cells (suc k) ss v)
 
 -- the cell of a class and name, if any
 unfoldable pub lookup : List Cell → Bool → ℕ → Option Cell

@@ -15,7 +15,7 @@ use Rattle.fit.specs.Description.{rowOf}
 use Rattle.fit.specs.Record.{bit}
 use Rattle.normal.specs.Chain.{Chains}
 use Rattle.normal.specs.Normal.{found}
-use Rattle.normal.specs.Slots.{Slot, broken, dies, position, says, settled, slot, slots, tighten}
+use Rattle.normal.specs.Slots.{Slot, broken, inconsistent, nonempty, position, settled, slot, slots, tighten}
 
 -- an upper bound as a number; 65,536 for none
 abbrev pub highNumber : Option ℕ → ℕ
@@ -123,18 +123,18 @@ pub record Settling (origin : List ℕ) (used s : ℕ) (t bad full : List ℕ) :
   pub below : (j : ℕ) → j ≤ s → getD t j 0 ≡ getD origin j 0
   pub keys : (j : ℕ) → keyIn (getD t j 0) ≡ keyIn (getD origin j 0)
   pub above : slotsFrom t (suc s) (used - s) ≡ settled (suc s) (slotsFrom origin (suc s) (used - s))
-  pub bads : (v : ℕ) → v < 1009 → getD bad v 0 ≡ bit (dies (suc s) (slotsFrom origin (suc s) (used - s)) v)
-  pub fulls : (v : ℕ) → v < 1009 → getD full v 0 ≡ bit (says (suc s) (settled (suc s) (slotsFrom origin (suc s) (used - s))) v)
+  pub bads : (v : ℕ) → v < 1009 → getD bad v 0 ≡ bit (inconsistent (suc s) (slotsFrom origin (suc s) (used - s)) v)
+  pub fulls : (v : ℕ) → v < 1009 → getD full v 0 ≡ bit (nonempty (suc s) (settled (suc s) (slotsFrom origin (suc s) (used - s))) v)
 
 -- what settling slot s does to the tables
-abbrev pub shutBound : List ℕ → List ℕ → ℕ → ℕ
-shutBound t bad s = cond (eqb (keyIn (getD t s 0) / 65536 % 2) 1 && not (eqb (getD bad s 0) 0)) 0 (highPart (getD t s 0))
+abbrev pub closedBound : List ℕ → List ℕ → ℕ → ℕ
+closedBound t bad s = cond (eqb (keyIn (getD t s 0) / 65536 % 2) 1 && not (eqb (getD bad s 0) 0)) 0 (highPart (getD t s 0))
 
 pub record Slotted (t bad full : List ℕ) (s : ℕ) (t′ bad′ full′ : List ℕ) : Type 0 where
-  pub table : t′ ≡ set t s (slotNumber (keyIn (getD t s 0)) (lowPart (getD t s 0)) (shutBound t bad s))
-  pub badly : bad′ ≡ cond (broken (eqb (keyIn (getD t s 0) / 65536 % 2) 1) (lowPart (getD t s 0)) (highIn (shutBound t bad s))) (set bad (keyIn (getD t s 0) / 131072) 1) bad
+  pub table : t′ ≡ set t s (slotNumber (keyIn (getD t s 0)) (lowPart (getD t s 0)) (closedBound t bad s))
+  pub badly : bad′ ≡ cond (broken (eqb (keyIn (getD t s 0) / 65536 % 2) 1) (lowPart (getD t s 0)) (highIn (closedBound t bad s))) (set bad (keyIn (getD t s 0) / 131072) 1) bad
   pub fully : full′
-      ≡ cond (not (eqb (lowPart (getD t s 0)) 0) || (found (highIn (shutBound t bad s)) || (eqb (keyIn (getD t s 0) / 65536 % 2) 1 && not (eqb (getD full s 0) 0))))
+      ≡ cond (not (eqb (lowPart (getD t s 0)) 0) || (found (highIn (closedBound t bad s)) || (eqb (keyIn (getD t s 0) / 65536 % 2) 1 && not (eqb (getD full s 0) 0))))
       (set full (keyIn (getD t s 0) / 131072) 1) full
 
 -- The slots of a description stand in the table, settled, each at a place of a lower number and with a key of its own; `bad` and
@@ -142,9 +142,9 @@ pub record Slotted (t bad full : List ℕ) (s : ℕ) (t′ bad′ full′ : List
 pub record Settled (d : List ℕ) (used : ℕ) (t bad full : List ℕ) : Type 0 where
   pub few : used ≤ 1008
   pub slotted : slotsFrom t 1 used ≡ settled 1 (slots (map rowOf (entriesOf d)))
-  pub bads : getD bad 0 0 ≡ bit (dies 1 (slots (map rowOf (entriesOf d))) 0)
+  pub bads : getD bad 0 0 ≡ bit (inconsistent 1 (slots (map rowOf (entriesOf d))) 0)
   pub full-size : length full ≡ 1009
-  pub fulls : (v : ℕ) → v < 1009 → getD full v 0 ≡ bit (says 1 (settled 1 (slots (map rowOf (entriesOf d)))) v)
+  pub fulls : (v : ℕ) → v < 1009 → getD full v 0 ≡ bit (nonempty 1 (settled 1 (slots (map rowOf (entriesOf d)))) v)
   pub apart : (i j : ℕ) → 1 ≤ i → i < j → j ≤ used → eqb (keyIn (getD t i 0)) (keyIn (getD t j 0)) ≡ false
   pub lower : (j : ℕ) → 1 ≤ j → j ≤ used → keyIn (getD t j 0) / 131072 < j
   pub bounded : (n : ℕ) → 1 ≤ n → n ≤ length (entriesOf d) → Bounded (nth (entriesOf d) n)

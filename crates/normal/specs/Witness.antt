@@ -10,15 +10,15 @@ use Rattle.fit.specs.Tree.{end, leaf, node}
 use Rattle.normal.specs.Normal.{find, rank}
 use Rattle.normal.specs.SpecimenTree.{SpecimenTree, group}
 
--- ---- the goal
+-- ---- the target
 
 -- what a place of the specimen is to refute: nothing, or the atom at the links w
-pub data Goal : Type 0 where
-  off : Goal
-  on : List ℕ → Atom → Goal
+pub data Target : Type 0 where
+  off : Target
+  on : List ℕ → Atom → Target
 
--- the goal of the place that link l leads to
-abbrev pub next : Goal → ℕ → Goal
+-- the target of the place that link l leads to
+abbrev pub next : Target → ℕ → Target
 next off l = off
 next (on [] a) l = off
 next (on (l′ ∷ w) a) l = cond (eqb l l′) (on w a) off
@@ -31,13 +31,13 @@ wantAt (atom least n m) l = 0
 wantAt (atom most n m) l = cond (eqb l n) (suc m) 0
 wantAt (atom nothing n m) l = 0
 
--- the items that a goal asks for: "at least 1 if p followed by R lies on W or is W"
-abbrev pub want : Goal → ℕ → ℕ
+-- the items that a target asks for: "at least 1 if p followed by R lies on W or is W"
+abbrev pub want : Target → ℕ → ℕ
 want off l = 0
 want (on [] a) l = wantAt a l
 want (on (l′ ∷ w) a) l = cond (eqb l l′) 1 0
 
--- the links of which an atom, or a goal, asks for items
+-- the links of which an atom, or a target, asks for items
 abbrev pub linksAt : Atom → List ℕ
 linksAt (atom has n m) = []
 linksAt (atom lacks n m) = []
@@ -45,12 +45,12 @@ linksAt (atom least n m) = []
 linksAt (atom most n m) = n ∷ []
 linksAt (atom nothing n m) = []
 
-abbrev pub goalLinks : Goal → List ℕ
-goalLinks off = []
-goalLinks (on [] a) = linksAt a
-goalLinks (on (l ∷ w) a) = l ∷ []
+abbrev pub targetLinks : Target → List ℕ
+targetLinks off = []
+targetLinks (on [] a) = linksAt a
+targetLinks (on (l ∷ w) a) = l ∷ []
 
--- the properties that an atom, or a goal, asks for: "e's at W if e is kind 2"
+-- the properties that an atom, or a target, asks for: "e's at W if e is kind 2"
 abbrev pub propertiesAt : Atom → List ℕ
 propertiesAt (atom has n m) = []
 propertiesAt (atom lacks n m) = n ∷ []
@@ -58,10 +58,10 @@ propertiesAt (atom least n m) = []
 propertiesAt (atom most n m) = []
 propertiesAt (atom nothing n m) = []
 
-abbrev pub goalProperties : Goal → List ℕ
-goalProperties off = []
-goalProperties (on [] a) = propertiesAt a
-goalProperties (on (l ∷ w) a) = []
+abbrev pub targetProperties : Target → List ℕ
+targetProperties off = []
+targetProperties (on [] a) = propertiesAt a
+targetProperties (on (l ∷ w) a) = []
 
 -- ---- counts and names
 
@@ -69,8 +69,8 @@ abbrev pub orZero : Option ℕ → ℕ
 orZero none = 0
 orZero (some m) = m
 
--- "the count for link R is N's at least there (0 if none)", or what the goal asks for, if that is more
-abbrev pub countFor : Place → Goal → ℕ → ℕ
+-- "the count for link R is N's at least there (0 if none)", or what the target asks for, if that is more
+abbrev pub countFor : Place → Target → ℕ → ℕ
 countFor t g l = max (orZero (find least l t)) (want g l)
 
 -- a number is in a list
@@ -79,13 +79,13 @@ member x [] = false
 member x (y ∷ ys) = eqb x y || member x ys
 
 -- a number put before the first larger one
-unfoldable pub slot : ℕ → List ℕ → List ℕ
-slot x [] = x ∷ []
-slot x (y ∷ ys) = cond (ltb x y) (x ∷ y ∷ ys) (y ∷ slot x ys)
+unfoldable pub putAscending : ℕ → List ℕ → List ℕ
+putAscending x [] = x ∷ []
+putAscending x (y ∷ ys) = cond (ltb x y) (x ∷ y ∷ ys) (y ∷ putAscending x ys)
 
 -- a number put into an ascending list, once
 unfoldable pub once : ℕ → List ℕ → List ℕ
-once x ys = cond (member x ys) ys (slot x ys)
+once x ys = cond (member x ys) ys (putAscending x ys)
 
 -- the names of the entries of kind k of a place, put into a list
 unfoldable pub names : Kind → Place → List ℕ → List ℕ
@@ -107,25 +107,25 @@ withProperties (p ∷ ps) s = leaf p (withProperties ps s)
 
 -- The specimen of a place, given those of the places below it: "Properties are those N lists with kind 1 there, and e's at W if e
 -- is kind 2", and groups, "its place is filled likewise".
-unfoldable pub build : (ℕ → Goal → SpecimenTree) → Place → Goal → SpecimenTree
+unfoldable pub build : (ℕ → Target → SpecimenTree) → Place → Target → SpecimenTree
 build f t g =
-    withProperties (names has t (goalProperties g)) (groupsBy (names least t (goalLinks g)) (countFor t g) (λ l. f l (next g l)))
+    withProperties (names has t (targetProperties g)) (groupsBy (names least t (targetLinks g)) (countFor t g) (λ l. f l (next g l)))
 
 -- the specimen of a place that asks nothing
 unfoldable pub path : List ℕ → Atom → SpecimenTree
 path [] a = build (λ l g. end) end (on [] a)
 path (l ∷ w) a = node (group l 0) (path w a) end
 
-abbrev pub pathOf : Goal → SpecimenTree
+abbrev pub pathOf : Target → SpecimenTree
 pathOf off = end
 pathOf (on w a) = path w a
 
 -- the specimen of the place that link l leads to
-unfoldable pub below : Place → ℕ → Goal → SpecimenTree
+unfoldable pub below : Place → ℕ → Target → SpecimenTree
 below end l g = pathOf g
 below (leaf a r) l g = below r l g
 below (node l′ s r) l g = cond (eqb l l′) (build (λ l″ g′. below s l″ g′) s g) (below r l g)
 
 -- "The specimen has one place for each path of links."
-unfoldable pub witness : Place → Goal → SpecimenTree
+unfoldable pub witness : Place → Target → SpecimenTree
 witness t g = build (λ l g′. below t l g′) t g

@@ -109,7 +109,7 @@ fn push_kind(
     }
 }
 
-// Whether the 'every' of the slot of an ordered number is kept: the slot is a link's, its place says something, and its bound is not 0.
+// Whether the 'every' of the slot of an ordered number is kept: the slot is a link's, its place is not empty, and its bound is not 0.
 fn keeps(x: u64, table: &[u64; 1009], full: &[u8; 1009]) -> bool
     requires { ⌜ tagSlot x < 1009 ⌝ }
     ensures { λ r. ⌜ r ≡ keepCell (keepIn (now (full .entry))) (tagCell (now (table .entry)) x) ⌝ }

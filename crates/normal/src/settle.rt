@@ -1,5 +1,5 @@
 // The second pass: the slots, last to first. A place is impossible where one of its slots is; a link to an impossible place has at most 0;
-// and a place has something to say where one of its slots has. All slots of a place stand after it, so one pass is enough.
+// and a place is not empty where one of its slots asks something. All slots of a place stand after it, so one pass is enough.
 ghost use mathlib.Core.Path.{_≡_};
 ghost use mathlib.Core.Bool.{not, cond, _&&_, _||_};
 ghost use Prim.Native.Nat.{_+_, _*_, _-_, _/_, _%_, _≤_, _<_};
@@ -27,8 +27,8 @@ pub(crate) fn link_in(x: u64) -> bool
     key_in(x) / 65536 % 2 == 1
 }
 
-// A link to an impossible place has at most 0.
-fn shut(link: bool, bad: u8, hi: u64) -> u64
+// The upper bound of a slot: closed, at most 0, where it is a link's and the place below it is impossible.
+fn closed(link: bool, bad: u8, hi: u64) -> u64
     ensures { λ r. ⌜ (r ≡ cond (link && not (eqb bad 0)) 0 hi) × (r ≤ hi) ⌝ }
 {
     if link {
@@ -52,7 +52,7 @@ fn is_broken(link: bool, lo: u64, hi: u64) -> bool
     lo != 0
 }
 
-// Whether a slot of these bounds, with what the place below it says, asks something.
+// Whether a slot of these bounds asks something, by itself or by a place below it that is not empty.
 fn asks(link: bool, lo: u64, hi: u64, full: u8) -> bool
     ensures { λ r. ⌜ r ≡ not (eqb lo 0) || (found (highIn hi) || (link && not (eqb full 0))) ⌝ }
 {
@@ -89,7 +89,7 @@ fn settle_slot(table: &mut [u64; 1009], bad: &mut [u8; 1009], full: &mut [u8; 10
     let lo = low_in(x);
     let was_bad = bad[s];
     let was_full = full[s];
-    let hi = shut(link, was_bad, high_in(x));
+    let hi = closed(link, was_bad, high_in(x));
     table[s] = make_slot(key_in(x), lo, hi);
     mark(bad, v, is_broken(link, lo, hi));
     mark(full, v, asks(link, lo, hi, was_full));

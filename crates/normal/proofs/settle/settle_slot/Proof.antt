@@ -11,7 +11,7 @@ make-slot-requires : tie.Need-make-slot-requires
 unfolding keyIn
 make-slot-requires c κs =
     let k = c .key-in .ensures in
-    (omega arith, omega (arith, c .before .before .before .before .before .low-in .ensures .1), omega (arith, c .before .shut .ensures .1, c .before .before .high-in .ensures .1))
+    (omega arith, omega (arith, c .before .before .before .before .before .low-in .ensures .1), omega (arith, c .before .closed .ensures .1, c .before .before .high-in .ensures .1))
 
 returns : tie.Need-returns
 returns c =
@@ -19,7 +19,7 @@ returns c =
     let v = b .before .before .before .before .before .before .before .before .place-in .ensures in
     let link = b .before .before .before .before .before .before .before .link-in .ensures in
     let lo = b .before .before .before .before .before .before .low-in .ensures .0 in
-    let hi = b .before .before .shut .ensures .0 in
+    let hi = b .before .before .closed .ensures .0 in
     let top = b .before .before .before .high-in .ensures .0 in
     let key = b .before .key-in .ensures in
     record {

@@ -1,9 +1,9 @@
--- `asked_property` meets its contract, by where the goal stands and by the entry's kind.
+-- `asked_property` meets its contract, by where the target stands and by the entry's kind.
 use borrow.Author.Needs.{needs}
 use native.Mathlib.Omega.{arith}
-use Rattle.compare.proofs.GoalLaws.{property-before, property-lacked, property-none}
-use Rattle.compare.proofs.goal.asked_property.Statement.{statement}
-use Rattle.compare.proofs.goal.asked_property.Tie as tie
+use Rattle.compare.proofs.TargetLaws.{property-before, property-lacked, property-none}
+use Rattle.compare.proofs.asked.asked_property.Statement.{statement}
+use Rattle.compare.proofs.asked.asked_property.Tie as tie
 
 returns : tie.Need-returns
 returns c = (omega arith, λ links. property-before links _ (omega (arith, c .if1 .taken)))

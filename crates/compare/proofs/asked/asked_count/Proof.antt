@@ -1,9 +1,9 @@
 -- `asked_count` meets its contract.
 use borrow.Author.Needs.{needs}
 use native.Mathlib.Omega.{arith}
-use Rattle.compare.proofs.GoalLaws.{count-before, count-end}
-use Rattle.compare.proofs.goal.asked_count.Statement.{statement}
-use Rattle.compare.proofs.goal.asked_count.Tie as tie
+use Rattle.compare.proofs.TargetLaws.{count-before, count-end}
+use Rattle.compare.proofs.asked.asked_count.Statement.{statement}
+use Rattle.compare.proofs.asked.asked_count.Tie as tie
 
 returns : tie.Need-returns
 returns c = (omega arith, λ links l e. count-before links _ (c .if1 .taken) e)

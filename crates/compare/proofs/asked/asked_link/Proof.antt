@@ -1,9 +1,9 @@
--- `asked_link` meets its contract, by where the goal stands and by the entry's kind.
+-- `asked_link` meets its contract, by where the target stands and by the entry's kind.
 use borrow.Author.Needs.{needs}
 use native.Mathlib.Omega.{arith}
-use Rattle.compare.proofs.GoalLaws.{link-most, link-next, link-none, link-other}
-use Rattle.compare.proofs.goal.asked_link.Statement.{statement}
-use Rattle.compare.proofs.goal.asked_link.Tie as tie
+use Rattle.compare.proofs.TargetLaws.{link-most, link-next, link-none, link-other}
+use Rattle.compare.proofs.asked.asked_link.Statement.{statement}
+use Rattle.compare.proofs.asked.asked_link.Tie as tie
 
 returns : tie.Need-returns
 returns c = (omega arith, link-none _ _ (c .if1 .taken))

@@ -1,0 +1,64 @@
+// What a place of the specimen is asked for beyond the normal form: on the path to the entry that fails, an item by the next link; at its
+// end, what the entry denies. A target is a number: 0 asks nothing, i + 1 stands i links down the path of m links.
+ghost use mathlib.Core.Path.{_≡_};
+ghost use mathlib.Core.List.{List, [], _∷_};
+ghost use Prim.Native.Nat.{ℕ, _+_, _≤_};
+ghost use Rattle.fit.specs.Description.{Atom, atomOf};
+ghost use Rattle.normal.specs.Witness.{targetLinks, targetProperties, want};
+ghost use Rattle.compare.specs.Codes.{targetAt, targetBelow, upFrom};
+ghost use Rattle.compare.specs.Table.{nameOr};
+use crate::table::long;
+use blocks::Entry;
+
+// The property that is asked for: that of a 'lacks' at the end of the path; 65,536 for none.
+pub(crate) fn asked_property(target: usize, m: usize, e: Entry) -> u64
+    requires { ⌜ (target ≤ m + 1) × (m ≤ 32) ⌝ }
+    ensures { λ r. ⌜ (r ≤ 65536) × ((links : List ℕ) → targetProperties (targetAt (upFrom links m) (atomOf e) target) ≡ nameOr r) ⌝ }
+{
+    if target != m + 1 {
+        return 65536;
+    }
+    if e.kind != 2 {
+        return 65536;
+    }
+    long(e.name)
+}
+
+// The link of which items are asked for; 65,536 for none.
+pub(crate) fn asked_link(target: usize, links: &[u16; 32], m: usize, e: Entry) -> u64
+    requires { ⌜ (target ≤ m + 1) × (m ≤ 32) ⌝ }
+    ensures { λ r. ⌜ (r ≤ 65536) × (targetLinks (targetAt (upFrom (now (links .entry)) m) (atomOf e) target) ≡ nameOr r) ⌝ }
+{
+    if target == 0 {
+        return 65536;
+    }
+    if target <= m {
+        return long(links[m - target]);
+    }
+    if e.kind != 4 {
+        return 65536;
+    }
+    long(e.name)
+}
+
+// How many items are asked for by that link.
+pub(crate) fn asked_count(target: usize, m: usize, e: Entry) -> u64
+    requires { ⌜ (target ≤ m + 1) × (m ≤ 32) ⌝ }
+    ensures { λ r. ⌜ (r ≤ 65536) × ((links : List ℕ) (l : ℕ) → targetLinks (targetAt (upFrom links m) (atomOf e) target) ≡ l ∷ [] → want (targetAt (upFrom links m) (atomOf e) target) l ≡ r) ⌝ }
+{
+    if target <= m {
+        return 1;
+    }
+    long(e.number) + 1
+}
+
+// The target of the place that the link leads to.
+pub(crate) fn target_below(target: usize, m: usize) -> usize
+    requires { ⌜ (target ≤ m + 1) × (m ≤ 32) ⌝ }
+    ensures { λ r. ⌜ (r ≤ m + 1) × ((links : List ℕ) (a : Atom) (l : ℕ) → targetLinks (targetAt (upFrom links m) a target) ≡ l ∷ [] → targetBelow (upFrom links m) target l ≡ r) ⌝ }
+{
+    if m < target {
+        return 0;
+    }
+    target + 1
+}
