@@ -25,7 +25,7 @@ use Rattle.compare.proofs.AnswerLaws.{Comparable, compared, verdict-con
 use Rattle.normal.proofs.FirstLaws.{none-failing}
 use Rattle.compare.specs.Answer.{compareOf, failing, normalOf, outputAfter, outputOf, specimenOf, verdict}
 use Rattle.compare.specs.Cases.{Line, Outcome, compares, impossible, inside, lines, normalises, outside}
-use Rattle.normal.specs.First.{entryHolds, firstFailing, firstFrom}
+use Rattle.normal.specs.First.{entryHolds, firstFailing}
 use Rattle.compare.specs.Specimen.{specimenEntries, specimenFor}
 use Rattle.compare.specs.declared.Comparison.{Comparison}
 use Rattle.compare.specs.declared.Comparison.the-variants.{Contained, NotContained}
@@ -35,6 +35,7 @@ use Rattle.fit.specs.Tree.{tree}
 use Rattle.normal.specs.Holds.{holds, holdsAt}
 use Rattle.normal.specs.Layout.{later, lay, weight, write}
 use Rattle.normal.specs.Normal.{add, bottom, excluded, fill, find, insert, isBottom, nf, put, putEvery, remove, removeEvery, removeLacks, sub, within}
+use Rattle.normal.specs.Search.{firstFrom}
 use Rattle.normal.specs.Witness.{below, build, groupsBy, member, names, once, path, putAscending, withProperties, witness}
 
 -- ---- what a line says

@@ -11,7 +11,8 @@ use native.Mathlib.Omega.{arith}
 use Rattle.base.proofs.Range.{none-left, one-left}
 use Rattle.base.proofs.Tests.{bool-cases, eq-cases}
 use Rattle.blocks.specs.declared.Entry.{Entry}
-use Rattle.normal.specs.First.{entryHolds, firstFailing, firstFrom}
+use Rattle.normal.specs.First.{entryHolds, firstFailing}
+use Rattle.normal.specs.Search.{firstFrom}
 use Rattle.fit.specs.Background.{Background}
 use Rattle.fit.specs.Description.{Place}
 
@@ -73,6 +74,12 @@ module _ (f : ℕ → Bool) where
         fails = h .fails;
         before = λ j lo hi. h .before j (omega arith) hi;
       })))
+
+  -- what is found is not past the last
+  pub first-within : (n left : ℕ) → firstFrom f n left ≤ n + left
+  unfolding firstFrom
+  first-within n zero = omega arith
+  first-within n (suc left) = bool-cases (f n) (λ q. rw q (omega (arith, first-within (suc n) left))) (λ q. rw q (omega arith))
 
   -- ---- a loop that counts n up to e
 

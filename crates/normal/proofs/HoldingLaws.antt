@@ -27,9 +27,10 @@ use Rattle.normal.proofs.Plain.{supports-plain}
 use Rattle.normal.proofs.SlotLaws.{position-from}
 use Rattle.normal.proofs.SlotNumbers.{no-link-slot, no-slot, position-range, slot-lists, slot-owns}
 use Rattle.normal.proofs.WrittenLists.{value-none}
-use Rattle.normal.specs.First.{entryHolds, firstFailing, firstFrom}
+use Rattle.normal.specs.First.{entryHolds, firstFailing}
 use Rattle.normal.specs.Holds.{holds, holdsAt}
 use Rattle.normal.specs.Normal.{atMost, enough, find, found, nf, sub, supports}
+use Rattle.normal.specs.Search.{firstFrom}
 use Rattle.normal.specs.Slots.{Slot, inconsistent, isLink, position, slots, taken, value}
 use Rattle.normal.specs.States.{entrySlot, heldAt, heldIn, highAt, linkName, lowAt, slotFor, stateBelow, stateOf, supportedBy}
 

@@ -15,7 +15,7 @@ use Rattle.normal.proofs.TagLaws.{tags-table}
 use Rattle.normal.proofs.TagOrder.{numbers-many, places-rise, tags-same, tags-same-back, tags-sorted}
 use Rattle.normal.specs.Layout.{write}
 use Rattle.normal.specs.Normal.{nf}
-use Rattle.normal.specs.Ordered.{firstFrom, runFrom, runOf, tagIn, tagNumbers}
+use Rattle.normal.specs.Ordered.{firstOfPlace, runFrom, runOf, tagIn, tagNumbers}
 use Rattle.normal.specs.Pipeline.{enoughFor, part, rowsFrom}
 use Rattle.normal.specs.Slots.{settled, slots}
 use Rattle.normal.specs.Tables.{keyIn, slotsFrom}
@@ -26,7 +26,7 @@ runs-parts : (t : List ℕ) (used : ℕ) → runOf t (sorted (tagNumbers t 1 use
 runs-parts t used =
     let z = sorted (tagNumbers t 1 used) in
     fun-ext (λ v.
-    ap (λ (n : ℕ). runFrom t z v (firstFrom z v 0 n) (n - firstFrom z v 0 n)) (sym (numbers-many t used))
+    ap (λ (n : ℕ). runFrom t z v (firstOfPlace z v 0 n) (n - firstOfPlace z v 0 n)) (sym (numbers-many t used))
     ∙ run-part t z v (places-rise t used))
 
 -- the rows from the cells of each place are those of the normal form

@@ -9,7 +9,8 @@ use native.Mathlib.Nat.{add-suc, add-zero, suc-add}
 use native.Mathlib.Numerals.{add-one}
 use native.Mathlib.Omega.{arith}
 use Rattle.base.proofs.Tests.{eq-cases, eq-eqb, ne-eqb}
-use Rattle.normal.specs.Ordered.{firstFrom, tagNumber, tagNumbers, tagPlace}
+use Rattle.normal.specs.Ordered.{firstOfPlace, tagNumber, tagNumbers, tagPlace}
+use Rattle.normal.specs.Search.{firstFrom}
 use Rattle.normal.specs.Tables.{keyIn}
 
 tag-last : (t : List ℕ) (i n : ℕ) → tagNumbers t i (suc n) ≡ tagNumbers t i n ++ (tagNumber (keyIn (getD t (i + n) 0)) (i + n) ∷ [])
@@ -31,7 +32,7 @@ tags-more t z i {x} l e f =
 
 pub record Firsts (z start : List ℕ) (i used : ℕ) : Type 0 where
   pub size : length start ≡ 1009
-  pub first : (v : ℕ) → v < 1009 → getD start v 0 ≡ firstFrom z v i (used - i)
+  pub first : (v : ℕ) → v < 1009 → getD start v 0 ≡ firstOfPlace z v i (used - i)
 
 pub firsts-start : (z : List ℕ) {start : List ℕ} (used : ℕ) → start ≡ replicate 1009 0 → Firsts z start used used
 unfolding firstFrom

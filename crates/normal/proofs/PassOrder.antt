@@ -18,6 +18,7 @@ use Rattle.fit.specs.Description.{atom, nothing, placeOf, rowOf}
 use Rattle.fit.specs.Record.{bit}
 use Rattle.fit.specs.Tree.{leafRow}
 use Rattle.normal.proofs.Exact.{normal-exact, normal-length}
+use Rattle.normal.proofs.FirstLaws.{first-same}
 use Rattle.normal.proofs.KeyLaws.{slots-small}
 use Rattle.normal.proofs.NormalOrdered.{normal-ordered}
 use Rattle.normal.proofs.PassLaws.{all-bounded, low-at, nonempty-far, rows-small, small-settled}
@@ -29,7 +30,7 @@ use Rattle.normal.proofs.WalkingLaws.{run-from}
 use Rattle.normal.specs.Emitted.{Walkable, allRows, keepIn}
 use Rattle.normal.specs.Layout.{write}
 use Rattle.normal.specs.Normal.{nf, same}
-use Rattle.normal.specs.Ordered.{firstFrom, runFrom, runOf, tagNumbers, tagPlace, tagSlot}
+use Rattle.normal.specs.Ordered.{firstOfPlace, otherPlace, runFrom, runOf, tagNumbers, tagPlace, tagSlot}
 use Rattle.normal.specs.Pipeline.{enoughFor, keeping, normalRows, rowsFrom}
 use Rattle.normal.specs.Slots.{inconsistent, low, nonempty, settled, slot, slots}
 use Rattle.normal.specs.Tables.{Settled, keyIn, lowPart}
@@ -89,11 +90,6 @@ ordered-table t used ys few e =
 
 -- ---- only the ordered slots count
 
-first-same : (z y : List ℕ) (v i left m : ℕ) → i + left ≤ m → ((j : ℕ) → j < m → getD z j 0 ≡ getD y j 0) → firstFrom z v i left ≡ firstFrom y v i left
-unfolding firstFrom
-first-same z y v i zero m l h = refl
-first-same z y v i (suc left) m l h = rw (firstFrom, firstFrom, h i (omega arith), first-same z y v (suc i) left m (omega arith) h)
-
 run-same : (t z y : List ℕ) (v i left m : ℕ) → i + left ≤ m → ((j : ℕ) → j < m → getD z j 0 ≡ getD y j 0) → runFrom t z v i left ≡ runFrom t y v i left
 unfolding runFrom
 run-same t z y v i zero m l h = refl
@@ -103,8 +99,8 @@ pub runs-front : (t z y : List ℕ) (used : ℕ) → take used z ≡ y → runOf
 runs-front t z y used e =
     let h : (j : ℕ) → j < used → getD z j 0 ≡ getD y j 0 = λ j l. sym (getD-take used z j 0 l) ∙ ap (λ (q : List ℕ). getD q j 0) e in
     fun-ext (λ v.
-    let f = first-same z y v 0 used used (omega arith) h in
-    rw f (run-same t z y v (firstFrom y v 0 used) (used - firstFrom y v 0 used) used (omega (arith, run-from y v used)) h))
+    let f = first-same (otherPlace z v) (otherPlace y v) 0 used (λ j lo hi. ap (λ (x : ℕ). not (eqb (tagPlace x) v)) (h j (omega arith))) in
+    rw f (run-same t z y v (firstOfPlace y v 0 used) (used - firstOfPlace y v 0 used) used (omega (arith, run-from y v used)) h))
 
 -- ---- the 'every' entries that are kept
 

@@ -1,30 +1,17 @@
 -- The cells of a place stand in a row where the numbers ascend by place.
 -- Assumes nothing.
 use Prim.Native.Nat.{_+_, _-_, _<_, _≤_, suc, zero, ℕ}
-use lib.Dec.{eqb}
 use lib.ListN.{getD, length}
 use mathlib.Core.List.{List, [], _∷_, map}
-use mathlib.Core.Logic.{_⊎_, _≢_, inl, inr, ⊎-elim}
+use mathlib.Core.Logic.{_≢_}
 use mathlib.Core.Path.{_∙_, _≡_, ap, refl, sym}
 use native.Mathlib.Omega.{arith}
 use Rattle.base.proofs.Lists.{holds-self, listed, part-eq}
-use Rattle.base.proofs.Tests.{bool-cases, eq-cases, eq-eqb, ne-eqb}
-use Rattle.normal.specs.Ordered.{firstFrom, runFrom, tagCell, tagIn, tagPlace}
+use Rattle.base.proofs.Tests.{eq-cases, eq-eqb, ne-eqb}
+use Rattle.normal.specs.Ordered.{firstOfPlace, runFrom, tagCell, tagIn, tagPlace}
 use Rattle.normal.specs.Pipeline.{part}
+use Rattle.normal.specs.Search.{firstFrom}
 use Rattle.normal.specs.Slots.{Cell}
-
--- the first index found is 0, or among those searched
-pub first-among : (z : List ℕ) (v i left : ℕ) → (firstFrom z v i left ≡ 0) ⊎ ((i ≤ firstFrom z v i left) × (firstFrom z v i left < i + left))
-unfolding firstFrom
-first-among z v i zero = inl refl
-first-among z v i (suc left) =
-    bool-cases (eqb (tagPlace (getD z i 0)) v)
-    (λ q. rw q (inr (omega arith, omega arith)))
-    (λ q. rw q (⊎-elim (λ e. inl e) (λ h. inr (omega (arith, h .0), omega (arith, h .1))) (first-among z v (suc i) left)))
-
--- it is not past the last of them
-pub first-within : (z : List ℕ) (v i left : ℕ) → firstFrom z v i left ≤ i + left
-first-within z v i left = ⊎-elim (λ e. omega arith) (λ h. omega (arith, h .1)) (first-among z v i left)
 
 module _ (t z : List ℕ) (v : ℕ) where
   -- the place of the number at an index
@@ -76,7 +63,7 @@ module _ (t z : List ℕ) (v : ℕ) where
 
     -- where none stands before index i, they stand in a row from the first one on
     run-rest : (i left : ℕ) → i + left ≡ length z → ((k : ℕ) → k < i → placeAt k ≢ v)
-        → runFrom t z v (firstFrom z v i left) (length z - firstFrom z v i left) ≡ partFrom i left
+        → runFrom t z v (firstOfPlace z v i left) (length z - firstOfPlace z v i left) ≡ partFrom i left
     unfolding firstFrom
     run-rest i zero l h = run-none (length z - 0) (λ o. h 0 (omega arith)) ∙ sym (part-end i)
     run-rest i (suc left) l h =
@@ -93,7 +80,7 @@ module _ (t z : List ℕ) (v : ℕ) where
         (run-rest (suc i) left (omega arith) (λ k b. eq-cases k i (λ q. rw q n) (λ q. h k (omega arith)))))
 
     -- the row from the first one on is the whole part of place v
-    pub run-part : runFrom t z v (firstFrom z v 0 (length z)) (length z - firstFrom z v 0 (length z)) ≡ part (map (tagIn t) z) v
+    pub run-part : runFrom t z v (firstOfPlace z v 0 (length z)) (length z - firstOfPlace z v 0 (length z)) ≡ part (map (tagIn t) z) v
     run-part =
         run-rest 0 (length z) (omega arith) (λ k b. absurd (omega arith))
         ∙ ap (λ (q : List ℕ). part (map (tagIn t) q) v) (part-eq (holds-self z))

@@ -24,8 +24,8 @@ use Rattle.fit.specs.Record.{bit, every}
 use Rattle.normal.proofs.HoldingLaws.{bottom-first, slots-first}
 use Rattle.normal.proofs.TableLaws.{length-slots}
 use Rattle.normal.proofs.Written.{kept}
-use Rattle.normal.specs.First.{firstFrom}
 use Rattle.normal.specs.Holding.{heldBy, holdingOf, holdingReturned, unheld}
+use Rattle.normal.specs.Search.{firstFrom}
 use Rattle.normal.specs.Slots.{Slot, inconsistent, settled, slot, slots}
 use Rattle.normal.specs.States.{Indexed, heldIn}
 use Rattle.normal.specs.Tables.{Chained, Owned}

@@ -18,12 +18,12 @@ use Rattle.blocks.proofs.Blocks.{parts}
 use Rattle.fit.specs.Description.{Atom}
 use Rattle.fit.specs.Tree.{Row}
 use Rattle.normal.proofs.EmitLaws.{jobs-more, jobs-none, walk-done, walk-place}
+use Rattle.normal.proofs.FirstLaws.{first-within}
 use Rattle.normal.proofs.PlacingLaws.{every-length, length-noted}
 use Rattle.normal.proofs.PushLaws.{Pushing, part-room, pushed-anew, pushed-none, pushing-done, pushing-more, pushing-room, pushing-same}
-use Rattle.normal.proofs.RunLaws.{first-within}
 use Rattle.normal.specs.Emitted.{Placing, Pushed, Walkable, allRows, atomRows, everyRows, everySlots, jobsFrom, keepCell, laterEach, noteEach, placeRows}
 use Rattle.normal.specs.Layout.{done, job}
-use Rattle.normal.specs.Ordered.{firstFrom, runFrom, runOf, tagCell, tagPlace, tagSlot}
+use Rattle.normal.specs.Ordered.{firstOfPlace, otherPlace, runFrom, runOf, tagCell, tagPlace, tagSlot}
 use Rattle.normal.specs.Pipeline.{walk}
 use Rattle.normal.specs.Slots.{Cell}
 
@@ -210,8 +210,8 @@ walking-done {keep} {S} {k = k} {count = count} {below = below} w l =
 
 -- ---- the cells of each place
 
-pub run-from : (z : List ℕ) (v used : ℕ) → firstFrom z v 0 used ≤ used
-run-from z v used = omega (arith, first-within z v 0 used)
+pub run-from : (z : List ℕ) (v used : ℕ) → firstOfPlace z v 0 used ≤ used
+run-from z v used = omega (arith, first-within (otherPlace z v) 0 used)
 
 pub cells-slotlike : (keep : ℕ → Bool → Option ℕ → Bool) (t z : List ℕ) (used v : ℕ) → Walkable t z used → Slotlike (everySlots keep (runOf t z used v))
-cells-slotlike keep t z used v w = run-slotlike keep t z used v (firstFrom z v 0 used) (used - firstFrom z v 0 used) w (omega (arith, run-from z v used))
+cells-slotlike keep t z used v w = run-slotlike keep t z used v (firstOfPlace z v 0 used) (used - firstOfPlace z v 0 used) w (omega (arith, run-from z v used))

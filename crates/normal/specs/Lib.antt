@@ -12,6 +12,7 @@ pub mod Sorted
 pub mod Pipeline
 pub mod Keys
 pub mod Tables
+pub mod Search
 pub mod Ordered
 pub mod Rows
 pub mod Emitted

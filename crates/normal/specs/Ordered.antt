@@ -3,9 +3,10 @@
 use Prim.Native.Nat.{_%_, _*_, _+_, _-_, _/_, suc, zero, ℕ}
 use lib.Dec.{eqb}
 use lib.ListN.{getD}
-use mathlib.Core.Bool.{cond}
+use mathlib.Core.Bool.{Bool, cond, not}
 use mathlib.Core.List.{List, [], _∷_}
 use Rattle.normal.specs.Pipeline.{Tag, tag}
+use Rattle.normal.specs.Search.{firstFrom}
 use Rattle.normal.specs.Slots.{Cell, cell}
 use Rattle.normal.specs.Tables.{highIn, highPart, keyIn, lowPart}
 
@@ -37,11 +38,14 @@ unfoldable pub runFrom : List ℕ → List ℕ → ℕ → ℕ → ℕ → List 
 runFrom t z v i zero = []
 runFrom t z v i (suc left) = cond (eqb (tagPlace (getD z i 0)) v) (tagCell t (getD z i 0) ∷ runFrom t z v (suc i) left) []
 
+-- the cell at an index stands at another place than v
+abbrev pub otherPlace : List ℕ → ℕ → ℕ → Bool
+otherPlace z v i = not (eqb (tagPlace (getD z i 0)) v)
+
 -- the first index from i on at which a cell of place v stands, or 0
-unfoldable pub firstFrom : List ℕ → ℕ → ℕ → ℕ → ℕ
-firstFrom z v i zero = 0
-firstFrom z v i (suc left) = cond (eqb (tagPlace (getD z i 0)) v) i (firstFrom z v (suc i) left)
+abbrev pub firstOfPlace : List ℕ → ℕ → ℕ → ℕ → ℕ
+firstOfPlace z v i left = firstFrom (otherPlace z v) i left
 
 -- the cells of place v, where z are the sorted numbers of `used` slots of a table
 abbrev pub runOf : List ℕ → List ℕ → ℕ → ℕ → List Cell
-runOf t z used v = runFrom t z v (firstFrom z v 0 used) (used - firstFrom z v 0 used)
+runOf t z used v = runFrom t z v (firstOfPlace z v 0 used) (used - firstOfPlace z v 0 used)

@@ -5,7 +5,7 @@ ghost use lib.Dec.{eqb};
 ghost use lib.ListN.{length, getD, replicate};
 ghost use Rattle.sorting.specs.Sorted.{sorted};
 ghost use Rattle.normal.specs.Tables.{keyIn};
-ghost use Rattle.normal.specs.Ordered.{tagNumber, tagNumbers, tagSlot, tagPlace, firstFrom};
+ghost use Rattle.normal.specs.Ordered.{tagNumber, tagNumbers, tagSlot, tagPlace, firstOfPlace};
 use crate::slots::key_in;
 
 // The number of slot j.
@@ -68,7 +68,7 @@ pub(crate) fn order_slots(table: &[u64; 1009], order: &mut [u64], scratch: &mut 
 // The first index of each place's slots, or 0.
 pub(crate) fn first_places(order: &[u64; 1008], used: usize, start: &mut [u16; 1009])
     requires { ⌜ (used ≤ 1008) × (now start ≡ replicate 1009 0) × ((i : ℕ) → i < used → tagPlace (getD (now order) i 0) < 1009) ⌝ }
-    ensures { λ _. ⌜ ((v : ℕ) → v < 1009 → getD (now (start .exit)) v 0 ≡ firstFrom (now (order .entry)) v 0 used) ⌝ }
+    ensures { λ _. ⌜ ((v : ℕ) → v < 1009 → getD (now (start .exit)) v 0 ≡ firstOfPlace (now (order .entry)) v 0 used) ⌝ }
 {
     let mut i = used;
     while 0 < i {

@@ -4,7 +4,7 @@ ghost use mathlib.Core.Logic.{_≢_};
 ghost use mathlib.Core.List.{[]};
 ghost use Prim.Native.Nat.{_+_, _≤_, _<_, ℕ};
 ghost use lib.ListN.{length, getD, replicate};
-ghost use Rattle.normal.specs.Ordered.{firstFrom, runOf};
+ghost use Rattle.normal.specs.Ordered.{firstOfPlace, runOf};
 ghost use Rattle.normal.specs.Emitted.{Stepped, allRows, keepIn, placeRows, Pushed, Walkable};
 use crate::emit::push_place;
 use crate::slots::wide;
@@ -21,7 +21,7 @@ fn push_below(
     below: &mut [u16; 1009],
     count: usize,
 ) -> usize
-    requires { ⌜ Walkable (now table) (now order) used × ((v : ℕ) → v < 1009 → getD (now start) v 0 ≡ firstFrom (now order) v 0 used) × (length (now rows) ≡ 1008) × (length (now below) ≡ 1009)
+    requires { ⌜ Walkable (now table) (now order) used × ((v : ℕ) → v < 1009 → getD (now start) v 0 ≡ firstOfPlace (now order) v 0 used) × (length (now rows) ≡ 1008) × (length (now below) ≡ 1009)
         × (k < 1009) × (getD (now below) k 0 < 1009) × (getD (now below) k 0 ≢ 0 → count + length (placeRows (keepIn (now full)) k (runOf (now table) (now order) used (getD (now below) k 0))) ≤ 1008) ⌝ }
     ensures { λ r. ⌜ Stepped (keepIn (now (full .entry))) (runOf (now (table .entry)) (now (order .entry)) used) k (now (rows .entry)) count (now (below .entry)) (now (rows .exit)) r (now (below .exit)) ⌝ }
 {
@@ -53,7 +53,7 @@ pub(crate) fn write_rows(
     rows: &mut [u64; 1008],
     below: &mut [u16; 1009],
 ) -> usize
-    requires { ⌜ Walkable (now table) (now order) used × ((v : ℕ) → v < 1009 → getD (now start) v 0 ≡ firstFrom (now order) v 0 used) × (length (now rows) ≡ 1008) × (now below ≡ replicate 1009 0)
+    requires { ⌜ Walkable (now table) (now order) used × ((v : ℕ) → v < 1009 → getD (now start) v 0 ≡ firstOfPlace (now order) v 0 used) × (length (now rows) ≡ 1008) × (now below ≡ replicate 1009 0)
         × (length (allRows (keepIn (now full)) (runOf (now table) (now order) used)) ≤ 1008) ⌝ }
     ensures { λ r. ⌜ Pushed [] 0 (allRows (keepIn (now (full .entry))) (runOf (now (table .entry)) (now (order .entry)) used)) (now (rows .exit)) r ⌝ }
 {

@@ -10,7 +10,7 @@ use native.Mathlib.Omega.{arith}
 use Rattle.base.proofs.Tests.{eq-cases, eq-eqb, lt-cases, ne-eqb}
 use Rattle.blocks.specs.Frame.{blocksIn}
 use Rattle.blocks.specs.Words.{wordAt}
-use Rattle.report.specs.Division.{Begins, firstFrom, firstLength, firstPart, secondPart}
+use Rattle.report.specs.Division.{Begins, divisionFrom, firstLength, firstPart, secondPart}
 
 -- r is the offset of the first later whole block with number 1
 pub record FirstLater (s : List ℕ) (r : ℕ) : Type 0 where
@@ -38,21 +38,21 @@ module _ (s : List ℕ) where
   rest : (i left : ℕ) → Whole i (suc left) → Whole (suc i) left
   rest i left h k lo hi = h k (omega arith) (omega arith)
 
-  at-most : (i left : ℕ) → Whole i left → firstFrom s i left ≤ length s
-  unfolding firstFrom
+  at-most : (i left : ℕ) → Whole i left → divisionFrom s i left ≤ length s
+  unfolding divisionFrom
   at-most i zero h = omega arith
   at-most i (suc left) h =
       eq-cases (wordAt s (512 * i)) 1
-      (λ q. rw (firstFrom, eq-eqb q) (let a = h i (omega arith) (omega arith) in omega arith))
-      (λ q. rw (firstFrom, ne-eqb q) (at-most (suc i) left (rest i left h)))
+      (λ q. rw (divisionFrom, eq-eqb q) (let a = h i (omega arith) (omega arith) in omega arith))
+      (λ q. rw (divisionFrom, ne-eqb q) (at-most (suc i) left (rest i left h)))
 
-  found : (i left : ℕ) → Whole i left → firstFrom s i left < length s → Found s i (firstFrom s i left)
-  unfolding firstFrom
+  found : (i left : ℕ) → Whole i left → divisionFrom s i left < length s → Found s i (divisionFrom s i left)
+  unfolding divisionFrom
   found i zero h l = absurd (omega arith)
   found i (suc left) h l =
       eq-cases (wordAt s (512 * i)) 1
-      (λ q. rw (firstFrom, eq-eqb q) (found-here i (h i (omega arith) (omega arith)) q))
-      (λ q. rw (firstFrom, ne-eqb q) (found-later i q (found (suc i) left (rest i left h) (rw (firstFrom, ne-eqb q) at l))))
+      (λ q. rw (divisionFrom, eq-eqb q) (found-here i (h i (omega arith) (omega arith)) q))
+      (λ q. rw (divisionFrom, ne-eqb q) (found-later i q (found (suc i) left (rest i left h) (rw (divisionFrom, ne-eqb q) at l))))
     where
       found-here : (i : ℕ) → 512 * i + 512 ≤ length s → wordAt s (512 * i) ≡ 1 → Found s i (512 * i)
       found-here i h q = record { block = i; from = omega arith; whole = h; number = q; offset = refl; before = λ k lo hi. absurd (omega arith) }
@@ -67,16 +67,16 @@ module _ (s : List ℕ) where
         before = λ k lo hi. eq-cases k i (λ e. rw e q) (λ e. f .before k (omega arith) hi);
       }
 
-  none-found : (i left : ℕ) → Whole i left → firstFrom s i left ≡ length s → (k : ℕ) → i ≤ k → k < i + left → wordAt s (512 * k) ≢ 1
-  unfolding firstFrom
+  none-found : (i left : ℕ) → Whole i left → divisionFrom s i left ≡ length s → (k : ℕ) → i ≤ k → k < i + left → wordAt s (512 * k) ≢ 1
+  unfolding divisionFrom
   none-found i zero h e k lo hi = absurd (omega arith)
   none-found i (suc left) h e k lo hi =
       eq-cases (wordAt s (512 * i)) 1
       (λ q.
-      let a : 512 * i ≡ length s = rw (firstFrom, eq-eqb q) at e in
+      let a : 512 * i ≡ length s = rw (divisionFrom, eq-eqb q) at e in
       let b = h i (omega arith) (omega arith) in
       absurd (omega arith))
-      (λ q. eq-cases k i (λ p. rw p q) (λ p. none-found (suc i) left (rest i left h) (rw (firstFrom, ne-eqb q) at e) k (omega arith) (omega arith)))
+      (λ q. eq-cases k i (λ p. rw p q) (λ p. none-found (suc i) left (rest i left h) (rw (divisionFrom, ne-eqb q) at e) k (omega arith) (omega arith)))
 
   -- ---- the whole input
 

@@ -10,23 +10,23 @@ use Rattle.base.proofs.Range.{none-left, one-left}
 use Rattle.base.proofs.Tests.{eq-eqb, ne-eqb}
 use Rattle.blocks.specs.Frame.{blocksIn}
 use Rattle.blocks.specs.Words.{wordAt}
-use Rattle.report.specs.Division.{firstFrom, firstLength}
+use Rattle.report.specs.Division.{divisionFrom, firstLength}
 
 module _ (s : List ℕ) where
-  pub search-start : firstLength s ≡ firstFrom s 1 (blocksIn s - 1)
+  pub search-start : firstLength s ≡ divisionFrom s 1 (blocksIn s - 1)
   unfolding firstLength
   search-start = refl
 
   module _ (n i : ℕ) where
-    pub search-end : n ≤ i → firstFrom s i (n - i) ≡ length s
-    unfolding firstFrom
+    pub search-end : n ≤ i → divisionFrom s i (n - i) ≡ length s
+    unfolding divisionFrom
     search-end h = rw (none-left i n h)
 
     module _ {w : ℕ} (l : i < n) (e : w ≡ wordAt s (512 * i)) where
-      pub search-more : w ≢ 1 → firstFrom s i (n - i) ≡ firstFrom s (i + 1) (n - (i + 1))
-      unfolding firstFrom
-      search-more h = rw (one-left i n l, firstFrom, ← e, ne-eqb h, add-one i)
+      pub search-more : w ≢ 1 → divisionFrom s i (n - i) ≡ divisionFrom s (i + 1) (n - (i + 1))
+      unfolding divisionFrom
+      search-more h = rw (one-left i n l, divisionFrom, ← e, ne-eqb h, add-one i)
 
-      pub search-found : w ≡ 1 → firstFrom s i (n - i) ≡ 512 * i
-      unfolding firstFrom
-      search-found h = rw (one-left i n l, firstFrom, ← e, eq-eqb h)
+      pub search-found : w ≡ 1 → divisionFrom s i (n - i) ≡ 512 * i
+      unfolding divisionFrom
+      search-found h = rw (one-left i n l, divisionFrom, ← e, eq-eqb h)

@@ -10,13 +10,13 @@ use Rattle.blocks.specs.Frame.{blocksIn}
 use Rattle.blocks.specs.Words.{wordAt}
 
 -- the offset of the first of `left` blocks from block i on, counted from 0, that has number 1; the whole length where none has
-unfoldable pub firstFrom : List ℕ → ℕ → ℕ → ℕ
-firstFrom s i zero = length s
-firstFrom s i (suc left) = cond (eqb (wordAt s (512 * i)) 1) (512 * i) (firstFrom s (suc i) left)
+unfoldable pub divisionFrom : List ℕ → ℕ → ℕ → ℕ
+divisionFrom s i zero = length s
+divisionFrom s i (suc left) = cond (eqb (wordAt s (512 * i)) 1) (512 * i) (divisionFrom s (suc i) left)
 
 -- "C runs up to the first later whole block with number 1 .. with no such block C is all of it": the length of C
 unfoldable pub firstLength : List ℕ → ℕ
-firstLength s = firstFrom s 1 (blocksIn s - 1)
+firstLength s = divisionFrom s 1 (blocksIn s - 1)
 
 -- C, and "D is the rest"
 abbrev pub firstPart : List ℕ → List ℕ

@@ -12,7 +12,7 @@ use Rattle.blocks.specs.Owners.{ownerOf}
 use Rattle.blocks.specs.declared.Entry.{Entry}
 use Rattle.normal.proofs.FirstLaws.{first-end, first-goes, first-stops}
 use Rattle.normal.proofs.SlotStates.{States, held-here, small-more, small-start, states-more, states-owner, states-start}
-use Rattle.normal.specs.First.{firstFrom}
+use Rattle.normal.specs.Search.{firstFrom}
 use Rattle.normal.specs.Slots.{Slot}
 use Rattle.normal.specs.SpecimenTree.{total}
 use Rattle.normal.specs.States.{Indexed, heldAt, heldIn, stateBelow, stateOf}

@@ -4,7 +4,7 @@ use lib.ListN.{getD}
 use mathlib.Core.Path.{_∙_, _≡_, refl}
 use native.Mathlib.Omega.{arith}
 use Rattle.normal.proofs.WalkingLaws.{run-from}
-use Rattle.normal.specs.Ordered.{firstFrom}
+use Rattle.normal.specs.Ordered.{firstOfPlace}
 use Rattle.normal.proofs.walk.push_below.Statement.{statement}
 use Rattle.normal.proofs.walk.push_below.Tie as tie
 
@@ -13,7 +13,7 @@ returns c = record { passed = λ z. (refl, refl, refl); placed = λ z. absurd (z
 
 -- where row k leads to a slot: where the slots of that place start
 starts : (c : tie.After-wide) → c .wide .result
-    ≡ firstFrom (c .before .before .before .before .args .order .now)
+    ≡ firstOfPlace (c .before .before .before .before .args .order .now)
     (getD (c .before .before .before .before .args .below .now) (c .before .before .before .before .args .k) 0) 0 (c .before .before .before .before .args .used)
 starts c = c .wide .ensures .0 ∙ c .before .before .before .before .pre .1 _ (c .before .before .before .before .pre .5)
 

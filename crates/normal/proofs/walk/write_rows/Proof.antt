@@ -9,7 +9,7 @@ use Rattle.base.proofs.Tests.{eq-cases}
 use Rattle.normal.proofs.WalkingLaws.{Walking, cells-slotlike, run-from, top-room, walking-done, walking-few, walking-next, walking-place, walking-room, walking-start}
 use Rattle.normal.proofs.WrittenLists.{below}
 use Rattle.normal.specs.Emitted.{allRows, keepIn}
-use Rattle.normal.specs.Ordered.{firstFrom, runOf}
+use Rattle.normal.specs.Ordered.{firstOfPlace, runOf}
 use Rattle.normal.proofs.walk.write_rows.Statement.{statement}
 use Rattle.normal.proofs.walk.write_rows.Tie as tie
 
@@ -21,7 +21,7 @@ abbrev μ-loop : tie.MeasureT-loop
 μ-loop order used table full start rows₀ below₀ count₀ k₀ rows below count k = 1009 - k
 
 -- where the slots of the top start
-starts : (c : tie.After-wide Inv-loop μ-loop) → c .wide .result ≡ firstFrom (c .before .before .args .order .now) 0 0 (c .before .before .args .used)
+starts : (c : tie.After-wide Inv-loop μ-loop) → c .wide .result ≡ firstOfPlace (c .before .before .args .order .now) 0 0 (c .before .before .args .used)
 starts c = c .wide .ensures .0 ∙ c .before .before .pre .1 0 (omega arith)
 
 push-place-requires : tie.Need-push-place-requires Inv-loop μ-loop

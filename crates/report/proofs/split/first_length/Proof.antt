@@ -6,12 +6,12 @@ use mathlib.Core.Path.{_∙_, _≡_, sym}
 use native.Mathlib.Omega.{arith}
 use Rattle.blocks.specs.Frame.{blocksIn}
 use Rattle.report.proofs.SearchLaws.{search-end, search-found, search-more, search-start}
-use Rattle.report.specs.Division.{firstFrom, firstLength}
+use Rattle.report.specs.Division.{divisionFrom, firstLength}
 use Rattle.report.proofs.split.first_length.Statement.{statement}
 use Rattle.report.proofs.split.first_length.Tie as tie
 
 abbrev Inv-loop : tie.InvT-loop
-Inv-loop s n i₀ i = firstLength s ≡ firstFrom s i (length s / 512 - i)
+Inv-loop s n i₀ i = firstLength s ≡ divisionFrom s i (length s / 512 - i)
 
 abbrev μ-loop : tie.MeasureT-loop
 μ-loop s n i₀ i = length s / 512 - i
