@@ -1,7 +1,7 @@
 -- Tests over a range of numbers.
 -- Assumes nothing.
 use Prim.Native.Nat.{ℕ, zero, suc, _+_}
-use mathlib.Core.Bool.{Bool, true, false, _&&_}
+use mathlib.Core.Bool.{Bool, true, _&&_}
 
 -- f holds of each of n numbers from i on
 unfoldable pub all : (ℕ → Bool) → ℕ → ℕ → Bool

@@ -3,7 +3,7 @@ ghost use mathlib.Core.Path.{_≡_};
 ghost use Prim.Native.Nat.{_+_, _*_, _/_, _^_, _≤_};
 ghost use lib.ListN.{length};
 ghost use Rattle.blocks.specs.Frame.{plain, entryPos};
-ghost use Rattle.blocks.specs.Entries.{entryAt, entryFrom, entryOf, packed, zeroEntry};
+ghost use Rattle.blocks.specs.Entries.{entryFrom, entryOf, packed, zeroEntry};
 use crate::Entry;
 use crate::Link;
 use crate::Property;

@@ -2,6 +2,9 @@
 // where one fails is the first description normalised, into a local buffer, and the specimen written to the output.
 ghost use mathlib.Core.Path.{_≡_};
 ghost use mathlib.Core.Logic.{_≢_};
+ghost use Prim.Native.Nat.{_+_, _≤_};
+ghost use lib.Dec.{ltb};
+ghost use lib.ListN.{length};
 ghost use Rattle.blocks.specs.Entries.{entriesOf};
 ghost use Rattle.normal.specs.Holding.{holdingOf};
 ghost use Rattle.normal.specs.declared.Holding.{Holding};
@@ -55,12 +58,20 @@ fn show(c: &[u8], d: &[u8], n: usize, out: &mut [u8]) -> Comparison
     }
 }
 
+// Whether an output is shorter than two descriptions together.
+fn is_short(c: &[u8], d: &[u8], out: &[u8]) -> bool
+    requires { ⌜ length (now c) + length (now d) ≤ 16384 ⌝ }
+    ensures { λ r. ⌜ r ≡ ltb (length (now (out .entry))) (length (now (c .entry)) + length (now (d .entry))) ⌝ }
+{
+    out.len() < c.len() + d.len()
+}
+
 // The answer where all entries hold: 7 where the output is shorter than both descriptions together.
 fn agree(c: &[u8], d: &[u8], out: &[u8]) -> Comparison
     requires { ⌜ holdingOf (now c) (now d) ≡ Holding.All ⌝ }
     ensures { λ r. ⌜ (r ≡ compareOf (now (c .entry)) (now (d .entry)) (now (out .entry))) × (now (out .entry) ≡ outputOf (now (c .entry)) (now (d .entry)) (now (out .entry))) ⌝ }
 {
-    if out.len() < c.len() + d.len() {
+    if is_short(c, d, out) {
         return Comparison::Refused(7, 0, 0);
     }
     Comparison::Contained
@@ -71,7 +82,7 @@ fn deny(c: &[u8], d: &[u8], n: usize, out: &mut [u8]) -> Comparison
     requires { ⌜ holdingOf (now c) (now d) ≡ Holding.Fails n ⌝ }
     ensures { λ r. ⌜ (r ≡ compareOf (now (c .entry)) (now (d .entry)) (now (out .entry))) × (now (out .exit) ≡ outputOf (now (c .entry)) (now (d .entry)) (now (out .entry))) ⌝ }
 {
-    if out.len() < c.len() + d.len() {
+    if is_short(c, d, out) {
         return Comparison::Refused(7, 0, 0);
     }
     show(c, d, n, out)

@@ -20,7 +20,7 @@ use Rattle.fit.proofs.ByNumber.{fit-by-groups}
 use Rattle.fit.proofs.Counting.{everyIn}
 use Rattle.fit.specs.Cases.{Case, cases}
 use Rattle.fit.specs.Description.{placeOf}
-use Rattle.fit.specs.Groups.{allOwned, allWhere, fitsPlace, groupsBy, hasProperty, meetsEntry, sumOwned, sumWhere, totalBy}
+use Rattle.fit.specs.Groups.{allWhere, fitsPlace, groupsBy, hasProperty, meetsEntry, sumWhere, totalBy}
 use Rattle.fit.specs.Record.{fits}
 use Rattle.fit.specs.Specimen.{recordOf}
 

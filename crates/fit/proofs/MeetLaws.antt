@@ -3,7 +3,7 @@
 use Prim.Native.Nat.{_-_, suc, zero, ℕ}
 use lib.Dec.{eqb}
 use lib.ListN.{length}
-use mathlib.Core.Bool.{Bool, _&&_, _||_, false, not, true}
+use mathlib.Core.Bool.{Bool, _||_, false, not, true}
 use mathlib.Core.List.{List}
 use mathlib.Core.Logic.{_≢_}
 use mathlib.Core.Path.{_∙_, _≡_, ap, refl, sym}

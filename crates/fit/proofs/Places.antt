@@ -15,7 +15,7 @@ use Rattle.blocks.specs.declared.Entry.{Entry}
 use Rattle.blocks.specs.declared.Schema.{Schema}
 use Rattle.fit.proofs.Counting.{every-from-ext, every-map, everyFrom}
 use Rattle.fit.proofs.Owned.{owned-from}
-use Rattle.fit.specs.Description.{Atom, Place, atom, atomOf, kindOf, placeOf, rowOf}
+use Rattle.fit.specs.Description.{Atom, Place, atomOf, placeOf, rowOf}
 use Rattle.fit.specs.Groups.{allOwned}
 use Rattle.fit.specs.Tree.{Early, Row, Tree, end, leaf, leafRow, node, nodeRow, rowOwner, tree}
 

@@ -1,14 +1,14 @@
 -- Walks over the entries of one bucket, from the last to the first, by the index.
 -- Assumes nothing.
-use Prim.Native.Nat.{_*_, _+_, _-_, _<_, _≤_, suc, zero, ℕ}
+use Prim.Native.Nat.{_+_, _-_, _<_, _≤_, suc, zero, ℕ}
 use lib.Dec.{eqb}
 use lib.ListN.{getD, getD-replicate, length, length-replicate, length-set, replicate, set}
 use lib.Seq.{getD-set-other, getD-set-same}
-use mathlib.Core.Bool.{Bool, _||_, cond, false, not, true}
+use mathlib.Core.Bool.{Bool, false, not, true}
 use mathlib.Core.List.{List}
 use mathlib.Core.Logic.{_≢_}
 use mathlib.Core.Path.{_∙_, _≡_, ap, refl, sym}
-use native.Mathlib.Nat.{mul-suc, ne-of-lt}
+use native.Mathlib.Nat.{ne-of-lt}
 use native.Mathlib.Numerals.{sub-one}
 use native.Mathlib.Omega.{arith}
 use Rattle.base.proofs.Tests.{bool-cases, eq-cases, eq-eqb, eqb-eq, or-one, tests}

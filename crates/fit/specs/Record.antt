@@ -4,8 +4,8 @@ use mathlib.Core.Bool.{Bool, true, false, not, _&&_, _||_}
 use mathlib.Core.List.{List, [], _∷_}
 use Prim.Native.Nat.{ℕ, zero, suc, _+_}
 use lib.Dec.{leb}
-use Rattle.fit.specs.Tree.{Tree, end, leaf, node}
-use Rattle.fit.specs.Description.{Kind, has, lacks, least, most, nothing, Atom, atom, Place}
+use Rattle.fit.specs.Tree.{end, leaf, node}
+use Rattle.fit.specs.Description.{has, lacks, least, most, nothing, Atom, atom, Place}
 
 -- "A finite record is a finite set of items, for each property the set of items that have it, for each link a set of ordered
 -- pairs." The items are the numbers below the size. In the report: a finite interpretation, concept names and role names.

@@ -1,6 +1,6 @@
 -- Trees of entries, and the rows of entries with owners that they are read from. Descriptions and specimens are two uses.
 -- Assumes nothing.
-use mathlib.Core.Bool.{Bool, true, false, cond}
+use mathlib.Core.Bool.{cond}
 use mathlib.Core.List.{List, [], _∷_}
 use Prim.Native.Nat.{ℕ, suc, _<_}
 use lib.Dec.{eqb}

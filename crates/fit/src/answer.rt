@@ -1,8 +1,5 @@
 // The fit answer: both inputs are read in full, and then the top item is judged.
 ghost use mathlib.Core.Path.{_≡_};
-ghost use lib.ListN.{length};
-ghost use Prim.Native.Nat.{_≤_};
-ghost use Rattle.blocks.specs.Entries.{entriesOf};
 ghost use Rattle.blocks.specs.Reading.{readingOf};
 ghost use Rattle.blocks.specs.declared.Reading.{Reading};
 ghost use Rattle.blocks.specs.declared.Schema.{Schema};

@@ -3,7 +3,7 @@
 // specimen at most once; so the whole costs at most the product of the two inputs' numbers of entries, 2,016 · 1,008 steps of some
 // nanoseconds each, and far less where groups are few or have places of their own. A level of depth takes two frames of the stack.
 ghost use mathlib.Core.Path.{_≡_};
-ghost use Prim.Native.Nat.{_+_, _*_, _≤_, _<_};
+ghost use Prim.Native.Nat.{_≤_, _<_};
 ghost use Rattle.blocks.specs.Entries.{entriesOf};
 ghost use Rattle.blocks.specs.declared.Schema.{Schema};
 ghost use Rattle.fit.specs.Groups.{meetsEntry, fitsPlace};

@@ -1,11 +1,9 @@
 // The fourth pass: the slots of each place, in order, written as packed entries, kind by kind. The place below an 'every' is written
 // when its entry's turn comes, so that entries ascend by owner.
 ghost use mathlib.Core.Path.{_≡_};
-ghost use mathlib.Core.Bool.{cond};
 ghost use mathlib.Core.List.{[], _∷_};
 ghost use Prim.Native.Nat.{_+_, _*_, _-_, _≤_, _<_};
 ghost use lib.ListN.{length, getD};
-ghost use Rattle.blocks.specs.Entries.{packed};
 ghost use Rattle.fit.specs.Description.{kindOf};
 ghost use Rattle.normal.specs.Slots.{value};
 ghost use Rattle.normal.specs.Tables.{highIn, lowPart};

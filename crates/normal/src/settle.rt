@@ -2,12 +2,12 @@
 // and a place is not empty where one of its slots asks something. All slots of a place stand after it, so one pass is enough.
 ghost use mathlib.Core.Path.{_≡_};
 ghost use mathlib.Core.Bool.{not, cond, _&&_, _||_};
-ghost use Prim.Native.Nat.{_+_, _*_, _-_, _/_, _%_, _≤_, _<_};
+ghost use Prim.Native.Nat.{_-_, _/_, _%_, _≤_, _<_};
 ghost use lib.Dec.{eqb};
 ghost use lib.ListN.{length, getD, set, replicate};
 ghost use Rattle.normal.specs.Normal.{found};
 ghost use Rattle.normal.specs.Slots.{broken};
-ghost use Rattle.normal.specs.Tables.{keyIn, lowPart, highPart, highIn, slotNumber, Placed, Settling, Slotted};
+ghost use Rattle.normal.specs.Tables.{keyIn, highIn, Placed, Settling, Slotted};
 use crate::slots::high_in;
 use crate::slots::key_in;
 use crate::slots::low_in;

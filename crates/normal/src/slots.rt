@@ -1,8 +1,8 @@
 // Slots: one for each place, class and name of a description, with the bounds that all its entries give together. A slot is one number
 // of 64 bits, its key above its two bounds, in a table; chains by a hash of the key find it again.
 ghost use mathlib.Core.Path.{_≡_};
-ghost use Prim.Native.Nat.{ℕ, _+_, _*_, _≤_, _<_, min, max};
-ghost use lib.ListN.{length, getD, set};
+ghost use Prim.Native.Nat.{_+_, _*_, _≤_, _<_, min, max};
+ghost use lib.ListN.{getD, set};
 ghost use Rattle.normal.specs.Chain.{scan};
 ghost use Rattle.normal.specs.Keys.{keyNumber};
 ghost use Rattle.normal.specs.Tables.{keyIn, lowPart, highPart, slotNumber, hashOf, Kept, Entered};

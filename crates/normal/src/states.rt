@@ -1,9 +1,9 @@
 // Which entries of a second description hold: one pass over them, with the state of each 'every' in a table, and one look at the slots for
 // an entry. The slots are not sorted.
 ghost use mathlib.Core.Path.{_≡_};
-ghost use mathlib.Core.Bool.{Bool, cond, false, true};
+ghost use mathlib.Core.Bool.{cond, false, true};
 ghost use mathlib.Core.List.{List};
-ghost use Prim.Native.Nat.{ℕ, _≤_, _<_};
+ghost use Prim.Native.Nat.{_≤_, _<_};
 ghost use lib.Dec.{eqb};
 ghost use lib.ListN.{getD, length};
 ghost use Rattle.blocks.specs.Entries.{entriesOf};

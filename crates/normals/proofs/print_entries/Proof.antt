@@ -1,7 +1,6 @@
 -- `print_entries` ends: n counts up to the total.
 use Prim.Native.Nat.{_-_, _≤_}
 use borrow.Author.Needs.{needs}
-use Rattle.normal.specs.SpecimenTree.{total}
 use Rattle.normals.proofs.print_entries.Statement.{statement}
 use Rattle.normals.proofs.print_entries.Tie as tie
 

@@ -9,7 +9,6 @@ use Rattle.blocks.specs.Entries.{entriesOf, nth}
 use Rattle.blocks.specs.Owners.{ownerOf}
 use Rattle.blocks.specs.declared.Entry.{Entry}
 use Rattle.compare.proofs.PathLaws.{Climbed, climbed-more, climbed-room, climbed-start, climbed-top, names-more, names-start}
-use Rattle.normal.specs.SpecimenTree.{total}
 use Rattle.compare.proofs.path.links_up.Statement.{statement}
 use Rattle.compare.proofs.path.links_up.Tie as tie
 

@@ -9,8 +9,6 @@ use Rattle.compare.proofs.RowLaws.{groups-end, groups-next, placed-none
 use Rattle.compare.specs.Codes.{groupsFrom, specimenNumber}
 use Rattle.compare.specs.Laying.{Placed, codes, jointRows}
 use Rattle.compare.specs.Table.{entriesIn, placeBelow}
-use Rattle.fit.specs.Record.{count}
-use Rattle.normal.proofs.Forms.{form}
 use Rattle.compare.proofs.rows.push_groups.Statement.{statement}
 use Rattle.compare.proofs.rows.push_groups.Tie as tie
 

@@ -9,8 +9,6 @@ use Rattle.compare.proofs.RowLaws.{names-end, names-first, pushed-more,
 use Rattle.compare.specs.Codes.{specimenNumber}
 use Rattle.compare.specs.Laying.{Pushed, leafRows}
 use Rattle.compare.specs.Table.{namesFrom}
-use Rattle.fit.specs.Record.{count}
-use Rattle.normal.proofs.Forms.{form}
 use Rattle.compare.proofs.rows.push_names.Statement.{statement}
 use Rattle.compare.proofs.rows.push_names.Tie as tie
 

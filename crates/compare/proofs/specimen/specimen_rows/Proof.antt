@@ -4,9 +4,6 @@ use borrow.Author.Needs.{needs}
 use mathlib.Core.Path.{refl}
 use native.Mathlib.Omega.{arith}
 use Rattle.compare.proofs.SpecimenWalk.{Walk, walk-done, walk-room, walk-start, walk-step, walk-top}
-use Rattle.fit.specs.Record.{count}
-use Rattle.normal.proofs.Forms.{form}
-use Rattle.normal.proofs.WrittenLists.{below}
 use Rattle.compare.proofs.specimen.specimen_rows.Statement.{statement}
 use Rattle.compare.proofs.specimen.specimen_rows.Tie as tie
 

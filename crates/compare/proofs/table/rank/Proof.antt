@@ -5,8 +5,6 @@ use mathlib.Core.Path.{refl}
 use native.Mathlib.Omega.{arith}
 use Rattle.compare.proofs.TableLaws.{Between, between-half, between-last, between-start, ranked-none}
 use Rattle.compare.specs.Table.{Rising}
-use Rattle.normal.proofs.Forms.{form}
-use Rattle.normal.specs.Slots.{low}
 use Rattle.compare.proofs.table.rank.Statement.{statement}
 use Rattle.compare.proofs.table.rank.Tie as tie
 

@@ -8,7 +8,6 @@ use Rattle.blocks.proofs.EntryLaws.{of-nth}
 use Rattle.blocks.specs.Entries.{Bounded, entriesOf, nth}
 use Rattle.compare.proofs.TableLaws.{unpacked-more, unpacked-none}
 use Rattle.compare.specs.Table.{Unpacked, wordOf}
-use Rattle.normal.proofs.Forms.{form}
 use Rattle.compare.proofs.table.unpack.Statement.{statement}
 use Rattle.compare.proofs.table.unpack.Tie as tie
 

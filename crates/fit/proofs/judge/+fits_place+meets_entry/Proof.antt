@@ -1,16 +1,14 @@
 -- `fits_place` and `meets_entry` meet their contracts. Each call goes to fewer levels, or from a place to its entries at the same level.
-use Prim.Native.Nat.{ℕ, _+_, _*_, _-_, _<_, _≤_}
+use Prim.Native.Nat.{ℕ, _+_, _*_, _-_, _<_}
 use native.Mathlib.Omega.{arith}
-use mathlib.Core.Path.{_≡_, sym, ap, _∙_}
+use mathlib.Core.Path.{_≡_, sym, _∙_}
 use mathlib.Core.Logic.{⊎-elim}
 use borrow.Author.Needs.{needs}
 use borrow.Fn.Kinds.{In}
 use borrow.Fn.PlainCycle.{Measures, is, falls, and}
-use lib.ListN.{length}
 use Rattle.base.proofs.Tests.{confirmed, refuted, true-of-not, false-of-not}
 use Rattle.blocks.proofs.EntryLaws.{of-nth}
 use Rattle.blocks.specs.Entries.{entriesOf}
-use Rattle.blocks.specs.declared.Entry.{Entry}
 use Rattle.blocks.specs.Owners.{ownerOf}
 use Rattle.blocks.specs.declared.Schema.the-variants.{Specimen}
 use Rattle.fit.specs.Groups.{allOwned, allWhere, meetsEntry, fitsPlace}

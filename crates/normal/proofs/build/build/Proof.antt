@@ -14,7 +14,6 @@ use Rattle.fit.specs.Description.{rowOf}
 use Rattle.normal.proofs.BuildLaws.{build-ends, build-goes, build-starts, kept-starts, nodes-more, nodes-start}
 use Rattle.normal.proofs.Written.{kept}
 use Rattle.normal.specs.Slots.{slots}
-use Rattle.normal.specs.SpecimenTree.{total}
 use Rattle.normal.specs.Tables.{Entered, Kept, Nodes, highKind, leadsTo, linkKind, lowKind, slotsIn}
 use Rattle.normal.specs.Slots as slot-build
 use Rattle.normal.proofs.build.build.Statement.{statement}

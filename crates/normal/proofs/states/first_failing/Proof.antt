@@ -14,9 +14,7 @@ use Rattle.normal.proofs.FirstLaws.{first-end, first-goes, first-stops}
 use Rattle.normal.proofs.SlotStates.{States, held-here, small-more, small-start, states-more, states-owner, states-start}
 use Rattle.normal.specs.Search.{firstFrom}
 use Rattle.normal.specs.Slots.{Slot}
-use Rattle.normal.specs.SpecimenTree.{total}
 use Rattle.normal.specs.States.{Indexed, heldAt, heldIn, stateBelow, stateOf}
-use Rattle.normal.specs.Witness.{next}
 use Rattle.normal.proofs.states.first_failing.Statement.{statement}
 use Rattle.normal.proofs.states.first_failing.Tie as tie
 
