@@ -159,9 +159,10 @@ pub fn with_last(last: Entry, entries: &[Entry]) -> Vec<Entry> {
     entries
 }
 
-/// The fit answer's worst case: 2,016 groups of one link, and 1,008 'every' entries of that link.
+/// The fit answer's worst case: 2,016 groups of one link, and an 'every' of that link that owns 1,007 at most of different links.
 pub fn worst_fit() -> (Vec<u8>, Vec<u8>) {
     let groups = vec![entry(7, 0, 1, 0); 2016];
-    let every = vec![entry(5, 0, 1, 0); 1008];
+    let owned = (1..=1007).map(|link| entry(4, 1, link, 0));
+    let every: Vec<Entry> = std::iter::once(entry(5, 0, 1, 0)).chain(owned).collect();
     (encode(&groups), encode(&every))
 }
