@@ -48,8 +48,10 @@ static void make_inputs(void) {
         put_entry(groups, n, 7, n - 1, 1, 0);
     }
     put_entry(chain, CHAIN + 1, 2, 0, 7, 0);
+    put_entry(chain, CHAIN + 2, 2, CHAIN - 1, 7, 0);
+    put_entry(chain, CHAIN + 3, 4, CHAIN - 1, 1, 9);
     close_blocks(wide, ENTRIES);
-    close_blocks(chain, CHAIN + 1);
+    close_blocks(chain, CHAIN + 3);
     close_blocks(groups, CHAIN);
 }
 

@@ -40,7 +40,7 @@
  *
  *     gx_read_description    2,152 bytes
  *     gx_read_specimen       2,152 bytes
- *     gx_fit                22,856 bytes
+ *     gx_fit                23,800 bytes
  *     gx_normal             40,680 bytes
  *     gx_compare            79,288 bytes
  *
