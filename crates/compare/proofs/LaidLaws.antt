@@ -1,39 +1,23 @@
--- How a place is laid out, its leaves and then its nodes; and the jobs that wait, with the codes of their places in a table.
+-- How a place is laid out, its leaves and then its nodes, and the steps that it takes.
 -- Assumes nothing.
-use Prim.Native.Nat.{_+_, _<_, _≤_, suc, zero, ℕ}
-use lib.Dec.{eqb}
-use lib.ListN.{getD, length, length-set, set}
-use lib.Seq.{getD-set-other, getD-set-same}
+use Prim.Native.Nat.{_+_, suc, zero, ℕ}
+use lib.ListN.{length}
 use mathlib.Core.List.{List, [], _++_, _∷_}
-use mathlib.Core.Logic.{_≢_}
 use mathlib.Core.Path.{_∙_, _≡_, ap, refl}
 use native.Mathlib.Nat.{add-zero}
 use native.Mathlib.Omega.{arith}
-use Rattle.base.proofs.Tests.{bool-cases, eq-eqb, ne-eqb}
-use Rattle.compare.specs.Laying.{Joint, codes, joint, jointRows, joints, leafRows, leaves, noted, queueFrom}
+use Rattle.compare.specs.Laying.{Joint, codes, joint, jointRows, joints, leafRows, leaves}
 use Rattle.fit.specs.Tree.{Row, Tree, leafRow, nodeRow}
 use Rattle.normal.proofs.LayoutLaws.{load, load-later}
+use Rattle.normal.specs.Filling.{laterEach}
 use Rattle.normal.specs.Layout.{Queue, done, job, later, lay, weight}
 
--- ---- codes that are noted
+-- ---- one code for each node
 
--- one code for each node
 pub codes-length : {B : Type 0} (ns : List (Joint B)) → length (codes ns) ≡ length ns
 unfolding codes
 codes-length [] = refl
 codes-length (joint b c ∷ ns) = ap suc (codes-length ns)
-
--- the table stays as long as it was
-pub noted-length : (below : List ℕ) (k : ℕ) (cs : List ℕ) → length (noted below k cs) ≡ length below
-unfolding noted
-noted-length below k [] = refl
-noted-length below k (c ∷ cs) = noted-length (set below k c) (suc k) cs ∙ length-set below k c
-
--- rows after those that codes are noted for keep theirs
-pub noted-after : (below : List ℕ) (k : ℕ) (cs : List ℕ) (j : ℕ) → k + length cs ≤ j → getD (noted below k cs) j 0 ≡ getD below j 0
-unfolding noted
-noted-after below k [] j l = refl
-noted-after below k (c ∷ cs) j l = noted-after (set below k c) (suc k) cs j (omega arith) ∙ getD-set-other below k j c 0 (λ q. omega arith)
 
 -- ---- the rows of a place are as many as its leaves and nodes
 
@@ -48,11 +32,6 @@ joint-length A o [] = refl
 joint-length A o (joint b c ∷ ns) = ap suc (joint-length A o ns)
 
 module _ {A B : Type 0} where
-  -- further jobs, numbered from k on: the places of the codes
-  unfoldable pub laterEach : (ℕ → Tree A B) → Queue (Tree A B) → ℕ → List ℕ → Queue (Tree A B)
-  laterEach T Q k [] = Q
-  laterEach T Q k (c ∷ cs) = laterEach T (later Q k (T c)) (suc k) cs
-
   -- ---- a place that is laid out
 
   -- leaves take one step each
@@ -113,33 +92,3 @@ module _ {A B : Type 0} where
       → load (job o (leaves ls (joints T ns)) Q) ≡ length ls + (suc (length ns) + load (laterEach T Q k (codes ns)))
   unfolding load
   place-load T ls ns k o Q = omega (arith, leaves-weight ls (joints T ns), joints-weight T ns Q k)
-
-  -- ---- the jobs in a table
-
-  -- rows that lead nowhere add no job
-  pub queue-none : (T : ℕ → Tree A B) (below : List ℕ) (i n m : ℕ) → ((j : ℕ) → i + n ≤ j → j < i + n + m → getD below j 0 ≡ 0)
-      → queueFrom T below i (n + m) ≡ queueFrom T below i n
-  unfolding queueFrom
-  queue-none T below i zero zero h = refl
-  queue-none T below i zero (suc m) h =
-      let e : 0 + suc m ≡ suc m = omega arith in
-      let z : getD below i 0 ≡ 0 = h i (omega arith) (omega arith) in
-      let r = queue-none T below (suc i) 0 m (λ j a b. h j (omega arith) (omega arith)) in
-      let f : 0 + m ≡ m = omega arith in
-      rw (e, queueFrom, eq-eqb z) (rw f at r)
-  queue-none T below i (suc n) m h =
-      let e : suc n + m ≡ suc (n + m) = omega arith in
-      rw (e, queueFrom, queue-none T below (suc i) n m (λ j a b. h j (omega arith) (omega arith)))
-
-  -- a row that leads somewhere adds a job at the end
-  pub queue-more : (T : ℕ → Tree A B) (below : List ℕ) (i n c : ℕ) → c ≢ 0 → i + n < length below
-      → queueFrom T (set below (i + n) c) i (suc n) ≡ later (queueFrom T below i n) (i + n) (T c)
-  unfolding queueFrom later
-  queue-more T below i zero c z l =
-      let e : i + 0 ≡ i = add-zero i in
-      rw (e, queueFrom, getD-set-same below i c 0 (omega arith), ne-eqb z)
-  queue-more T below i (suc n) c z l =
-      let e : i + suc n ≡ suc i + n = omega arith in
-      let r = queue-more T below (suc i) n c z (omega arith) in
-      rw (e, queueFrom, getD-set-other below (suc i + n) i c 0 (λ q. omega arith), r)
-      (bool-cases (eqb (getD below i 0) 0) (λ q. rw (queueFrom, q)) (λ q. rw (queueFrom, q)))

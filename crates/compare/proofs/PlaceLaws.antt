@@ -8,7 +8,7 @@ use mathlib.Core.Path.{_∙_, _≡_, ap, sym}
 use native.Mathlib.Omega.{arith}
 use Rattle.base.proofs.Tests.{eq-cases, ne-eqb}
 use Rattle.blocks.specs.declared.Entry.{Entry}
-use Rattle.compare.proofs.RowLaws.{placed-after}
+use Rattle.normal.proofs.FillLaws.{joined-after}
 use Rattle.compare.proofs.SpanLaws.{around-none, leaf-numbers}
 use Rattle.compare.proofs.WalkingLaws.{numbers-length}
 use Rattle.compare.specs.Codes.{Writable, askedBy, groupsWith, jointsBy, leastFor, specimenNumber, targetAt, targetBelow, upFrom}
@@ -62,4 +62,4 @@ module _ (o : ℕ) {ls qs : List ℕ} {ns bs : List (Joint Group)} (count : ℕ)
         → Placed rows count (placeNumbers specimenNumber o ls ns) below (count + length ls + 1) (codes ns) rows₂ n₂ below₂
     place-done {below = below} q =
         let at : n₁ + 1 ≡ count + length ls + 1 = omega (arith, after-first) in
-        rw (second) (placed-after (rw (← first) at p) q at)
+        rw (second) (joined-after (rw (← first) at p) q at)

@@ -11,7 +11,7 @@ use native.Mathlib.Omega.{arith}
 use Rattle.base.proofs.Tests.{bool-cases, eq-cases, eq-eqb, ge-ltb, lt-cases, lt-ltb, ltb-ge, ltb-lt, ne-eqb}
 use Rattle.blocks.specs.declared.Entry.{Entry}
 use Rattle.compare.proofs.LaidLaws.{codes-length}
-use Rattle.compare.proofs.RowLaws.{placed-more, pushed-more}
+use Rattle.normal.proofs.FillLaws.{joined-more, filled-more}
 use Rattle.compare.specs.Codes.{groupsFrom, specimenNumber}
 use Rattle.compare.specs.Laying.{Joint, Placed, Pushed, codes, joint, jointRows, leafRows}
 use Rattle.compare.specs.Table.{Ranked, Rising, around, namesFrom, rankOf}
@@ -138,7 +138,7 @@ module _ (o x : ℕ) (a b : List ℕ) {rows rows₁ : List ℕ} {n n₁ : ℕ} (
   pub leaves-some : {rows₂ rows₃ : List ℕ} {n₂ n₃ : ℕ} → x ≢ 65536 → Pushed rows₁ n₁ (specimenNumber (leafRow o x) ∷ []) rows₂ n₂
       → Pushed rows₂ n₂ (map specimenNumber (leafRows o b)) rows₃ n₃ → Pushed rows n (map specimenNumber (leafRows o (around x a x b))) rows₃ n₃
   unfolding leafRows
-  leaves-some z q r = rw (around-some x a x b z, leaves-append o a (x ∷ b)) (pushed-more p (pushed-more q r))
+  leaves-some z q r = rw (around-some x a x b z, leaves-append o a (x ∷ b)) (filled-more p (filled-more q r))
 
 -- ---- groups pushed around a link
 
@@ -156,4 +156,4 @@ module _ (o x m code : ℕ) (a b : List (Joint Group)) {rows rows₁ below below
       let one : n₂ + 1 ≡ n₁ + 1 + 1 = omega (arith, q .pushed .total) in
       let two : n₁ + 1 ≡ n + 1 + length (codes a) = omega (arith, p .pushed .total, joint-numbers o a, codes-length a) in
       rw (around-some x a (joint (group x m) code) b z, joints-append o a (joint (group x m) code ∷ b), codes-append a (joint (group x m) code ∷ b))
-      (placed-more p (placed-more q r one) two)
+      (joined-more p (joined-more q r one) two)

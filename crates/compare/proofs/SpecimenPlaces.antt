@@ -18,7 +18,7 @@ use Rattle.blocks.specs.declared.Entry.{Entry}
 use Rattle.blocks.specs.declared.Schema.the-variants.{Description}
 use Rattle.compare.proofs.Lookups.{match-within, sub-place}
 use Rattle.compare.proofs.TablePlaces.{places-normal}
-use Rattle.compare.proofs.WalkingLaws.{Codes}
+use Rattle.normal.proofs.FillLaws.{Codes}
 use Rattle.compare.specs.Codes.{codeBelow, groupsAt, propertiesAt, targetAt, targetBelow, treeAt}
 use Rattle.compare.specs.Laying.{codes, joint, joints, leaves}
 use Rattle.compare.specs.Table.{Table, entryFor, placeBelow}

@@ -10,7 +10,8 @@ use Rattle.base.proofs.Tests.{eq-cases}
 use Rattle.blocks.specs.declared.Entry.{Entry}
 use Rattle.compare.proofs.PathLaws.{length-up}
 use Rattle.compare.proofs.SpecimenPlaces.{codes-good}
-use Rattle.compare.proofs.WalkingLaws.{Codes, Walking, top-room, walking-done, walking-next, walking-place, walking-room, walking-start}
+use Rattle.compare.proofs.WalkingLaws.{Walking, top-room, walking-done, walking-next, walking-place, walking-room, walking-start}
+use Rattle.normal.proofs.FillLaws.{Codes}
 use Rattle.compare.specs.Codes.{OnPath, PlacedBy, Stepped, Writable, jointsBy, numbersBy, propertiesBy, specimenNumber, treeBy, upFrom}
 use Rattle.compare.specs.Laying.{Joint, codes, joints, leaves}
 use Rattle.compare.specs.Table.{entriesIn}

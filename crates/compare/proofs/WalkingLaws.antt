@@ -1,48 +1,20 @@
 -- The walk over the rows that are written, with the codes of the places that they lead to in a table.
 -- Assumes nothing.
 use Prim.Native.Nat.{_+_, _-_, _<_, _≤_, suc, ℕ}
-use lib.ListN.{getD, length, length-append, length-map, length-replicate, length-set, replicate, set, take}
-use lib.Seq.{getD-set-other, getD-set-same, length-take-le}
-use mathlib.Core.List.{List, [], _++_, _∷_, append-assoc, append-nil, map, map-append}
+use lib.ListN.{getD, length, length-append, length-map, length-replicate, replicate, take}
+use lib.Seq.{length-take-le}
+use mathlib.Core.List.{List, [], _++_, append-assoc, append-nil, map, map-append}
 use mathlib.Core.Logic.{_≢_}
 use mathlib.Core.Path.{_∙_, _≡_, ap, refl, sym}
-use native.Mathlib.Nat.{add-zero}
-use native.Mathlib.Numerals.{add-one}
 use native.Mathlib.Omega.{arith}
 use Rattle.base.proofs.Lists.{zeros-read}
-use Rattle.base.proofs.Tests.{eq-cases, eq-eqb, ne-eqb}
-use Rattle.compare.proofs.LaidLaws.{codes-length, done-laid, joint-length, laterEach, leaf-length, noted-after, noted-length, place-laid, place-load, queue-more, queue-none}
-use Rattle.compare.specs.Laying.{Joint, Placed, codes, joints, leaves, noted, placeNumbers, queueFrom}
+use Rattle.compare.proofs.LaidLaws.{codes-length, done-laid, joint-length, leaf-length, place-laid, place-load}
+use Rattle.compare.specs.Laying.{Joint, Placed, codes, joints, leaves, placeNumbers}
 use Rattle.fit.specs.Tree.{Row, Tree}
+use Rattle.normal.proofs.FillLaws.{Codes, noted-after, noted-good, noted-length, queue-each, queue-next, queue-none, queue-past}
 use Rattle.normal.proofs.LayoutLaws.{load}
+use Rattle.normal.specs.Filling.{laterEach, queueFrom}
 use Rattle.normal.specs.Layout.{Queue, done, job, lay, weight, write}
-
--- ---- codes that are noted
-
--- none of the codes is 0, and each is good
-abbrev pub Codes : (ℕ → Type 0) → List ℕ → Type 0
-Codes Good [] = Unit {0}
-Codes Good (c ∷ cs) = (c ≢ 0) × Good c × Codes Good cs
-
--- good codes noted in a table of good codes
-noted-good : (Good : ℕ → Type 0) (below : List ℕ) (k : ℕ) (cs : List ℕ) → Codes Good cs → k + length cs ≤ length below
-    → ((j : ℕ) → getD below j 0 ≢ 0 → Good (getD below j 0)) → (j : ℕ) → getD (noted below k cs) j 0 ≢ 0 → Good (getD (noted below k cs) j 0)
-unfolding noted
-noted-good Good below k [] s l h = h
-noted-good Good below k (c ∷ cs) s l h =
-    noted-good Good (set below k c) (suc k) cs (s .2) (omega (arith, length-set below k c))
-    (λ j. eq-cases j k (λ e. rw (e, getD-set-same below k c 0 (omega arith)) (λ z. s .1)) (λ e. rw (getD-set-other below k j c 0 e) (h j)))
-
--- the rows that codes are noted for become jobs
-queue-each : {A B : Type 0} (T : ℕ → Tree A B) (Good : ℕ → Type 0) (below : List ℕ) (i n : ℕ) (cs : List ℕ) → Codes Good cs → i + n + length cs ≤ length below
-    → queueFrom T (noted below (i + n) cs) i (n + length cs) ≡ laterEach T (queueFrom T below i n) (i + n) cs
-unfolding noted laterEach
-queue-each T Good below i n [] s l = rw add-zero
-queue-each T Good below i n (c ∷ cs) s l =
-    let e : n + suc (length cs) ≡ suc n + length cs = omega arith in
-    let f : suc (i + n) ≡ i + suc n = omega arith in
-    let r = queue-each T Good (set below (i + n) c) i (suc n) cs (s .2) (omega (arith, length-set below (i + n) c)) in
-    rw (e, f, r, queue-more T below i n c (s .0) (omega arith))
 
 -- ---- the numbers of a place
 
@@ -168,10 +140,8 @@ module _ {A B : Type 0} (T : ℕ → Tree A B) (L : ℕ → List A) (N : ℕ →
   -- a row that leads nowhere is passed
   pub walking-next : {whole : List ℕ} {k : ℕ} {rows : List ℕ} {count : ℕ} {below : List ℕ}
       → Walking T num Good whole k rows count below → k ≤ count → getD below k 0 ≡ 0 → Walking T num Good whole (k + 1) rows count below
-  unfolding queueFrom
   walking-next {k = k} {count = count} {below = below} w l z =
-      let e : count + 1 - k ≡ suc (count + 1 - (k + 1)) = omega arith in
-      let q : queueFrom T below k (count + 1 - k) ≡ queueFrom T below (k + 1) (count + 1 - (k + 1)) = rw (e, queueFrom, eq-eqb z, add-one k) in
+      let q = queue-past T below k count l z in
       record {
         size = w .size;
         from = omega arith;
@@ -185,20 +155,12 @@ module _ {A B : Type 0} (T : ℕ → Tree A B) (L : ℕ → List A) (N : ℕ →
         goods = w .goods;
       }
 
-  -- a row that leads somewhere is the first job
-  queue-next : (below : List ℕ) (k count : ℕ) → k ≤ count → getD below k 0 ≢ 0
-      → queueFrom T below k (count + 1 - k) ≡ job k (T (getD below k 0)) (queueFrom T below (k + 1) (count + 1 - (k + 1)))
-  unfolding queueFrom
-  queue-next below k count l z =
-      let e : count + 1 - k ≡ suc (count + 1 - (k + 1)) = omega arith in
-      rw (e, queueFrom, ne-eqb z, add-one k)
-
   -- the place that row k leads to has room
   pub walking-room : {whole : List ℕ} {k : ℕ} {rows : List ℕ} {count : ℕ} {below : List ℕ}
       → Walking T num Good whole k rows count below → k ≤ count → getD below k 0 ≢ 0 → length whole ≤ 2016
       → count + length (placeNumbers num k (L (getD below k 0)) (N (getD below k 0))) ≤ 2016
   walking-room {k = k} {rows} {count} {below} w l z few =
-      let q = queue-next below k count l z in
+      let q = queue-next T below k count l z in
       let Q = queueFrom T below (k + 1) (count + 1 - (k + 1)) in
       place-room (getD below k 0) (w .fuel) (count + 1) k Q (take count rows) (w .goods k z) (rw (← q) (w .enough)) (w .parts ∙ rw q)
       (length-take-le count rows (omega arith)) few
@@ -209,7 +171,7 @@ module _ {A B : Type 0} (T : ℕ → Tree A B) (L : ℕ → List A) (N : ℕ →
       → Placed rows count (placeNumbers num k (L (getD below k 0)) (N (getD below k 0))) below (count + length (L (getD below k 0)) + 1) (codes (N (getD below k 0))) rows′ count′ below′
       → Walking T num Good whole (k + 1) rows′ count′ below′
   walking-place {k = k} {rows} {count} {below} w l z few p =
-      let q = queue-next below k count l z in
+      let q = queue-next T below k count l z in
       place-step (getD below k 0) (w .fuel) (k + 1) k (w .goods k z) (omega arith) (omega arith) (rw (← q) (w .enough)) (w .parts ∙ rw q)
       (length-take-le count rows (omega arith)) few (w .width) (w .zeros) (w .goods) p
 

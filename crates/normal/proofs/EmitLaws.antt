@@ -1,21 +1,19 @@
 -- The rows that a walk writes, as plain lists put one after the other.
 -- Assumes nothing.
-use Prim.Native.Nat.{_+_, _<_, _≤_, suc, zero, ℕ}
-use lib.Dec.{eqb}
-use lib.ListN.{getD, length, length-append, set}
-use lib.Seq.{getD-set-other, getD-set-same}
+use Prim.Native.Nat.{_+_, suc, zero, ℕ}
+use lib.ListN.{length, length-append}
 use mathlib.Core.Bool.{Bool}
 use mathlib.Core.List.{List, [], _++_, _∷_, append-assoc}
-use mathlib.Core.Logic.{_≢_}
 use mathlib.Core.Option.{Option}
 use mathlib.Core.Path.{_∙_, _≡_, ap, refl, sym}
 use native.Mathlib.Nat.{add-assoc, add-zero}
 use native.Mathlib.Omega.{arith}
 use Rattle.base.proofs.Cases.{opt-cases}
-use Rattle.base.proofs.Tests.{bool-cases, eq-eqb, ne-eqb}
+use Rattle.base.proofs.Tests.{bool-cases}
 use Rattle.fit.specs.Description.{Atom, Kind, atom, has, lacks, least, most}
 use Rattle.fit.specs.Tree.{Row, leafRow, nodeRow}
-use Rattle.normal.specs.Emitted.{atomRows, everyRows, everySlots, jobsFrom, kindRows, laterEach}
+use Rattle.normal.specs.Emitted.{atomRows, everyRows, everySlots, kindRows}
+use Rattle.normal.specs.Filling.{laterEach}
 use Rattle.normal.specs.Layout.{Queue, done, job, later}
 use Rattle.normal.specs.Pipeline.{outEvery, outKind, walk}
 use Rattle.normal.specs.Slots.{Cell, cell, isLink, sameClass, value}
@@ -50,20 +48,20 @@ atoms-out o q k κ =
 -- ---- the 'every' rows
 
 every-out : (keep : ℕ → Bool → Option ℕ → Bool) (o : ℕ) (q : List Cell) (k : ℕ) (Q : Queue ℕ) (κ : ℕ → Queue ℕ → List (Row Atom ℕ))
-    → outEvery keep o q k Q κ ≡ everyRows keep o q ++ κ (k + length (everyRows keep o q)) (laterEach Q k (everySlots keep q))
+    → outEvery keep o q k Q κ ≡ everyRows keep o q ++ κ (k + length (everyRows keep o q)) (laterEach (λ j. j) Q k (everySlots keep q))
 unfolding outEvery everyRows everySlots laterEach
 every-out keep o [] k Q κ = rw add-zero
 every-out keep o (cell j b n lo hi ∷ q) k Q κ =
     bool-cases (keep j b hi)
     (λ z. rw z (ap (λ (l : List (Row Atom ℕ)). nodeRow o n ∷ l) (every-out keep o q (suc k) (later Q k j) κ
-    ∙ ap (λ (i : ℕ). everyRows keep o q ++ κ i (laterEach (later Q k j) (suc k) (everySlots keep q))) (omega arith))))
+    ∙ ap (λ (i : ℕ). everyRows keep o q ++ κ i (laterEach (λ i. i) (later Q k j) (suc k) (everySlots keep q))) (omega arith))))
     (λ z. rw z (every-out keep o q k Q κ))
 
 -- a place of the walk
 pub walk-place : (keep : ℕ → Bool → Option ℕ → Bool) (S : ℕ → List Cell) (f k o v : ℕ) (Q : Queue ℕ)
     → walk keep S (suc f) k (job o v Q)
     ≡ atomRows o (S v) ++ (everyRows keep o (S v)
-    ++ walk keep S f (k + length (atomRows o (S v)) + length (everyRows keep o (S v))) (laterEach Q (k + length (atomRows o (S v))) (everySlots keep (S v))))
+    ++ walk keep S f (k + length (atomRows o (S v)) + length (everyRows keep o (S v))) (laterEach (λ j. j) Q (k + length (atomRows o (S v))) (everySlots keep (S v))))
 unfolding walk
 walk-place keep S f k o v Q =
     atoms-out o (S v) k (λ k4. outEvery keep o (S v) k4 Q (λ k5 Q′. walk keep S f k5 Q′))
@@ -73,36 +71,3 @@ pub walk-done : (keep : ℕ → Bool → Option ℕ → Bool) (S : ℕ → List 
 unfolding walk
 walk-done keep S zero k = refl
 walk-done keep S (suc f) k = refl
-
--- ---- the jobs in a table
-
--- rows that lead nowhere add no job
-pub jobs-none : (below : List ℕ) (i n m : ℕ) → ((j : ℕ) → i + n ≤ j → j < i + n + m → getD below j 0 ≡ 0) → jobsFrom below i (n + m) ≡ jobsFrom below i n
-unfolding jobsFrom
-jobs-none below i zero zero h = refl
-jobs-none below i zero (suc m) h =
-    let e : 0 + suc m ≡ suc m = omega arith in
-    let z : getD below i 0 ≡ 0 = h i (omega arith) (omega arith) in
-    let r = jobs-none below (suc i) 0 m (λ j a b. h j (omega arith) (omega arith)) in
-    let f : 0 + m ≡ m = omega arith in
-    rw (e, jobsFrom, eq-eqb z) (rw f at r)
-jobs-none below i (suc n) m h =
-    let e : suc n + m ≡ suc (n + m) = omega arith in
-    rw (e, jobsFrom, jobs-none below (suc i) n m (λ j a b. h j (omega arith) (omega arith)))
-
-jobs-other : (below : List ℕ) (s x i n : ℕ) → i + n ≤ s → jobsFrom (set below s x) i n ≡ jobsFrom below i n
-unfolding jobsFrom
-jobs-other below s x i zero h = refl
-jobs-other below s x i (suc n) h = rw (getD-set-other below s i x 0 (λ q. omega arith), jobs-other below s x (suc i) n (omega arith))
-
--- a row that leads to a slot adds a job at the end
-pub jobs-more : (below : List ℕ) (i n j : ℕ) → j ≢ 0 → i + n < length below → jobsFrom (set below (i + n) j) i (suc n) ≡ later (jobsFrom below i n) (i + n) j
-unfolding jobsFrom later
-jobs-more below i zero j z l =
-    let e : i + 0 ≡ i = add-zero i in
-    rw (e, jobsFrom, getD-set-same below i j 0 (omega arith), ne-eqb z)
-jobs-more below i (suc n) j z l =
-    let e : i + suc n ≡ suc i + n = omega arith in
-    let r = jobs-more below (suc i) n j z (omega arith) in
-    rw (e, jobsFrom, getD-set-other below (suc i + n) i j 0 (λ q. omega arith), r)
-    (bool-cases (eqb (getD below i 0) 0) (λ q. rw (jobsFrom, q)) (λ q. rw (jobsFrom, q)))

@@ -21,6 +21,7 @@ pub mod Size
 pub mod Plain
 pub mod Examples
 pub mod LayoutLaws
+pub mod FillLaws
 pub mod ChainLaws
 pub mod SlotLaws
 pub mod Merged

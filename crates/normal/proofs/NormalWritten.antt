@@ -24,6 +24,7 @@ use Rattle.normal.proofs.AnswerLaws.{Ready, normalised}
 use Rattle.normal.proofs.NormalEntries.{normal-fewer}
 use Rattle.normal.proofs.PassLaws.{all-bounded}
 use Rattle.normal.proofs.PassOrder.{rows-few}
+use Rattle.normal.proofs.PushLaws.{pushed-total}
 use Rattle.normal.proofs.NormalLegal.{normal-bounded}
 use Rattle.normal.specs.Answer.{normalEntries, normaliseOf, normalisedOf, outputAfter}
 use Rattle.normal.specs.Emitted.{NormalRows, rowNumber}
@@ -74,10 +75,14 @@ accepted-owned d e =
     let L = sound-of-accepted Description 1 d e .entries in
     record { earlier = owner-earlier L; every = owner-kind L }
 
--- the packed entries are as many as the table can hold, and they are written as answered
+-- the packed entries are as many as the table can hold
+pub rows-most : (d rows : List ℕ) (r : ℕ) → length (entriesOf d) ≤ 1008 → NormalRows d rows r → r ≤ 1008
+rows-most d rows r few N = omega (arith, pushed-total (write (nf unrestricted (placeOf (entriesOf d) 0))) (N .pushed), rows-few d few)
+
+-- they are written as answered
 pub rows-written : (d out : List ℕ) {n : ℕ} → readingOf Description 1 d ≡ reading.Accepted n → length d ≤ length out → (rows : List ℕ) (r : ℕ) → NormalRows d rows r
     → (normaliseOf d out ≡ Normalised r) × (written out rows r ≡ normalisedOf d out)
 rows-written d out {n} e l rows r N =
     let P = N .pushed in
     let few : length (entriesOf d) ≤ 1008 = omega (arith, entries-limit (sound-of-accepted Description 1 d e .blocks)) in
-    normal-written d out (record { total = n; read = e; room = l }) (all-bounded d (N .bounded)) rows r (omega (arith, P .total, P .size, rows-few d few)) (P .held)
+    normal-written d out (record { total = n; read = e; room = l }) (all-bounded d (N .bounded)) rows r (omega (arith, rows-most d rows r few N, P .size)) (P .held)

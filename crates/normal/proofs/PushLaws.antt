@@ -2,18 +2,17 @@
 -- Assumes nothing.
 use Prim.Native.Nat.{_%_, _+_, _-_, _/_, _<_, _≤_, suc, zero, ℕ}
 use lib.Dec.{eqb}
-use lib.ListN.{getD, length, length-append, length-set, set, take}
-use lib.Seq.{take-suc-set}
+use lib.ListN.{getD, length, length-append, length-map, set}
 use mathlib.Core.List.{List, map-append, [], _++_, _∷_, append-assoc, append-nil}
 use mathlib.Core.Logic.{_≢_}
 use mathlib.Core.Option.{Option, none, some}
 use mathlib.Core.Path.{_∙_, _≡_, ap, refl, sym}
-use native.Mathlib.Nat.{add-assoc, add-zero}
 use native.Mathlib.Numerals.{add-one}
 use native.Mathlib.Omega.{arith}
 use Rattle.base.proofs.Tests.{bool-cases, eq-cases, eq-eqb, ge-ltb, lt-cases, lt-ltb, ne-eqb}
 use Rattle.fit.specs.Description.{Atom, Kind, atom, has, kindOf, lacks, least, most, nothing}
 use Rattle.fit.specs.Tree.{Row, leafRow}
+use Rattle.normal.proofs.FillLaws.{filled-more, filled-none, filled-one}
 use Rattle.normal.specs.Emitted.{Pushed, cellName, cellValue, kindRows, packedOf, rowNumber, rowsIf, valueNumber}
 use Rattle.normal.specs.Normal.{rank}
 use Rattle.normal.specs.Ordered.{runFrom, tagCell, tagPlace, tagSlot}
@@ -22,20 +21,12 @@ use Rattle.normal.specs.Tables.{highIn, highPart, lowPart}
 
 -- ---- rows after rows
 
-pub pushed-none : {rows : List ℕ} {n : ℕ} → length rows ≡ 1008 → Pushed rows n [] rows n
-pushed-none {rows} {n} l = record { size = l; total = sym (add-zero n); held = sym (append-nil (take n rows)) }
+-- as many as there are rows
+pub pushed-total : {a b : List ℕ} {i j : ℕ} (L : List (Row Atom ℕ)) → Pushed a i L b j → j ≡ i + length L
+pushed-total {i = i} L p = p .total ∙ ap (λ (n : ℕ). i + n) (length-map L rowNumber)
 
-pub pushed-one : {rows : List ℕ} {n x : ℕ} {r : Row Atom ℕ} → length rows ≡ 1008 → n < 1008 → x ≡ rowNumber r → Pushed rows n (r ∷ []) (set rows n x) (n + 1)
-pushed-one {rows} {n} {x} {r} l b e =
-    record { size = length-set rows n x ∙ l; total = refl; held = rw (add-one n) (take-suc-set rows n x (omega (arith, l)) ∙ rw e) }
-
-pub pushed-more : {a b c : List ℕ} {i j k : ℕ} {L M : List (Row Atom ℕ)} → Pushed a i L b j → Pushed b j M c k → Pushed a i (L ++ M) c k
-pushed-more {a} {b} {c} {i} {j} {k} {L} {M} p q =
-    record {
-      size = q .size;
-      total = q .total ∙ rw (p .total, length-append L M, add-assoc);
-      held = q .held ∙ rw (p .held, map-append, append-assoc);
-    }
+pub pushed-more : {a b c : List ℕ} {i j k : ℕ} (L M : List (Row Atom ℕ)) → Pushed a i L b j → Pushed b j M c k → Pushed a i (L ++ M) c k
+pushed-more L M p q = rw (map-append rowNumber L M) (filled-more p q)
 
 -- ---- some rows done, and the rest to do
 
@@ -46,12 +37,12 @@ pub record Pushing (a : List ℕ) (i : ℕ) (whole : List (Row Atom ℕ)) (b : L
   pub parts : whole ≡ front ++ rest
 
 pub pushing-start : {a : List ℕ} {i : ℕ} {whole : List (Row Atom ℕ)} → length a ≡ 1008 → Pushing a i whole a i whole
-pushing-start l = record { front = []; pushed = pushed-none l; parts = refl }
+pushing-start l = record { front = []; pushed = filled-none l; parts = refl }
 
-pub pushing-more : {a b c : List ℕ} {i j k : ℕ} {whole rest rest′ M : List (Row Atom ℕ)}
+pub pushing-more : {a b c : List ℕ} {i j k : ℕ} {whole rest rest′ : List (Row Atom ℕ)} (M : List (Row Atom ℕ))
     → Pushing a i whole b j rest → rest ≡ M ++ rest′ → Pushed b j M c k → Pushing a i whole c k rest′
-pushing-more {M = M} p e q =
-    record { front = p .front ++ M; pushed = pushed-more (p .pushed) q; parts = p .parts ∙ rw (e, append-assoc) }
+pushing-more M p e q =
+    record { front = p .front ++ M; pushed = pushed-more (p .front) M (p .pushed) q; parts = p .parts ∙ rw (e, append-assoc) }
 
 pub pushing-same : {a b : List ℕ} {i j : ℕ} {whole rest rest′ : List (Row Atom ℕ)} → Pushing a i whole b j rest → rest ≡ rest′ → Pushing a i whole b j rest′
 pushing-same p e = record { front = p .front; pushed = p .pushed; parts = p .parts ∙ rw e }
@@ -62,13 +53,9 @@ pushing-done p e = rw (p .parts, e, append-nil (p .front)) (p .pushed)
 -- the rest has room if the whole has
 pub pushing-room : {a b : List ℕ} {i j m : ℕ} {whole rest : List (Row Atom ℕ)} → Pushing a i whole b j rest → i + length whole ≤ m → j + length rest ≤ m
 pushing-room {rest = rest} p l =
-    let e = p .pushed .total in
+    let e = pushed-total (p .front) (p .pushed) in
     let f = ap length (p .parts) ∙ length-append (p .front) rest in
     omega (arith, e, f, l)
-
--- from the first row on, what the table held before is of no account
-pub pushed-anew : {a b : List ℕ} {j : ℕ} {L : List (Row Atom ℕ)} (c : List ℕ) → Pushed a 0 L b j → Pushed c 0 L b j
-pushed-anew c p = record { size = p .size; total = p .total; held = p .held }
 
 -- ---- the rows of one cell
 
@@ -121,7 +108,7 @@ value-some (some m) s e = (refl, s)
 
 pub atom-none : (k o : ℕ) (c : Cell) {rows : List ℕ} {n : ℕ} {m : ℕ} → Small (cellValue (kindOf k) c) → m ≡ valueNumber (cellValue (kindOf k) c) → m ≡ 131072 → length rows ≡ 1008
     → Pushed rows n (rowsIf (kindOf k) o (cellName c) (cellValue (kindOf k) c)) rows n
-atom-none k o c s e z l = rw (value-none (cellValue (kindOf k) c) s (sym e ∙ z)) (pushed-none l)
+atom-none k o c s e z l = rw (value-none (cellValue (kindOf k) c) s (sym e ∙ z)) (filled-none l)
 
 pub atom-room : (k o : ℕ) (c : Cell) {n m : ℕ} → Small (cellValue (kindOf k) c) → m ≡ valueNumber (cellValue (kindOf k) c) → m ≢ 131072
     → n + length (rowsIf (kindOf k) o (cellName c) (cellValue (kindOf k) c)) ≤ 1008 → (n < 1008) × (m < 65536)
@@ -135,7 +122,7 @@ pub atom-one : (k o : ℕ) (c : Cell) {rows : List ℕ} {n m x : ℕ} → 1 ≤ 
 atom-one k o c {rows} {n} {m} {x} lo hi s e z l b p =
     let w = value-some (cellValue (kindOf k) c) s (λ q. z (e ∙ q)) in
     let f : cellValue (kindOf k) c ≡ some m = w .0 ∙ ap some (sym e) in
-    rw f (pushed-one l b (p ∙ row-number k o (cellName c) m lo hi))
+    rw f (filled-one l b (p ∙ row-number k o (cellName c) m lo hi))
 
 -- ---- the rows of one kind
 

@@ -2,27 +2,26 @@
 -- Assumes nothing.
 use Prim.Native.Nat.{_+_, _-_, _<_, _≤_, suc, zero, ℕ}
 use lib.Dec.{eqb}
-use lib.ListN.{getD, length, length-append, length-replicate, length-set, replicate, set}
-use lib.Seq.{getD-set-other, getD-set-same}
+use lib.ListN.{getD, length, length-append, length-replicate, replicate}
 use mathlib.Core.Bool.{Bool}
-use mathlib.Core.List.{List, [], _++_, _∷_, append-assoc}
+use mathlib.Core.List.{List, [], _++_, append-assoc}
 use mathlib.Core.Logic.{_≢_}
 use mathlib.Core.Option.{Option, none}
 use mathlib.Core.Path.{_∙_, _≡_, ap, refl, sym}
-use native.Mathlib.Nat.{add-zero}
-use native.Mathlib.Numerals.{add-one}
 use native.Mathlib.Omega.{arith}
 use Rattle.base.proofs.Lists.{zeros-read}
-use Rattle.base.proofs.Tests.{bool-cases, eq-cases, eq-eqb, ne-eqb}
+use Rattle.base.proofs.Tests.{bool-cases, eq-cases}
 use Rattle.blocks.proofs.Blocks.{parts}
 use Rattle.fit.specs.Description.{Atom}
 use Rattle.fit.specs.Tree.{Row}
-use Rattle.normal.proofs.EmitLaws.{jobs-more, jobs-none, walk-done, walk-place}
+use Rattle.normal.proofs.EmitLaws.{walk-done, walk-place}
+use Rattle.normal.proofs.FillLaws.{Codes, filled-anew, filled-none, noted-after, noted-good, noted-length, queue-each, queue-next, queue-none, queue-past}
 use Rattle.normal.proofs.FirstLaws.{first-within}
-use Rattle.normal.proofs.PlacingLaws.{every-length, length-noted}
-use Rattle.normal.proofs.PushLaws.{Pushing, part-room, pushed-anew, pushed-none, pushing-done, pushing-more, pushing-room, pushing-same}
-use Rattle.normal.specs.Emitted.{Placing, Pushed, Walkable, allRows, atomRows, everyRows, everySlots, jobsFrom, keepCell, laterEach, noteEach, placeRows}
-use Rattle.normal.specs.Layout.{done, job}
+use Rattle.normal.proofs.PlacingLaws.{every-length}
+use Rattle.normal.proofs.PushLaws.{Pushing, part-room, pushed-total, pushing-done, pushing-more, pushing-room, pushing-same}
+use Rattle.normal.specs.Emitted.{Placing, Pushed, Walkable, allRows, atomRows, everyRows, everySlots, keepCell, placeRows}
+use Rattle.normal.specs.Filling.{laterEach, queueFrom}
+use Rattle.normal.specs.Layout.{Queue, done, job}
 use Rattle.normal.specs.Ordered.{firstOfPlace, otherPlace, runFrom, runOf, tagCell, tagPlace, tagSlot}
 use Rattle.normal.specs.Pipeline.{walk}
 use Rattle.normal.specs.Slots.{Cell}
@@ -31,8 +30,7 @@ use Rattle.normal.specs.Slots.{Cell}
 
 -- slots of the table, none of them 0
 abbrev pub Slotlike : List ℕ → Type 0
-Slotlike [] = Unit {0}
-Slotlike (j ∷ js) = (j ≢ 0) × (j < 1009) × Slotlike js
+Slotlike js = Codes (λ j. j < 1009) js
 
 pub run-slotlike : (keep : ℕ → Bool → Option ℕ → Bool) (t z : List ℕ) (used v i left : ℕ) → Walkable t z used → i + left ≤ used → Slotlike (everySlots keep (runFrom t z v i left))
 unfolding everySlots runFrom tagCell
@@ -45,28 +43,9 @@ run-slotlike keep t z used v i (suc left) w l =
     (λ e. rw (runFrom, e, everySlots, tagCell) (bool-cases (keepCell keep (tagCell t x)) (λ k. rw k (nz, w .slot i (omega arith), r)) (λ k. rw k r)))
     (λ e. rw (runFrom, e, everySlots) tt)
 
-note-other : (below : List ℕ) (k : ℕ) (js : List ℕ) (j : ℕ) → k + length js ≤ j → getD (noteEach below k js) j 0 ≡ getD below j 0
-unfolding noteEach
-note-other below k [] j l = refl
-note-other below k (i ∷ js) j l = note-other (set below k i) (suc k) js j (omega arith) ∙ getD-set-other below k j i 0 (λ q. omega arith)
-
-note-small : (below : List ℕ) (k : ℕ) (js : List ℕ) → Slotlike js → k + length js ≤ length below → ((j : ℕ) → getD below j 0 < 1009) → (j : ℕ) → getD (noteEach below k js) j 0 < 1009
-unfolding noteEach
-note-small below k [] s l h j = h j
-note-small below k (i ∷ js) s l h m =
-    note-small (set below k i) (suc k) js (s .2) (omega (arith, length-set below k i))
-    (λ j. eq-cases j k (λ e. rw (e, getD-set-same below k i 0 (omega arith)) (s .1)) (λ e. rw (getD-set-other below k j i 0 e) (h j))) m
-
--- the rows that the slots are noted for become jobs
-jobs-each : (below : List ℕ) (i n : ℕ) (js : List ℕ) → Slotlike js → i + n + length js ≤ length below
-    → jobsFrom (noteEach below (i + n) js) i (n + length js) ≡ laterEach (jobsFrom below i n) (i + n) js
-unfolding noteEach laterEach
-jobs-each below i n [] s l = rw add-zero
-jobs-each below i n (j ∷ js) s l =
-    let e : n + suc (length js) ≡ suc n + length js = omega arith in
-    let f : suc (i + n) ≡ i + suc n = omega arith in
-    let r = jobs-each (set below (i + n) j) i (suc n) js (s .2) (omega (arith, length-set below (i + n) j)) in
-    rw (e, f, r, jobs-more below i n j (s .0) (omega arith))
+-- the jobs of the rows that lead to slots
+abbrev jobsFrom : List ℕ → ℕ → ℕ → Queue ℕ
+jobsFrom below i n = queueFrom (λ j. j) below i n
 
 -- ---- the walk, some done
 
@@ -96,27 +75,27 @@ place-step keep S whole {rows₀} {rows} {rows′} {count} {count′} {below} {b
     let n = count + 1 - k in
     let le : length E ≡ length js = every-length keep o (S v) in
     let lp : length (A ++ E) ≡ length A + length E = length-append A E in
-    let total : count′ ≡ count + length A + length js = omega (arith, q .pushed .total, le, lp) in
-    let r : walk keep S (suc f) (count + 1) (job o v (jobsFrom below k n)) ≡ (A ++ E) ++ walk keep S f (count + 1 + length A + length E) (laterEach (jobsFrom below k n) (count + 1 + length A) js) =
+    let total : count′ ≡ count + length A + length js = omega (arith, pushed-total (A ++ E) (q .pushed), le, lp) in
+    let r : walk keep S (suc f) (count + 1) (job o v (jobsFrom below k n)) ≡ (A ++ E) ++ walk keep S f (count + 1 + length A + length E) (laterEach (λ j. j) (jobsFrom below k n) (count + 1 + length A) js) =
     walk-place keep S f (count + 1) o v (jobsFrom below k n) ∙ sym (append-assoc A E _) in
     let few₀ : 0 + length whole ≤ 1008 = omega (arith, few) in
     let room : count + length (A ++ E) ≤ 1008 = part-room count (A ++ E) _ r (pushing-room p few₀) in
     let at : k + (n + length A) ≡ count + length A + 1 = omega (arith, fr, to) in
     let at′ : count + 1 + length A ≡ count + length A + 1 = omega arith in
-    let none : jobsFrom below k (n + length A) ≡ jobsFrom below k n = jobs-none below k n (length A) (λ j a b. ze j (omega (arith, a, fr, to))) in
-    let each = jobs-each below k (n + length A) js sl (omega (arith, at, room, le, lp, sz)) in
+    let none : jobsFrom below k (n + length A) ≡ jobsFrom below k n = queue-none (λ j. j) below k n (length A) (λ j a b. ze j (omega (arith, a, fr, to))) in
+    let each = queue-each (λ j. j) (λ j. j < 1009) below k (n + length A) js sl (omega (arith, at, room, le, lp, sz)) in
     let left : count′ + 1 - k ≡ n + length A + length js = omega (arith, total, fr, to) in
     let next : count′ + 1 ≡ count + 1 + length A + length E = omega (arith, total, le) in
-    let jobs : jobsFrom below′ k (count′ + 1 - k) ≡ laterEach (jobsFrom below k n) (count + 1 + length A) js = rw (q .noted, ← at, left, each, none, at′, at) in
+    let jobs : jobsFrom below′ k (count′ + 1 - k) ≡ laterEach (λ j. j) (jobsFrom below k n) (count + 1 + length A) js = rw (q .notes, ← at, left, each, none, at′, at) in
     record {
       fuel = f;
       enough = en;
       from = fr;
       to = omega (arith, to, total);
-      pushing = pushing-same (pushing-more p r (q .pushed)) (rw (jobs, next));
-      size = rw (q .noted) (length-noted below _ js ∙ sz);
-      zeros = λ j l. rw (q .noted) (note-other below _ js j (omega (arith, l, total)) ∙ ze j (omega (arith, l, total)));
-      small = λ j. rw (q .noted) (note-small below _ js sl (omega (arith, room, le, lp, sz)) sm j);
+      pushing = pushing-same (pushing-more (A ++ E) p r (q .pushed)) (rw (jobs, next));
+      size = rw (q .notes) (noted-length below _ js ∙ sz);
+      zeros = λ j l. rw (q .notes) (noted-after below _ js j (omega (arith, l, total)) ∙ ze j (omega (arith, l, total)));
+      small = λ j. eq-cases (getD below′ j 0) 0 (λ z. rw z (omega arith)) (rw (q .notes) (noted-good (λ j. j < 1009) below _ js sl (omega (arith, room, le, lp, sz)) (λ i z. sm i) j));
     }
 
 -- the top's place is done
@@ -124,11 +103,11 @@ pub walking-start : (keep : ℕ → Bool → Option ℕ → Bool) (S : ℕ → L
     → below ≡ replicate 1009 0 → length rows ≡ 1008 → Slotlike (everySlots keep (S 0)) → length (allRows keep S) ≤ 1008
     → Placing rows 0 (placeRows keep 0 (S 0)) below (0 + length (atomRows 0 (S 0)) + 1) (everySlots keep (S 0)) rows′ count below′
     → Walking keep S (allRows keep S) [] 1 rows′ count below′
-unfolding allRows jobsFrom
+unfolding allRows queueFrom
 walking-start keep S e l sl few q =
     place-step keep S (allRows keep S) 2017 1 0 0 (omega arith) (omega arith) (omega arith) (ap length e ∙ length-replicate {A = ℕ} 1009 0)
     (λ j b. zeros-read 1009 e j) (λ j. rw (zeros-read 1009 e j) (omega arith)) sl few
-    (record { front = []; pushed = pushed-anew [] (pushed-none l); parts = refl }) q
+    (record { front = []; pushed = filled-anew [] (filled-none l); parts = refl }) q
 
 pub top-room : (keep : ℕ → Bool → Option ℕ → Bool) (S : ℕ → List Cell) → length (allRows keep S) ≤ 1008 → 0 + length (placeRows keep 0 (S 0)) ≤ 1008
 unfolding allRows placeRows
@@ -148,10 +127,8 @@ walking-few {whole = whole} w few =
 -- a row that leads nowhere is passed
 pub walking-next : {keep : ℕ → Bool → Option ℕ → Bool} {S : ℕ → List Cell} {whole : List (Row Atom ℕ)} {rows₀ : List ℕ} {k : ℕ} {rows : List ℕ} {count : ℕ} {below : List ℕ}
     → Walking keep S whole rows₀ k rows count below → k ≤ count → getD below k 0 ≡ 0 → Walking keep S whole rows₀ (k + 1) rows count below
-unfolding jobsFrom
 walking-next {keep} {S} {k = k} {count = count} {below = below} w l z =
-    let e : count + 1 - k ≡ suc (count + 1 - (k + 1)) = omega arith in
-    let j : jobsFrom below k (count + 1 - k) ≡ jobsFrom below (k + 1) (count + 1 - (k + 1)) = rw (e, jobsFrom, eq-eqb z, add-one k) in
+    let j = queue-past (λ j. j) below k count l z in
     record {
       fuel = w .fuel;
       enough = omega (arith, w .enough);
@@ -166,10 +143,7 @@ walking-next {keep} {S} {k = k} {count = count} {below = below} w l z =
 -- a row that leads to a slot: the rest starts with that place's rows
 job-next : (keep : ℕ → Bool → Option ℕ → Bool) (S : ℕ → List Cell) (below : List ℕ) (k count f : ℕ) → k ≤ count → getD below k 0 ≢ 0
     → walk keep S f (count + 1) (jobsFrom below k (count + 1 - k)) ≡ walk keep S f (count + 1) (job k (getD below k 0) (jobsFrom below (k + 1) (count + 1 - (k + 1))))
-unfolding jobsFrom
-job-next keep S below k count f l z =
-    let e : count + 1 - k ≡ suc (count + 1 - (k + 1)) = omega arith in
-    rw (e, jobsFrom, ne-eqb z, add-one k)
+job-next keep S below k count f l z = ap (walk keep S f (count + 1)) (queue-next (λ j. j) below k count l z)
 
 pub walking-room : (keep : ℕ → Bool → Option ℕ → Bool) (S : ℕ → List Cell) (whole : List (Row Atom ℕ)) {rows₀ : List ℕ} {k : ℕ} {rows : List ℕ} {count : ℕ} {below : List ℕ}
     → Walking keep S whole rows₀ k rows count below → k ≤ count → getD below k 0 ≢ 0 → length whole ≤ 1008 → count + length (placeRows keep k (S (getD below k 0))) ≤ 1008
@@ -183,7 +157,7 @@ walking-room keep S whole {k = k} {count = count} {below = below} w l z few =
     let rest = walk keep S (w .fuel) (count + 1) (jobsFrom below k (count + 1 - k)) in
     let short : count ≤ 1008 = omega (arith, pushing-room (w .pushing) few₀) in
     let g : w .fuel ≡ suc (w .fuel - 1) = omega (arith, w .enough, short) in
-    let r : rest ≡ (A ++ E) ++ walk keep S (w .fuel - 1) (count + 1 + length A + length E) (laterEach Q (count + 1 + length A) (everySlots keep (S v))) =
+    let r : rest ≡ (A ++ E) ++ walk keep S (w .fuel - 1) (count + 1 + length A + length E) (laterEach (λ j. j) Q (count + 1 + length A) (everySlots keep (S v))) =
     job-next keep S below k count (w .fuel) l z ∙ ap (λ (f : ℕ). walk keep S f (count + 1) (job k v Q)) g ∙ walk-place keep S (w .fuel - 1) (count + 1) k v Q ∙ sym (append-assoc A E _) in
     part-room count (A ++ E) _ r (pushing-room (w .pushing) few₀)
 
@@ -203,10 +177,10 @@ walking-place keep S whole {k = k} {count = count} {below = below} w l z few sl 
 -- all rows are done
 pub walking-done : {keep : ℕ → Bool → Option ℕ → Bool} {S : ℕ → List Cell} {whole : List (Row Atom ℕ)} {rows₀ : List ℕ} {k : ℕ} {rows : List ℕ} {count : ℕ} {below : List ℕ}
     → Walking keep S whole rows₀ k rows count below → count < k → Pushed rows₀ 0 whole rows count
-unfolding jobsFrom
+unfolding queueFrom
 walking-done {keep} {S} {k = k} {count = count} {below = below} w l =
     let e : count + 1 - k ≡ 0 = omega arith in
-    pushing-done (w .pushing) (rw (e, jobsFrom) (walk-done keep S (w .fuel) (count + 1)))
+    pushing-done (w .pushing) (rw (e, queueFrom) (walk-done keep S (w .fuel) (count + 1)))
 
 -- ---- the cells of each place
 

@@ -1,8 +1,8 @@
--- The rows of a place as plain lists, and the jobs that wait, as the code keeps them. No public promise names these.
+-- The rows of a place as plain lists, and the tables of the walk, as the code keeps them. No public promise names these.
 -- Assumes nothing.
-use Prim.Native.Nat.{_+_, _<_, _≤_, suc, zero, ℕ}
+use Prim.Native.Nat.{_+_, _<_, _≤_, ℕ}
 use lib.Dec.{eqb}
-use lib.ListN.{getD, length, set, take}
+use lib.ListN.{getD, length, take}
 use mathlib.Core.Bool.{Bool, _&&_, cond, not}
 use mathlib.Core.List.{List, [], _++_, _∷_, map}
 use mathlib.Core.Logic.{_≢_}
@@ -12,7 +12,8 @@ use Rattle.blocks.specs.Entries.{Bounded, entriesOf, nth, packed}
 use Rattle.fit.specs.Background.{unrestricted}
 use Rattle.fit.specs.Description.{Atom, Kind, atom, has, lacks, least, most, placeOf}
 use Rattle.fit.specs.Tree.{Row, leafRow, nodeRow}
-use Rattle.normal.specs.Layout.{Queue, done, job, later, write}
+use Rattle.normal.specs.Filling.{Filled, Joined}
+use Rattle.normal.specs.Layout.{done, job, write}
 use Rattle.normal.specs.Normal.{atMost, nf}
 use Rattle.normal.specs.Ordered.{tagNumbers, tagPlace, tagSlot}
 use Rattle.normal.specs.Pipeline.{walk}
@@ -52,23 +53,6 @@ everySlots keep (cell j b n lo hi ∷ q) = cond (keep j b hi) (j ∷ everySlots 
 unfoldable pub atomRows : ℕ → List Cell → List (Row Atom ℕ)
 atomRows o q = kindRows has o q ++ (kindRows lacks o q ++ (kindRows least o q ++ kindRows most o q))
 
--- ---- the jobs
-
--- further jobs, numbered from k on
-unfoldable pub laterEach : Queue ℕ → ℕ → List ℕ → Queue ℕ
-laterEach Q k [] = Q
-laterEach Q k (j ∷ js) = laterEach (later Q k j) (suc k) js
-
--- the jobs of n rows from row i on: the slot that each leads to, where 0 is none
-unfoldable pub jobsFrom : List ℕ → ℕ → ℕ → Queue ℕ
-jobsFrom below i zero = done
-jobsFrom below i (suc n) = cond (eqb (getD below i 0) 0) (jobsFrom below (suc i) n) (job i (getD below i 0) (jobsFrom below (suc i) n))
-
--- the slots js noted as those that rows from row k on lead to
-unfoldable pub noteEach : List ℕ → ℕ → List ℕ → List ℕ
-noteEach below k [] = below
-noteEach below k (j ∷ js) = noteEach (set below k j) (suc k) js
-
 -- ---- the tables of the walk
 
 -- the number that a cell lists with kind a, if any
@@ -103,10 +87,8 @@ unfoldable pub allRows : (ℕ → Bool → Option ℕ → Bool) → (ℕ → Lis
 allRows keep S = walk keep S 2018 1 (job 0 0 done)
 
 -- the rows are pushed onto the table of packed entries, which has `from` of them, and then has r
-pub record Pushed (rows : List ℕ) (from : ℕ) (L : List (Row Atom ℕ)) (rows′ : List ℕ) (r : ℕ) : Type 0 where
-  pub size : length rows′ ≡ 1008
-  pub total : r ≡ from + length L
-  pub held : take r rows′ ≡ take from rows ++ map rowNumber L
+abbrev pub Pushed : List ℕ → ℕ → List (Row Atom ℕ) → List ℕ → ℕ → Type 0
+Pushed rows from L rows′ r = Filled 1008 rows from (map rowNumber L) rows′ r
 
 -- numbers of slots, in a table of so many, whose places and bounds are small
 pub record Walkable (t z : List ℕ) (used : ℕ) : Type 0 where
@@ -121,9 +103,8 @@ unfoldable pub packedOf : ℕ → ℕ → ℕ → ℕ → ℕ
 packedOf kind owner name number = packed (record { kind = kind; reserved = 0; owner = owner; name = name; number = number })
 
 -- Rows are pushed as Pushed says; the places of the slots js follow, the first of them for row `at`.
-pub record Placing (rows : List ℕ) (from : ℕ) (L : List (Row Atom ℕ)) (below : List ℕ) (at : ℕ) (js : List ℕ) (rows′ : List ℕ) (r : ℕ) (below′ : List ℕ) : Type 0 where
-  pub pushed : Pushed rows from L rows′ r
-  pub noted : below′ ≡ noteEach below at js
+abbrev pub Placing : List ℕ → ℕ → List (Row Atom ℕ) → List ℕ → ℕ → List ℕ → List ℕ → ℕ → List ℕ → Type 0
+Placing rows from L below at js rows′ r below′ = Joined 1008 rows from (map rowNumber L) below at js rows′ r below′
 
 -- Row k is passed where it leads nowhere; else the rows of the place that it leads to are pushed.
 pub record Stepped (keep : ℕ → Bool → Option ℕ → Bool) (S : ℕ → List Cell) (k : ℕ) (rows : List ℕ) (count : ℕ) (below rows′ : List ℕ) (r : ℕ) (below′ : List ℕ) : Type 0 where

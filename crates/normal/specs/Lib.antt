@@ -6,6 +6,7 @@ pub mod Holds
 pub mod SpecimenTree
 pub mod Witness
 pub mod Layout
+pub mod Filling
 pub mod Slots
 pub mod Chain
 pub mod Sorted

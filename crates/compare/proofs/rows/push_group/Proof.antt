@@ -1,11 +1,11 @@
 -- `push_group` meets its contract.
 use borrow.Author.Needs.{needs}
-use Rattle.compare.proofs.RowLaws.{placed-one}
+use Rattle.normal.proofs.FillLaws.{joined-one}
 use Rattle.compare.proofs.rows.push_group.Statement.{statement}
 use Rattle.compare.proofs.rows.push_group.Tie as tie
 
 returns : tie.Need-returns
-returns c = placed-one (c .before .pre .0) (c .before .pre .1) (c .pack .ensures)
+returns c = joined-one (c .before .pre .0) (c .before .pre .1) (c .pack .ensures)
 
 pub push-group-spec : {M : Type 1} → statement M
 push-group-spec =

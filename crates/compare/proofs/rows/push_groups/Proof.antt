@@ -5,7 +5,8 @@ use lib.ListN.{length}
 use mathlib.Core.List.{List, map}
 use mathlib.Core.Path.{_∙_, _≡_, ap, sym}
 use native.Mathlib.Omega.{arith}
-use Rattle.compare.proofs.RowLaws.{groups-end, groups-next, placed-none}
+use Rattle.compare.proofs.RowLaws.{groups-end, groups-next}
+use Rattle.normal.proofs.FillLaws.{joined-none}
 use Rattle.compare.specs.Codes.{groupsFrom, specimenNumber}
 use Rattle.compare.specs.Laying.{Placed, codes, jointRows}
 use Rattle.compare.specs.Table.{entriesIn, placeBelow}
@@ -52,7 +53,7 @@ returns : tie.Need-returns Inv-loop μ-loop
 unfolding jointRows codes
 returns c =
     let l = c .before in
-    l .loop .inv .2 _ _ _ (rw (groups-end _ _ _ _ _ (c .loop-test .left)) (placed-none (l .loop .inv .0)))
+    l .loop .inv .2 _ _ _ (rw (groups-end _ _ _ _ _ (c .loop-test .left)) (joined-none (l .loop .inv .0)))
 
 pub push-groups-spec : {M : Type 1} → statement M
 push-groups-spec =

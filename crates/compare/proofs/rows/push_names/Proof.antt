@@ -5,7 +5,8 @@ use lib.ListN.{length}
 use mathlib.Core.List.{List, map}
 use mathlib.Core.Path.{_≡_}
 use native.Mathlib.Omega.{arith}
-use Rattle.compare.proofs.RowLaws.{names-end, names-first, pushed-more, pushed-none}
+use Rattle.compare.proofs.RowLaws.{names-end, names-first}
+use Rattle.normal.proofs.FillLaws.{filled-more, filled-none}
 use Rattle.compare.specs.Codes.{specimenNumber}
 use Rattle.compare.specs.Laying.{Pushed, leafRows}
 use Rattle.compare.specs.Table.{namesFrom}
@@ -35,14 +36,14 @@ loop-again c =
     let e = c .push-property .ensures in (
       e .size,
       omega (arith, e .total, t, l .loop .inv .1),
-      λ rows r p. l .loop .inv .2 rows r (rw (names-first _ _ _ t, ← c .before .before .name-in .ensures .0) (pushed-more e p)),
+      λ rows r p. l .loop .inv .2 rows r (rw (names-first _ _ _ t, ← c .before .before .name-in .ensures .0) (filled-more e p)),
     )
 
 returns : tie.Need-returns Inv-loop μ-loop
 unfolding leafRows
 returns c =
     let l = c .before in
-    l .loop .inv .2 _ _ (rw (names-end _ _ _ (c .loop-test .left)) (pushed-none (l .loop .inv .0)))
+    l .loop .inv .2 _ _ (rw (names-end _ _ _ (c .loop-test .left)) (filled-none (l .loop .inv .0)))
 
 pub push-names-spec : {M : Type 1} → statement M
 push-names-spec =

@@ -1,11 +1,11 @@
 -- `push_property` meets its contract.
 use borrow.Author.Needs.{needs}
-use Rattle.compare.proofs.RowLaws.{pushed-one}
+use Rattle.normal.proofs.FillLaws.{filled-one}
 use Rattle.compare.proofs.rows.push_property.Statement.{statement}
 use Rattle.compare.proofs.rows.push_property.Tie as tie
 
 returns : tie.Need-returns
-returns c = pushed-one (c .before .pre .0) (c .before .pre .1) (c .pack .ensures)
+returns c = filled-one (c .before .pre .0) (c .before .pre .1) (c .pack .ensures)
 
 pub push-property-spec : {M : Type 1} → statement M
 push-property-spec =

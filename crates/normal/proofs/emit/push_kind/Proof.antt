@@ -7,8 +7,8 @@ use mathlib.Core.Path.{_∙_, _≡_, sym}
 use native.Mathlib.Omega.{arith}
 use Rattle.fit.specs.Description.{kindOf}
 use Rattle.normal.proofs.PushLaws.{Pushing, kinds-more, kinds-none, kinds-room, pushing-done, pushing-more, pushing-room, pushing-start, run-ends, run-stops}
-use Rattle.normal.specs.Emitted.{kindRows}
-use Rattle.normal.specs.Ordered.{runFrom, tagPlace}
+use Rattle.normal.specs.Emitted.{cellName, cellValue, kindRows, rowsIf}
+use Rattle.normal.specs.Ordered.{runFrom, tagCell, tagPlace}
 use Rattle.normal.proofs.emit.push_kind.Statement.{statement}
 use Rattle.normal.proofs.emit.push_kind.Tie as tie
 
@@ -42,7 +42,8 @@ loop-again c =
     let b : l .loop .i < a .args .used = omega (arith, c .before .before .before .before .before .if1 .left) in
     let p : tagPlace (getD (a .args .order .now) (l .loop .i) 0) ≡ a .args .v = sym (c .before .before .before .tag-place .ensures) ∙ c .before .before .if2 .left in
     let r = kinds-more (kindOf (a .args .kind)) (a .args .owner) (a .args .table .now) (a .args .order .now) (a .args .v) (l .loop .i) (a .args .used) b p in
-    (omega (arith, b), pushing-more (l .loop .inv .1) r (c .push-atom .ensures))
+    let x = tagCell (a .args .table .now) (getD (a .args .order .now) (l .loop .i) 0) in
+    (omega (arith, b), pushing-more (rowsIf (kindOf (a .args .kind)) (a .args .owner) (cellName x) (cellValue (kindOf (a .args .kind)) x)) (l .loop .inv .1) r (c .push-atom .ensures))
 
 returns-2 : tie.Need-returns-2 Inv-loop μ-loop
 returns-2 c =

@@ -8,8 +8,7 @@ use Rattle.blocks.proofs.Accepting.{none-of-accepted, sound-of-accepted}
 use Rattle.blocks.proofs.Faithful.{entries-limit}
 use Rattle.blocks.specs.declared.Schema.the-variants.{Description}
 use Rattle.normal.proofs.AnswerLaws.{refused-output, too-short}
-use Rattle.normal.proofs.NormalWritten.{accepted-owned, rows-written}
-use Rattle.normal.proofs.PassOrder.{rows-few}
+use Rattle.normal.proofs.NormalWritten.{accepted-owned, rows-most, rows-written}
 use Rattle.normal.proofs.output.write_normal.Statement.{statement}
 use Rattle.normal.proofs.output.write_normal.Tie as tie
 
@@ -31,7 +30,7 @@ cast-t14 c =
     let a = c .before .before .before .before .before .before .before .before .before .before in
     let N = c .before .before .before .before .before .normal-rows .ensures in
     let few = entries-limit (sound-of-accepted Description 1 (a .args .d .now) (a .pre) .blocks) in
-    omega (arith, N .pushed .total, rows-few (a .args .d .now) (omega (arith, few)))
+    omega (arith, rows-most (a .args .d .now) _ _ (omega (arith, few)) N)
 
 returns-2 : tie.Need-returns-2
 returns-2 c =

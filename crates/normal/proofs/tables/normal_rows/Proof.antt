@@ -6,10 +6,8 @@ use mathlib.Core.List.{[]}
 use mathlib.Core.Path.{refl}
 use native.Mathlib.Omega.{arith}
 use Rattle.blocks.specs.Entries.{entriesOf, packed}
-use Rattle.fit.specs.Description.{atom, nothing}
-use Rattle.fit.specs.Tree.{leafRow}
 use Rattle.normal.proofs.PassOrder.{rows-alive, rows-bottom, rows-few, settled-walkable}
-use Rattle.normal.proofs.PushLaws.{pushed-anew, pushed-one}
+use Rattle.normal.proofs.FillLaws.{filled-anew, filled-one}
 use Rattle.normal.proofs.tables.normal_rows.Statement.{statement}
 use Rattle.normal.proofs.tables.normal_rows.Tie as tie
 
@@ -18,7 +16,7 @@ unfolding packed
 returns c =
     let s = c .before .settled-slots .ensures in
     let a = c .before .before .before .before .before .before in
-    record { pushed = rw (rows-bottom s (c .if1 .taken)) (pushed-anew {a = a .args .rows .now} [] (pushed-one {r = leafRow 0 (atom nothing 0 0)} (a .pre .3) (omega arith) refl)); bounded = s .bounded }
+    record { pushed = rw (rows-bottom s (c .if1 .taken)) (filled-anew {a = a .args .rows .now} [] (filled-one (a .pre .3) (omega arith) refl)); bounded = s .bounded }
 
 ordered-rows-requires : tie.Need-ordered-rows-requires
 ordered-rows-requires c κs =
