@@ -1,7 +1,7 @@
 // Fitting a place and meeting an entry, which call each other. Each pair of a group and a place is come to at most once, by the pair of
 // their owners, and costs a look in a bucket for each entry of the place. All groups' looks for one entry go over each entry of the
-// specimen at most once; so the whole costs at most the product of the two inputs' numbers of entries, 2,016 · 1,008 steps of some
-// nanoseconds each, and far less where groups are few or have places of their own. A level of depth takes two frames of the stack.
+// specimen at most once. So the time grows at most with the product of the two inputs' numbers of entries, 2,016 · 1,008, at some
+// nanoseconds each, and is far less where groups are few or have places of their own. A level of depth takes two frames of the stack.
 ghost use mathlib.Core.Path.{_≡_};
 ghost use Prim.Native.Nat.{_≤_, _<_};
 ghost use Rattle.blocks.specs.Entries.{entriesOf};
