@@ -33,8 +33,7 @@ bucket-below Specimen es k O lo hi few = hash-below (ownerOf es k) (nth es k .ki
 -- the bucket of the entry that was read is that of entry k
 pub bucket-read : (σ : Schema) (es : List Entry) (k : ℕ) {e : Entry} {b : ℕ} → e ≡ nth es k → b ≡ bucketIn σ e → b ≡ bucketOf σ es k
 unfolding ownerOf
-bucket-read Description es k a h = h ∙ ap (λ (x : Entry). x .owner) a
-bucket-read Specimen es k a h = h ∙ ap (λ (x : Entry). hashOf (x .owner) (x .kind) (x .name)) a
+bucket-read σ es k a h = h ∙ ap (bucketIn σ) a
 
 -- ---- the entries of an owner that matter stand in one bucket
 

@@ -21,15 +21,17 @@ isOf e g kind name = eqb (e .owner) g && (eqb (e .kind) kind && eqb (e .name) na
 unfoldable pub hashOf : ℕ → ℕ → ℕ → ℕ
 hashOf o k n = (o + (8 * n + k)) % 2017
 
--- the bucket of an entry: in a description its owner alone
-abbrev pub bucketIn : Schema → Entry → ℕ
-bucketIn Description e = e .owner
-bucketIn Specimen e = hashOf (e .owner) (e .kind) (e .name)
+-- the bucket of an entry with this owner, kind and name: in a description its owner alone
+abbrev pub bucketBy : Schema → ℕ → ℕ → ℕ → ℕ
+bucketBy Description o k n = o
+bucketBy Specimen o k n = hashOf o k n
 
--- the bucket of entry k
+-- the bucket of an entry, and that of entry k
+abbrev pub bucketIn : Schema → Entry → ℕ
+bucketIn σ e = bucketBy σ (e .owner) (e .kind) (e .name)
+
 abbrev pub bucketOf : Schema → List Entry → ℕ → ℕ
-bucketOf Description es k = ownerOf es k
-bucketOf Specimen es k = hashOf (ownerOf es k) (nth es k .kind) (nth es k .name)
+bucketOf σ es k = bucketBy σ (ownerOf es k) (nth es k .kind) (nth es k .name)
 
 -- the last of the first n entries whose bucket, as c gives it, is b; or 0
 unfoldable pub lastWhere : (ℕ → ℕ) → ℕ → ℕ → ℕ

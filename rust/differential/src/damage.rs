@@ -1,9 +1,9 @@
 //! Bytes with one fault or several, for refusals 1 to 6.
 
+use reference::notation::entry;
 use reference::{encode, Entry};
 
 use crate::chance::Chance;
-use crate::draw::entry;
 use crate::{word, BLOCK, BLOCK_ENTRIES, MOST_DESCRIPTION, MOST_SPECIMEN};
 
 /// The two sorts of input.

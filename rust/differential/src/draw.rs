@@ -1,5 +1,6 @@
 //! Accepted descriptions and specimens of many shapes.
 
+use reference::notation::entry;
 use reference::Entry;
 
 use crate::chance::Chance;
@@ -246,17 +247,6 @@ fn grown(
         });
     }
     growing.entries
-}
-
-/// An entry.
-pub fn entry(kind: u8, owner: u16, name: u16, number: u16) -> Entry {
-    Entry {
-        kind,
-        zero: 0,
-        owner,
-        name,
-        number,
-    }
 }
 
 fn link(chance: &mut Chance, shape: &Shape) -> u16 {

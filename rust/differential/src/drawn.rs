@@ -2,11 +2,12 @@
 
 use std::collections::BTreeMap;
 
+use reference::notation::entry;
 use reference::{encode, Comparison, Entry};
 
 use crate::chance::Chance;
 use crate::damage::{damaged, Sort};
-use crate::draw::{self, entry, Shape};
+use crate::draw::{self, Shape};
 use crate::vectors::{Answer, Vector, MOST_LENGTH};
 use crate::{length_of, pairs, BLOCK, MOST_DESCRIPTION, MOST_SPECIMEN};
 

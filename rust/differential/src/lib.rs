@@ -16,7 +16,6 @@
 //! | [`vectors`] | calls with their bytes, and the line that the reference gives for each |
 //! | [`named`] | vectors of the paper's cases and of the report's examples |
 //! | [`drawn`] | drawn vectors, so many of each sort of answer |
-//! | [`notation`] | the notation of the paper's examples |
 
 #![forbid(unsafe_code)]
 #![deny(missing_docs)]
@@ -27,7 +26,6 @@ pub mod damage;
 pub mod draw;
 pub mod drawn;
 pub mod named;
-pub mod notation;
 pub mod pairs;
 pub mod rounds;
 pub mod small;

@@ -1,10 +1,9 @@
 //! Vectors of the paper's cases and of the examples that the report prints.
 
+use reference::notation::{blocks, entry};
 use reference::{encode, Entry};
 
 use crate::damage::seal;
-use crate::draw::entry;
-use crate::notation::blocks;
 use crate::vectors::Vector;
 use crate::{BLOCK, MOST_DESCRIPTION, MOST_SPECIMEN};
 

@@ -1,9 +1,9 @@
 //! Descriptions made from others: weaker, in another order, wrong by one entry.
 
+use reference::notation::entry;
 use reference::Entry;
 
 use crate::chance::Chance;
-use crate::draw::entry;
 use crate::{word, MOST_DEPTH, MOST_DESCRIPTION};
 
 /// A description that every item fits which fits this one: entries are left out, weakened or divided, and some that say nothing

@@ -3,6 +3,7 @@
 use std::collections::BTreeMap;
 use std::fmt;
 
+use reference::notation::entry;
 use reference::{encode, Entry};
 
 use crate::agree::{self, Answer, Difference};
@@ -213,7 +214,7 @@ impl Rounds {
     /// A specimen whose top item fits the description, if there is one: the one that shows that it is not contained in 'nothing
     /// fits'.
     fn specimen_for(&mut self, d: &[Entry]) -> Vec<Entry> {
-        let (d, nothing) = (encode(d), encode(&[draw::entry(6, 0, 0, 0)]));
+        let (d, nothing) = (encode(d), encode(&[entry(6, 0, 0, 0)]));
         let mut out = vec![0; d.len() + nothing.len()];
         let entries = match goltximen::compare(&d, &nothing, &mut out) {
             Ok(goltximen::Comparison::NotContained { entries, .. }) => usize::from(entries),
@@ -354,7 +355,7 @@ fn changed(chance: &mut Chance, s: &[Entry]) -> Vec<Entry> {
             let more = *e;
             s.push(more);
         }
-        None => s.push(draw::entry(1, 0, 1, 0)),
+        None => s.push(entry(1, 0, 1, 0)),
     }
     s
 }

@@ -1,11 +1,11 @@
 //! Small records, to look for an item by trying all. They have cycles, and items that are linked to by several.
 
+use reference::notation::entry;
 use reference::record::{fits, specimen_record, Record};
 use reference::{encode, Entry, Link, Property};
 
 use crate::agree::{found, Answer, Difference};
 use crate::chance::Chance;
-use crate::draw::entry;
 
 /// How many items, properties and links a record has.
 #[derive(Clone, Copy, Debug)]

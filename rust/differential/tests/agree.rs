@@ -3,10 +3,11 @@
 use differential::agree::{self, Answer, Difference};
 use differential::chance::Chance;
 use differential::damage::{framed, seal, Sort};
-use differential::draw::{self, entry, Shape};
+use differential::draw::{self, Shape};
 use differential::rounds::{Found, Rounds};
 use differential::small::{confirm, tiny_descriptions, Pool, Size};
 use differential::{length_of, BLOCK, MOST_DEPTH};
+use reference::notation::entry;
 use reference::{encode, Entry};
 
 /// Makes so many rounds, each with its own seed, and gives what was counted.

@@ -5,13 +5,12 @@ use std::collections::{BTreeMap, BTreeSet};
 
 use differential::agree;
 use differential::chance::Chance;
-use differential::draw::entry;
-use differential::notation::{blocks, entries};
 use differential::vectors::{
     all, digest, standard_input, standard_output, Answer, Call, Vector, FILL, MOST_LENGTH,
     MOST_VECTORS,
 };
 use differential::{drawn, named};
+use reference::notation::{blocks, entry};
 use reference::{encode, Entry};
 
 /// A file of the crate that reads the vectors.
@@ -187,22 +186,6 @@ fn the_library_agrees() {
             panic!("vector {number}: {difference}");
         }
     }
-}
-
-#[test]
-fn the_notation() {
-    assert_eq!(entries(""), []);
-    assert_eq!(
-        entries("5,1 [5,2 [6]; 3,2,1]; 5,1 []; 1,9"),
-        [
-            entry(5, 0, 1, 0),
-            entry(5, 1, 2, 0),
-            entry(6, 2, 0, 0),
-            entry(3, 1, 2, 1),
-            entry(5, 0, 1, 0),
-            entry(1, 0, 9, 0),
-        ]
-    );
 }
 
 #[test]

@@ -5,7 +5,7 @@
 //! works on trees of places, then writes its answer as blocks. Comments in
 //! quotation marks are sentences of that paper.
 //!
-//! No call panics, whatever bytes it is given.
+//! No call panics, whatever bytes it is given. [`notation`] is for tests.
 
 #![forbid(unsafe_code)]
 #![warn(missing_docs)]
@@ -13,6 +13,7 @@
 mod blocks;
 mod compare;
 mod normal;
+pub mod notation;
 mod order;
 mod program;
 mod reading;
