@@ -18,8 +18,6 @@ pub mod BlockLaws
 pub mod LevelLaws
 pub mod Legal
 pub mod ReadingLaws
-pub mod WritingLaws
 pub mod Accepting
 pub mod ByNumber
-pub mod HeldLaws
 pub mod Examples

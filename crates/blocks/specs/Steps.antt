@@ -1,7 +1,7 @@
 -- The steps of the passes over blocks and entries, as the code takes them. No public promise names them: proofs/ ties them to
 -- the table of refusals and to the encoding.
 -- Assumes nothing.
-use Prim.Native.Nat.{_*_, _+_, _-_, _/_, min, suc, zero, ℕ}
+use Prim.Native.Nat.{_+_, _/_, suc, zero, ℕ}
 use lib.Dec.{eqb, ltb}
 use lib.ListN.{getD, length}
 use mathlib.Core.Bool.{cond}
@@ -16,10 +16,6 @@ use Rattle.blocks.specs.declared.Schema.{Schema}
 -- the row that block i of n breaks, 2 before 3, or 0
 unfoldable pub blockRow : List ℕ → ℕ → ℕ → ℕ
 blockRow s n i = cond (checkWrong plain s i) 2 (cond (frameWrong plain s n i) 3 0)
-
--- the entries that block i uses, of `count`
-unfoldable pub usedFor : ℕ → ℕ → ℕ
-usedFor count i = min 63 (count - 63 * i)
 
 -- the blocks of an input whose length row 1 allows, or 0
 unfoldable pub blocksRead : Schema → List ℕ → ℕ

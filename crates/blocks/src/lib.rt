@@ -1,30 +1,22 @@
 // Blocks: the laboratory's own format. Bytes are read as entries, by number and straight from the lent blocks, or refused by
-// the first row of the table of refusals that applies; and entries are written as blocks. Nothing here knows what an entry
-// says of an item.
+// the first row of the table of refusals that applies. Nothing here knows what an entry says of an item.
 //
 // The contracts cite specs/: Words, Frame, Entries, Owners, Faults, Reading and Encoding. What those definitions mean together,
 // as that reading undoes writing, is proved in proofs/.
 mod entries;
 mod frame;
-mod held;
 mod reader;
 mod rules;
 mod words;
-mod writer;
 
 pub use entries::nth_entry;
 pub use entries::pack;
-pub use held::Entries;
-pub use held::entries_of;
-pub use held::read_entry;
-pub use held::total_read;
 pub use reader::read;
 pub use reader::read_description;
 pub use reader::read_specimen;
 pub use words::byte;
+pub use words::check_at;
 pub use words::word;
-pub use writer::blocks_for;
-pub use writer::write_entries;
 
 // A property's number. Properties and links are numbered apart, so each has a type of its own.
 pub struct Property(pub u16);

@@ -49,3 +49,16 @@ pub(crate) fn block_check(s: &[u8], at: usize) -> u16
     }
     sum
 }
+
+// The check of the block that starts at an index, for other crates: 0 where fewer than 510 bytes stand there.
+pub fn check_at(s: &[u8], at: usize) -> u16
+    ensures { λ r. ⌜ (at + 510 ≤ length (now (s .entry)) → r ≡ checkOf (now (s .entry)) at) ⌝ }
+{
+    if s.len() < 510 {
+        return 0;
+    }
+    if s.len() - 510 < at {
+        return 0;
+    }
+    block_check(s, at)
+}

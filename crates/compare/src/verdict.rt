@@ -37,7 +37,7 @@ fn write_specimen(
     let e = blocks::nth_entry(d, total, n);
     let mut rows = [0u64; 2016];
     let count = specimen_rows(&form, k, &links, m, e, &mut rows);
-    blocks::write_entries(out, &rows, count);
+    writing::write_entries(out, &rows, count);
     Comparison::NotContained(n as u16, count as u16)
 }
 
@@ -46,13 +46,13 @@ fn show(c: &[u8], d: &[u8], n: usize, out: &mut [u8]) -> Comparison
     requires { ⌜ Denied (now c) (now d) n (now out) ⌝ }
     ensures { λ r. ⌜ (r ≡ compareOf (now (c .entry)) (now (d .entry)) (now (out .entry))) × (now (out .exit) ≡ outputOf (now (c .entry)) (now (d .entry)) (now (out .entry))) ⌝ }
 {
-    let total = blocks::total_read(d, Schema::Description);
+    let total = lent::total_read(d, Schema::Description);
     let mut blocks = [0u8; 8192];
     let answer = normal::normalise(c, &mut blocks);
     match answer {
         NormalAnswer::Refused(number, input, place) => Comparison::Refused(number, input, place),
         NormalAnswer::Normalised(k) => {
-            let size = 512 * blocks::blocks_for(k as usize);
+            let size = 512 * writing::blocks_for(k as usize);
             write_specimen(&blocks[0..size], k as usize, d, total, n, out)
         }
     }

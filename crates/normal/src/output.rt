@@ -17,7 +17,7 @@ fn write_normal(d: &[u8], total: usize, out: &mut [u8]) -> NormalAnswer
     }
     let mut rows = [0u64; 1008];
     let count = normal_rows(d, total, &mut rows);
-    blocks::write_entries(out, &rows, count);
+    writing::write_entries(out, &rows, count);
     NormalAnswer::Normalised(count as u16)
 }
 
