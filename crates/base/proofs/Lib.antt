@@ -7,3 +7,4 @@ pub mod Cases
 pub mod Fronts
 pub mod Parts
 pub mod Elements
+pub mod SortedLaws

@@ -1,2 +1,4 @@
 pub mod Range
 pub mod Stores
+pub mod Search
+pub mod Sorted

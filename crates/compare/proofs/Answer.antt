@@ -33,10 +33,10 @@ use Rattle.compare.specs.Answer.{compareOf, failing, outputAfter, output
 use Rattle.compare.specs.declared.Comparison.the-variants.{Contained, NotContained, Refused}
 use Rattle.fit.proofs.AnswerLaws.{first-accepted, second-no, second-yes}
 use Rattle.fit.specs.Answer.{fitOf, topFits}
-use Rattle.fit.specs.Background.{unrestricted}
 use Rattle.fit.specs.Description.{placeOf}
-use Rattle.fit.specs.Record.{Record, fits}
 use Rattle.fit.specs.declared.FitAnswer.the-variants.{No, Yes}
+use Rattle.logic.specs.Background.{unrestricted}
+use Rattle.logic.specs.Record.{Record, fits}
 
 -- every item that fits C fits D, in every finite record
 abbrev pub WithinAll : List ℕ → List ℕ → Type 0

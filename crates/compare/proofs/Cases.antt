@@ -9,6 +9,7 @@ use mathlib.Core.Logic.{⊎-elim}
 use mathlib.Core.Path.{_∙_, _≡_, ap, refl}
 use native.Mathlib.Omega.{arith}
 use Rattle.base.proofs.Tests.{leb-le, or-right}
+use Rattle.base.specs.Search.{firstFrom}
 use Rattle.blocks.proofs.Accepting.{encoded-accepted}
 use Rattle.blocks.proofs.Decoding.{decode-encode}
 use Rattle.blocks.proofs.FirstFault.{clean-none}
@@ -22,21 +23,21 @@ use Rattle.blocks.specs.declared.Entry.{Entry}
 use Rattle.blocks.specs.declared.Finding.the-variants.{Clean}
 use Rattle.blocks.specs.declared.Schema.the-variants.{Description}
 use Rattle.compare.proofs.AnswerLaws.{Comparable, compared, verdict-contained}
-use Rattle.normal.proofs.FirstLaws.{none-failing}
 use Rattle.compare.specs.Answer.{compareOf, failing, normalOf, outputAfter, outputOf, specimenOf, verdict}
 use Rattle.compare.specs.Cases.{Line, Outcome, compares, impossible, inside, lines, normalises, outside}
-use Rattle.normal.specs.First.{entryHolds, firstFailing}
 use Rattle.compare.specs.Specimen.{specimenEntries, specimenFor}
 use Rattle.compare.specs.declared.Comparison.{Comparison}
 use Rattle.compare.specs.declared.Comparison.the-variants.{Contained, NotContained}
-use Rattle.fit.specs.Background.{unrestricted}
-use Rattle.fit.specs.Description.{kindOf, linksTo, linksUp, placeOf, rowOf}
-use Rattle.fit.specs.Tree.{tree}
-use Rattle.normal.specs.Holds.{holds, holdsAt}
-use Rattle.normal.specs.Layout.{later, lay, weight, write}
-use Rattle.normal.specs.Normal.{add, bottom, excluded, fill, find, insert, isBottom, nf, put, putEvery, remove, removeEvery, removeLacks, sub, within}
-use Rattle.normal.specs.Search.{firstFrom}
-use Rattle.normal.specs.Witness.{below, build, groupsBy, member, names, once, path, putAscending, withProperties, witness}
+use Rattle.fit.specs.Description.{linksTo, linksUp, placeOf, rowOf}
+use Rattle.logic.specs.Background.{unrestricted}
+use Rattle.logic.specs.Holds.{holds, holdsAt}
+use Rattle.logic.specs.Layout.{later, lay, weight, write}
+use Rattle.logic.specs.Normal.{add, bottom, excluded, fill, find, insert, isBottom, nf, put, putEvery, remove, removeEvery, removeLacks, sub, within}
+use Rattle.logic.specs.Place.{kindOf}
+use Rattle.logic.specs.Tree.{tree}
+use Rattle.logic.specs.Witness.{below, build, groupsBy, member, names, once, path, putAscending, withProperties, witness}
+use Rattle.normal.proofs.FirstLaws.{none-failing}
+use Rattle.normal.specs.First.{entryHolds, firstFailing}
 
 -- ---- what a line says
 

@@ -7,10 +7,10 @@ use mathlib.Core.Path.{_∙_, _≡_, ap, refl}
 use native.Mathlib.Nat.{add-zero}
 use native.Mathlib.Omega.{arith}
 use Rattle.compare.specs.Laying.{Joint, codes, joint, jointRows, joints, leafRows, leaves}
-use Rattle.fit.specs.Tree.{Row, Tree, leafRow, nodeRow}
-use Rattle.normal.proofs.LayoutLaws.{load, load-later}
+use Rattle.logic.proofs.LayoutLaws.{load, load-later}
+use Rattle.logic.specs.Layout.{Queue, done, job, later, lay, weight}
+use Rattle.logic.specs.Tree.{Row, Tree, leafRow, nodeRow}
 use Rattle.normal.specs.Filling.{laterEach}
-use Rattle.normal.specs.Layout.{Queue, done, job, later, lay, weight}
 
 -- ---- one code for each node
 

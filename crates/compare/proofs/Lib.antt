@@ -8,16 +8,12 @@ pub mod PlaceLaws
 pub mod SpecimenWalk
 pub mod TablePlaces
 pub mod SpecimenPlaces
-pub mod IncreasingNames
 pub mod WordNames
 pub mod NameSpans
 pub mod GroupSpans
 pub mod Contained
 pub mod SpecimenRecord
 pub mod SpecimenKeeps
-pub mod WitnessSize
-pub mod WitnessLevels
-pub mod WitnessFields
 pub mod LinkPaths
 pub mod PathLaws
 pub mod TargetLaws

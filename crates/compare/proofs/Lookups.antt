@@ -17,10 +17,11 @@ use Rattle.blocks.specs.declared.Entry.{Entry}
 use Rattle.blocks.specs.declared.Schema.the-variants.{Description}
 use Rattle.compare.specs.Table.{entryFor, firstMatch, placeBelow}
 use Rattle.fit.proofs.Places.{early-rows, tree-skip}
-use Rattle.fit.specs.Description.{Kind, has, kindOf, lacks, least, most, nothing, placeOf, rowOf}
-use Rattle.fit.specs.Tree.{Early, end, tree}
+use Rattle.fit.specs.Description.{placeOf, rowOf}
+use Rattle.logic.specs.Normal.{find, rank, sub}
+use Rattle.logic.specs.Place.{Kind, has, kindOf, lacks, least, most, nothing}
+use Rattle.logic.specs.Tree.{Early, end, tree}
 use Rattle.normal.proofs.HoldingLaws.{form-kind}
-use Rattle.normal.specs.Normal.{find, rank, sub}
 
 -- ---- the first entry that matches
 

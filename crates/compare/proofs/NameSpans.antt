@@ -11,15 +11,16 @@ use Rattle.blocks.specs.Entries.{nth}
 use Rattle.blocks.specs.declared.Entry.{Entry}
 use Rattle.blocks.specs.declared.Schema.the-variants.{Description}
 use Rattle.compare.proofs.Lookups.{kind-range}
-use Rattle.compare.proofs.IncreasingNames.{Increasing, all-around, all-increasing, kind-increasing, kindNames, names-all, onceAll}
 use Rattle.compare.proofs.TablePlaces.{places-normal}
 use Rattle.compare.proofs.WordNames.{each-name, names-own, names-parts, own-span}
 use Rattle.compare.specs.Table.{Narrow, Ranked, Table, keyOf, nameIn, namesFrom, numberIn, wordOf}
-use Rattle.fit.specs.Background.{unrestricted}
-use Rattle.fit.specs.Description.{Kind, Place, has, lacks, least, most, nothing, placeOf}
-use Rattle.normal.specs.Canonical.{Ascending, Canonical, canonical}
-use Rattle.normal.specs.Normal.{rank}
-use Rattle.normal.specs.Witness.{names}
+use Rattle.fit.specs.Description.{placeOf}
+use Rattle.logic.proofs.IncreasingNames.{Increasing, all-around, all-increasing, kind-increasing, kindNames, names-all, onceAll}
+use Rattle.logic.specs.Background.{unrestricted}
+use Rattle.logic.specs.Canonical.{Ascending, Canonical, canonical}
+use Rattle.logic.specs.Normal.{rank}
+use Rattle.logic.specs.Place.{Kind, Place, has, lacks, least, most, nothing}
+use Rattle.logic.specs.Witness.{names}
 
 -- ---- the table
 

@@ -8,6 +8,7 @@ use mathlib.Core.List.{List, [], _∷_}
 use mathlib.Core.Path.{_≡_}
 use native.Mathlib.Omega.{arith}
 use Rattle.base.proofs.Tests.{and-left, and-right, or-cases, tests}
+use Rattle.base.specs.Sorted.{AllAfter, Sorted}
 use Rattle.blocks.proofs.Legal.{Legal, owner-earlier}
 use Rattle.blocks.specs.Entries.{Bounded, nth, zeroEntry}
 use Rattle.blocks.specs.Owners.{ownerOf}
@@ -15,19 +16,18 @@ use Rattle.blocks.specs.declared.Entry.{Entry}
 use Rattle.blocks.specs.declared.Schema.the-variants.{Description}
 use Rattle.compare.proofs.Lookups.{kind-range}
 use Rattle.compare.specs.Table.{Narrow, Table, Unpacked, wordOf}
-use Rattle.fit.proofs.Kept.{lawful-unrestricted}
-use Rattle.fit.specs.Background.{unrestricted}
 use Rattle.fit.specs.Description.{placeOf}
-use Rattle.normal.proofs.Normal.{alive}
+use Rattle.logic.proofs.Kept.{lawful-unrestricted}
+use Rattle.logic.proofs.Normal.{alive}
+use Rattle.logic.proofs.Plain.{plain-normal}
+use Rattle.logic.specs.Background.{unrestricted}
+use Rattle.logic.specs.Canonical.{Canonical}
+use Rattle.logic.specs.Normal.{before, isBottom}
 use Rattle.normal.proofs.NormalAscends.{normal-ascends}
 use Rattle.normal.proofs.NormalEntries.{normal-fewer, normal-place}
 use Rattle.normal.proofs.NormalLegal.{normal-legal}
-use Rattle.normal.proofs.Plain.{plain-normal}
 use Rattle.normal.specs.Answer.{normalEntries}
-use Rattle.normal.specs.Canonical.{Canonical}
-use Rattle.normal.specs.Normal.{before, isBottom}
 use Rattle.normal.specs.Rows.{entryBefore}
-use Rattle.normal.specs.Sorted.{AllAfter, Sorted}
 use Rattle.sorting.specs.Sorted.{sorted}
 
 -- ---- words that ascend

@@ -16,29 +16,30 @@ use Rattle.blocks.specs.Entries.{nth}
 use Rattle.blocks.specs.declared.Entry.{Entry}
 use Rattle.blocks.specs.declared.Schema.the-variants.{Description, Specimen}
 use Rattle.compare.proofs.Contained.{failing-kind}
-use Rattle.normal.proofs.FirstLaws.{failing-least}
 use Rattle.compare.proofs.SpecimenKeeps.{specimen-keeps}
 use Rattle.compare.proofs.SpecimenLegal.{shown-bounded, shown-legal, shown-length}
 use Rattle.compare.proofs.SpecimenRecord.{specimen-fits}
 use Rattle.compare.specs.Answer.{failing, normalOf, specimenOf}
-use Rattle.normal.specs.First.{entryHolds, firstFailing}
 use Rattle.compare.specs.Specimen.{specimenFor}
-use Rattle.fit.proofs.Kept.{lawful-unrestricted}
 use Rattle.fit.proofs.Paths.{fits-paths}
-use Rattle.fit.specs.Background.{Background, Keeps, LawfulBackground}
-use Rattle.fit.specs.Description.{Atom, Place, atomOf, linksTo, placeOf}
-use Rattle.fit.specs.Record.{fits}
+use Rattle.fit.specs.Description.{atomOf, linksTo, placeOf}
 use Rattle.fit.specs.Specimen.{recordOf}
-use Rattle.normal.proofs.Normal.{alive, nf-normal}
-use Rattle.normal.proofs.Sound.{nf-sound}
-use Rattle.normal.proofs.TreeRecord.{top-along, top-below, top-fits, tree-keeps, treeRecord}
-use Rattle.normal.proofs.Witness.{witness-fits, witness-refutes}
-use Rattle.normal.proofs.WitnessKeeps.{witness-keeps}
-use Rattle.normal.specs.Canonical.{Canonical}
-use Rattle.normal.specs.Holds.{holds, holdsAt}
-use Rattle.normal.specs.Normal.{isBottom, nf}
-use Rattle.normal.specs.SpecimenTree.{SpecimenTree, fitsTop}
-use Rattle.normal.specs.Witness.{on, witness}
+use Rattle.logic.proofs.Kept.{lawful-unrestricted}
+use Rattle.logic.proofs.Normal.{alive, nf-normal}
+use Rattle.logic.proofs.Sound.{nf-sound}
+use Rattle.logic.proofs.TreeRecord.{top-along, top-below, top-fits, tree-keeps, treeRecord}
+use Rattle.logic.proofs.Witness.{witness-fits, witness-refutes}
+use Rattle.logic.proofs.WitnessKeeps.{witness-keeps}
+use Rattle.logic.specs.Background.{Background, Keeps, LawfulBackground}
+use Rattle.logic.specs.Canonical.{Canonical}
+use Rattle.logic.specs.Holds.{holds, holdsAt}
+use Rattle.logic.specs.Normal.{isBottom, nf}
+use Rattle.logic.specs.Place.{Atom, Place}
+use Rattle.logic.specs.Record.{fits}
+use Rattle.logic.specs.SpecimenTree.{SpecimenTree, fitsTop}
+use Rattle.logic.specs.Witness.{on, witness}
+use Rattle.normal.proofs.FirstLaws.{failing-least}
+use Rattle.normal.specs.First.{entryHolds, firstFailing}
 
 -- a specimen, as entries, that is accepted and whose top item fits C and does not fit D
 pub record Shown (c d sp : List Entry) : Type 0 where

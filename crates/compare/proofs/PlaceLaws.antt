@@ -8,15 +8,15 @@ use mathlib.Core.Path.{_∙_, _≡_, ap, sym}
 use native.Mathlib.Omega.{arith}
 use Rattle.base.proofs.Tests.{eq-cases, ne-eqb}
 use Rattle.blocks.specs.declared.Entry.{Entry}
-use Rattle.normal.proofs.FillLaws.{joined-after}
 use Rattle.compare.proofs.SpanLaws.{around-none, leaf-numbers}
 use Rattle.compare.proofs.WalkingLaws.{numbers-length}
 use Rattle.compare.specs.Codes.{Writable, askedBy, groupsWith, jointsBy, leastFor, specimenNumber, targetAt, targetBelow, upFrom}
 use Rattle.compare.specs.Laying.{Joint, Placed, Pushed, codes, joint, jointRows, leafRows, placeNumbers}
 use Rattle.compare.specs.Table.{around, entriesIn, nameOr, placeBelow}
 use Rattle.fit.specs.Description.{atomOf}
-use Rattle.normal.specs.SpecimenTree.{Group, group}
-use Rattle.normal.specs.Witness.{targetLinks, want}
+use Rattle.logic.specs.SpecimenTree.{Group, group}
+use Rattle.logic.specs.Witness.{targetLinks, want}
+use Rattle.normal.proofs.FillLaws.{joined-after}
 
 -- ---- what the target asks for
 

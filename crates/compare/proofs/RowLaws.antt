@@ -11,9 +11,9 @@ use Rattle.blocks.specs.declared.Entry.{Entry}
 use Rattle.compare.specs.Codes.{groupsFrom, specimenNumber}
 use Rattle.compare.specs.Laying.{Joint, Placed, codes, joint, jointRows}
 use Rattle.compare.specs.Table.{nameIn, namesFrom, numberIn, placeBelow}
-use Rattle.fit.specs.Tree.{nodeRow}
+use Rattle.logic.specs.SpecimenTree.{Group, group}
+use Rattle.logic.specs.Tree.{nodeRow}
 use Rattle.normal.proofs.FillLaws.{joined-more}
-use Rattle.normal.specs.SpecimenTree.{Group, group}
 
 -- ---- the words of a span
 

@@ -20,14 +20,14 @@ use Rattle.compare.proofs.SpecimenRecord.{item-fits}
 use Rattle.compare.specs.Specimen.{rowEntry, specimenEntries}
 use Rattle.fit.proofs.Items.{groupAt}
 use Rattle.fit.proofs.Places.{tree-skip}
-use Rattle.fit.specs.Background.{Background, Keeps}
-use Rattle.fit.specs.Description.{atom, has, most}
-use Rattle.fit.specs.Record.{fits, successors}
 use Rattle.fit.specs.Specimen.{recordOf}
-use Rattle.fit.specs.Tree.{Early, Row, end, leaf, leafRow, nodeRow, tree}
-use Rattle.normal.proofs.LayoutLaws.{write-early, write-reads}
-use Rattle.normal.specs.Layout.{write}
-use Rattle.normal.specs.SpecimenTree.{Group, KeepsTop, KeptBelow, SpecimenTree, fitsTop, given, group, total}
+use Rattle.logic.proofs.LayoutLaws.{write-early, write-reads}
+use Rattle.logic.specs.Background.{Background, Keeps}
+use Rattle.logic.specs.Layout.{write}
+use Rattle.logic.specs.Place.{atom, has, most}
+use Rattle.logic.specs.Record.{fits, successors}
+use Rattle.logic.specs.SpecimenTree.{Group, KeepsTop, KeptBelow, SpecimenTree, fitsTop, given, group, total}
+use Rattle.logic.specs.Tree.{Early, Row, end, leaf, leafRow, nodeRow, tree}
 
 -- ---- rows
 

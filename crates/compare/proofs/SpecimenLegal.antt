@@ -14,25 +14,25 @@ use Rattle.blocks.specs.Owners.{ownerOf}
 use Rattle.blocks.specs.declared.Entry.{Entry}
 use Rattle.blocks.specs.declared.Schema.the-variants.{Description, Specimen}
 use Rattle.compare.proofs.LinkPaths.{links-fewer, links-most, target-fields}
-use Rattle.compare.proofs.WitnessFields.{GroupFields, SpecimenFields, witness-fields}
-use Rattle.compare.proofs.WitnessLevels.{witness-levels}
-use Rattle.compare.proofs.WitnessSize.{witness-nodes}
 use Rattle.compare.specs.Specimen.{rowEntry, specimenEntries, specimenFor}
-use Rattle.fit.specs.Background.{Background}
 use Rattle.fit.specs.Description.{atomOf, linksTo, placeOf}
-use Rattle.fit.specs.Tree.{Row, leafRow, nodeRow, rowOwner}
-use Rattle.normal.proofs.AllEntries.{OfRow, row-all, write-all}
+use Rattle.logic.proofs.AllEntries.{OfRow, row-all, write-all}
+use Rattle.logic.proofs.Fields.{nf-fields}
+use Rattle.logic.proofs.LayoutLaws.{write-length}
+use Rattle.logic.proofs.Size.{nf-levels, nf-nodes}
+use Rattle.logic.proofs.WitnessFields.{GroupFields, SpecimenFields, witness-fields}
+use Rattle.logic.proofs.WitnessLevels.{witness-levels}
+use Rattle.logic.proofs.WitnessSize.{witness-nodes}
+use Rattle.logic.specs.Background.{Background}
+use Rattle.logic.specs.Layout.{write}
+use Rattle.logic.specs.Normal.{nf}
+use Rattle.logic.specs.Size.{levels, nodes}
+use Rattle.logic.specs.SpecimenTree.{Group, SpecimenTree, group}
+use Rattle.logic.specs.Tree.{Row, leafRow, nodeRow, rowOwner}
+use Rattle.logic.specs.Witness.{on, witness}
 use Rattle.normal.proofs.EntryFields.{Any, EntryFields, Positive, Word, bounded-words, legal-names, place-fields}
-use Rattle.normal.proofs.Fields.{nf-fields}
-use Rattle.normal.proofs.LayoutLaws.{write-length}
 use Rattle.normal.proofs.LayoutLegal.{EntryRows, write-legal}
 use Rattle.normal.proofs.PlaceSize.{place-levels, place-nodes}
-use Rattle.normal.proofs.Size.{nf-levels, nf-nodes}
-use Rattle.normal.specs.Layout.{write}
-use Rattle.normal.specs.Normal.{nf}
-use Rattle.normal.specs.Size.{levels, nodes}
-use Rattle.normal.specs.SpecimenTree.{Group, SpecimenTree, group}
-use Rattle.normal.specs.Witness.{on, witness}
 
 -- ---- rows as entries
 

@@ -18,18 +18,19 @@ use Rattle.blocks.specs.declared.Entry.{Entry}
 use Rattle.blocks.specs.declared.Schema.the-variants.{Description}
 use Rattle.compare.proofs.Lookups.{match-within, sub-place}
 use Rattle.compare.proofs.TablePlaces.{places-normal}
-use Rattle.normal.proofs.FillLaws.{Codes}
 use Rattle.compare.specs.Codes.{codeBelow, groupsAt, propertiesAt, targetAt, targetBelow, treeAt}
 use Rattle.compare.specs.Laying.{codes, joint, joints, leaves}
 use Rattle.compare.specs.Table.{Table, entryFor, placeBelow}
-use Rattle.fit.specs.Background.{unrestricted}
-use Rattle.fit.specs.Description.{Atom, Place, atom, has, lacks, least, most, nothing, placeOf}
-use Rattle.normal.proofs.Names.{member-names}
-use Rattle.normal.proofs.WitnessTree.{below-witness}
-use Rattle.normal.specs.Canonical.{Canonical, canonical}
-use Rattle.normal.specs.Normal.{find, found}
-use Rattle.normal.specs.SpecimenTree.{Group, SpecimenTree, group}
-use Rattle.normal.specs.Witness.{Target, below, build, countFor, groupsBy, member, names, next, off, on, targetLinks, want, withProperties, witness}
+use Rattle.fit.specs.Description.{placeOf}
+use Rattle.logic.proofs.Names.{member-names}
+use Rattle.logic.proofs.WitnessTree.{below-witness}
+use Rattle.logic.specs.Background.{unrestricted}
+use Rattle.logic.specs.Canonical.{Canonical, canonical}
+use Rattle.logic.specs.Normal.{find, found}
+use Rattle.logic.specs.Place.{Atom, Place, atom, has, lacks, least, most, nothing}
+use Rattle.logic.specs.SpecimenTree.{Group, SpecimenTree, group}
+use Rattle.logic.specs.Witness.{Target, below, build, countFor, groupsBy, member, names, next, off, on, targetLinks, want, withProperties, witness}
+use Rattle.normal.proofs.FillLaws.{Codes}
 
 -- ---- the target, by its number
 

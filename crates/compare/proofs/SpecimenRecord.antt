@@ -8,16 +8,16 @@ use mathlib.Core.Path.{_∙_, _≡_, ap, ap₂, refl}
 use native.Mathlib.Omega.{arith}
 use Rattle.base.proofs.Tests.{bool-cases}
 use Rattle.compare.specs.Specimen.{rowEntry, specimenEntries}
-use Rattle.fit.proofs.Counting.{every-from-ext, everyFrom, sumIn}
 use Rattle.fit.proofs.Items.{eachGroup, fits-groups, fitsBy, groupAt, groupUnder, linkedItems, meetsBy}
 use Rattle.fit.proofs.Places.{tree-skip}
-use Rattle.fit.specs.Description.{Atom, Place, atom, has, lacks, least, most, nothing}
-use Rattle.fit.specs.Record.{fits}
 use Rattle.fit.specs.Specimen.{owns, recordOf}
-use Rattle.fit.specs.Tree.{Early, Row, end, leaf, leafRow, node, nodeRow, tree}
-use Rattle.normal.proofs.LayoutLaws.{write-early, write-reads}
-use Rattle.normal.specs.Layout.{write}
-use Rattle.normal.specs.SpecimenTree.{Group, SpecimenTree, eachIn, fitsTop, given, group, meetsTop, total}
+use Rattle.logic.proofs.Counting.{every-from-ext, everyFrom, sumIn}
+use Rattle.logic.proofs.LayoutLaws.{write-early, write-reads}
+use Rattle.logic.specs.Layout.{write}
+use Rattle.logic.specs.Place.{Atom, Place, atom, has, lacks, least, most, nothing}
+use Rattle.logic.specs.Record.{fits}
+use Rattle.logic.specs.SpecimenTree.{Group, SpecimenTree, eachIn, fitsTop, given, group, meetsTop, total}
+use Rattle.logic.specs.Tree.{Early, Row, end, leaf, leafRow, node, nodeRow, tree}
 
 -- ---- rows
 

@@ -11,13 +11,13 @@ use Rattle.blocks.specs.declared.Entry.{Entry}
 use Rattle.compare.proofs.PathLaws.{length-up}
 use Rattle.compare.proofs.SpecimenPlaces.{codes-good}
 use Rattle.compare.proofs.WalkingLaws.{Walking, top-room, walking-done, walking-next, walking-place, walking-room, walking-start}
-use Rattle.normal.proofs.FillLaws.{Codes}
 use Rattle.compare.specs.Codes.{OnPath, PlacedBy, Stepped, Writable, jointsBy, numbersBy, propertiesBy, specimenNumber, treeBy, upFrom}
 use Rattle.compare.specs.Laying.{Joint, codes, joints, leaves}
 use Rattle.compare.specs.Table.{entriesIn}
 use Rattle.fit.specs.Description.{atomOf}
-use Rattle.normal.specs.Layout.{write}
-use Rattle.normal.specs.SpecimenTree.{Group, SpecimenTree}
+use Rattle.logic.specs.Layout.{write}
+use Rattle.logic.specs.SpecimenTree.{Group, SpecimenTree}
+use Rattle.normal.proofs.FillLaws.{Codes}
 
 codes-as : {P Q : ℕ → Type 0} → ((c : ℕ) → P c → Q c) → (cs : List ℕ) → Codes P cs → Codes Q cs
 codes-as f [] h = tt

@@ -23,6 +23,7 @@ use Rattle.blocks.specs.Entries.{Bounded, entriesOf, nth}
 use Rattle.blocks.specs.Frame.{blocksIn, plain}
 use Rattle.blocks.specs.Reading.{readingOf}
 use Rattle.blocks.specs.declared.Entry.{Entry}
+use Rattle.blocks.specs.declared.Reading.the-variants as reading
 use Rattle.blocks.specs.declared.Schema.the-variants.{Description}
 use Rattle.compare.proofs.Answer.{refused-output}
 use Rattle.compare.proofs.AnswerLaws.{Comparable, compared, first-refused, second-refused, too-short, verdict-contained}
@@ -34,11 +35,15 @@ use Rattle.compare.specs.Codes.{Writable, specimenNumber, treeBy, upFrom
 use Rattle.compare.specs.Prepared.{Denied, NormalOf, Prepared}
 use Rattle.compare.specs.Specimen.{specimenFor}
 use Rattle.compare.specs.Table.{Unpacked}
-use Rattle.compare.specs.declared.Comparison.the-variants.{Contained, NotContained, Refused}
 use Rattle.compare.specs.declared.Comparison.{Comparison}
-use Rattle.fit.specs.Background.{unrestricted}
-use Rattle.fit.specs.Description.{Place, linksTo, placeOf}
-use Rattle.fit.specs.Record.{every}
+use Rattle.compare.specs.declared.Comparison.the-variants.{Contained, NotContained, Refused}
+use Rattle.fit.specs.Description.{linksTo, placeOf}
+use Rattle.logic.specs.Background.{unrestricted}
+use Rattle.logic.specs.Holds.{holds}
+use Rattle.logic.specs.Layout.{write}
+use Rattle.logic.specs.Normal.{isBottom}
+use Rattle.logic.specs.Place.{Place}
+use Rattle.logic.specs.Record.{every}
 use Rattle.normal.proofs.Answer.{normalised-means}
 use Rattle.normal.proofs.AnswerLaws.{normalised, normalised-ready}
 use Rattle.normal.proofs.FirstLaws.{failing-least, none-failing}
@@ -48,13 +53,9 @@ use Rattle.normal.proofs.UnheldLaws.{BothRead, all-held, one-fails, refused-by}
 use Rattle.normal.specs.Answer.{normalEntries, normaliseOf, normalisedOf}
 use Rattle.normal.specs.First.{entryHolds, firstFailing}
 use Rattle.normal.specs.Holding.{holdingOf, unheld}
-use Rattle.normal.specs.Holds.{holds}
-use Rattle.normal.specs.Layout.{write}
-use Rattle.normal.specs.Normal.{isBottom}
 use Rattle.normal.specs.Tables.{Owned}
-use Rattle.normal.specs.declared.NormalAnswer.the-variants as normal
 use Rattle.normal.specs.declared.Holding.the-variants as holding
-use Rattle.blocks.specs.declared.Reading.the-variants as reading
+use Rattle.normal.specs.declared.NormalAnswer.the-variants as normal
 
 -- an accepted description is short
 pub accepted-short : (i : ℕ) (c : List ℕ) {n : ℕ} → readingOf Description i c ≡ reading.Accepted n → length c ≤ 8192

@@ -12,12 +12,13 @@ use Rattle.base.proofs.Tests.{and-both, and-left, and-right, bool-cases, both-w
 use Rattle.blocks.specs.Entries.{zeroEntry}
 use Rattle.blocks.specs.declared.Entry.{Entry}
 use Rattle.compare.proofs.Lookups.{rank-kind, rank-other}
-use Rattle.compare.proofs.IncreasingNames.{Increasing, kindNames}
-use Rattle.compare.proofs.WitnessFields.{AllNames}
 use Rattle.compare.specs.Table.{nameIn, namesFrom}
-use Rattle.fit.specs.Description.{Kind, rowOf}
-use Rattle.fit.specs.Tree.{tree}
-use Rattle.normal.specs.Normal.{rank}
+use Rattle.fit.specs.Description.{rowOf}
+use Rattle.logic.proofs.IncreasingNames.{Increasing, kindNames}
+use Rattle.logic.proofs.WitnessFields.{AllNames}
+use Rattle.logic.specs.Normal.{rank}
+use Rattle.logic.specs.Place.{Kind}
+use Rattle.logic.specs.Tree.{tree}
 
 -- ---- the names of n words
 

@@ -15,8 +15,8 @@ use Rattle.base.proofs.Tests.{and-left, and-right, eq-cases, eq-eqb, eqb-eq, ne
 use Rattle.blocks.proofs.Legal.{Legal}
 use Rattle.blocks.specs.Entries.{Bounded, formOk, kindOk, nameOk, nth, numberOk, packed, zeroEntry}
 use Rattle.blocks.specs.declared.Entry.{Entry}
-use Rattle.blocks.specs.declared.Schema.the-variants.{Description}
 use Rattle.blocks.specs.declared.Schema.{Schema}
+use Rattle.blocks.specs.declared.Schema.the-variants.{Description}
 use Rattle.compare.proofs.GroupSpans.{groups-extra, groups-plain, properties-extra, properties-plain}
 use Rattle.compare.proofs.Lookups.{find-none, find-some}
 use Rattle.compare.proofs.NormalTable.{normal-canonical, normal-table}
@@ -27,17 +27,18 @@ use Rattle.compare.specs.Answer.{failing, normalOf, specimenOf}
 use Rattle.compare.specs.Codes.{Writable, askedBy, codeBelow, groupAt, groupsWith, jointsBy, leastFor, propertiesBy, specimenNumber, targetAt, treeAt, treeBy, upFrom}
 use Rattle.compare.specs.Specimen.{rowEntry, specimenEntries, specimenFor}
 use Rattle.compare.specs.Table.{Formed, Narrow, Ranked, Table, Unpacked, entriesFrom, entriesIn, entryFor, entryIn, keyOf, nameIn, nameOr, namesWith, numberIn, spanFrom, wordOf}
-use Rattle.fit.specs.Background.{unrestricted}
-use Rattle.fit.specs.Description.{atomOf, least, linksTo, placeOf}
-use Rattle.fit.specs.Tree.{Row}
+use Rattle.fit.specs.Description.{atomOf, linksTo, placeOf}
+use Rattle.logic.specs.Background.{unrestricted}
+use Rattle.logic.specs.Canonical.{Canonical}
+use Rattle.logic.specs.Layout.{write}
+use Rattle.logic.specs.Normal.{find, isBottom}
+use Rattle.logic.specs.Place.{least}
+use Rattle.logic.specs.SpecimenTree.{Group}
+use Rattle.logic.specs.Tree.{Row}
+use Rattle.logic.specs.Witness.{on, orZero, targetLinks, targetProperties, witness}
 use Rattle.normal.proofs.NormalEntries.{normal-place}
 use Rattle.normal.proofs.NormalLegal.{normal-legal}
 use Rattle.normal.specs.Answer.{normalEntries}
-use Rattle.normal.specs.Canonical.{Canonical}
-use Rattle.normal.specs.Layout.{write}
-use Rattle.normal.specs.Normal.{find, isBottom}
-use Rattle.normal.specs.SpecimenTree.{Group}
-use Rattle.normal.specs.Witness.{on, orZero, targetLinks, targetProperties, witness}
 
 -- the tables of a comparison that finds entry n of D to fail: the normal form of C, and the path to the entry
 pub record Tables (c d : List Entry) (n : ℕ) (form : List ℕ) (k : ℕ) (links : List ℕ) (m : ℕ) : Type 0 where

@@ -13,13 +13,14 @@ use Rattle.blocks.specs.declared.Entry.{Entry}
 use Rattle.blocks.specs.declared.Reading.{Reading}
 use Rattle.blocks.specs.declared.Reading.the-variants as reading
 use Rattle.blocks.specs.declared.Schema.the-variants.{Description}
-use Rattle.normal.specs.First.{firstFailing}
 use Rattle.compare.specs.Specimen.{specimenFor}
 use Rattle.compare.specs.declared.Comparison.{Comparison}
 use Rattle.compare.specs.declared.Comparison.the-variants.{Contained, NotContained, Refused}
-use Rattle.fit.specs.Background.{unrestricted}
-use Rattle.fit.specs.Description.{Place, placeOf}
-use Rattle.normal.specs.Normal.{nf}
+use Rattle.fit.specs.Description.{placeOf}
+use Rattle.logic.specs.Background.{unrestricted}
+use Rattle.logic.specs.Normal.{nf}
+use Rattle.logic.specs.Place.{Place}
+use Rattle.normal.specs.First.{firstFailing}
 
 -- ---- two lists of entries
 

@@ -3,7 +3,7 @@
 -- Assumes nothing.
 use Prim.Native.Nat.{_+_, ℕ}
 use mathlib.Core.List.{List, [], _++_, _∷_, map}
-use Rattle.fit.specs.Tree.{Row, Tree, end, leaf, leafRow, node, nodeRow}
+use Rattle.logic.specs.Tree.{Row, Tree, end, leaf, leafRow, node, nodeRow}
 use Rattle.normal.specs.Filling.{Filled, Joined}
 
 -- a node, and the code of the place below it

@@ -12,16 +12,16 @@ use Rattle.blocks.proofs.Legal.{owner-earlier}
 use Rattle.blocks.specs.Entries.{entriesOf, limitOf}
 use Rattle.blocks.specs.Reading.{readingOf}
 use Rattle.blocks.specs.declared.Reading.{Reading}
+use Rattle.blocks.specs.declared.Reading.the-variants as reading
 use Rattle.blocks.specs.declared.Schema.{Schema}
 use Rattle.blocks.specs.declared.Schema.the-variants.{Description, Specimen}
 use Rattle.fit.proofs.ByNumber.{fit-by-groups}
 use Rattle.fit.specs.Answer.{fitOf, secondOf, topFits}
 use Rattle.fit.specs.Groups.{fitsPlace}
 use Rattle.fit.specs.Index.{Ordered}
-use Rattle.fit.specs.Record.{count}
 use Rattle.fit.specs.declared.FitAnswer.{FitAnswer}
 use Rattle.fit.specs.declared.FitAnswer.the-variants.{No, Refused, Yes}
-use Rattle.blocks.specs.declared.Reading.the-variants as reading
+use Rattle.logic.specs.Record.{count}
 
 limit-most : (σ : Schema) → limitOf σ ≤ 32
 limit-most Description = omega arith

@@ -1,4 +1,3 @@
-pub mod Counting
 pub mod Items
 pub mod Owned
 pub mod WalkLaws
@@ -8,8 +7,6 @@ pub mod MeetLaws
 pub mod AnswerLaws
 pub mod Places
 pub mod ByNumber
-pub mod Along
 pub mod Links
 pub mod Paths
-pub mod Kept
 pub mod Cases

@@ -4,27 +4,11 @@ use mathlib.Core.Bool.{cond}
 use mathlib.Core.List.{List, [], _∷_, _++_, map}
 use Prim.Native.Nat.{ℕ, zero, suc}
 use lib.Dec.{eqb}
-use Rattle.blocks.specs.declared.Entry.{Entry}
 use Rattle.blocks.specs.Entries.{nth}
 use Rattle.blocks.specs.Owners.{ownerOf}
-use Rattle.fit.specs.Tree.{Tree, Row, leafRow, nodeRow, tree}
-
--- what an entry that owns nothing says, by the table of kinds: "has property", "lacks property", "at least n by link",
--- "at most n by link", "nothing fits"
-pub data Kind : Type 0 where
-  has lacks least most nothing : Kind
-
--- a kind, a name (of a property or of a link, by the kind) and a number
-pub data Atom : Type 0 where
-  atom : Kind → ℕ → ℕ → Atom
-
--- a place of a description: its atoms, and its 'every' entries, each a link with the place that it owns
-abbrev pub Place : Type 0
-Place = Tree Atom ℕ
-
--- the kind of a kind number; 5 is 'every', which owns a place
-unfoldable pub kindOf : ℕ → Kind
-kindOf k = cond (eqb k 1) has (cond (eqb k 2) lacks (cond (eqb k 3) least (cond (eqb k 4) most nothing)))
+use Rattle.blocks.specs.declared.Entry.{Entry}
+use Rattle.logic.specs.Place.{Atom, Place, atom, kindOf}
+use Rattle.logic.specs.Tree.{Row, leafRow, nodeRow, tree}
 
 -- what an entry says, if it is no 'every'
 abbrev pub atomOf : Entry → Atom

@@ -1,7 +1,4 @@
-pub mod Tree
 pub mod Description
-pub mod Record
-pub mod Background
 pub mod Specimen
 pub mod Groups
 pub mod Index

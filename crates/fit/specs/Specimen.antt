@@ -6,7 +6,7 @@ use Prim.Native.Nat.{ℕ, suc}
 use lib.Dec.{eqb}
 use lib.ListN.{length, getD, replicate}
 use Rattle.blocks.specs.declared.Entry.{Entry}
-use Rattle.fit.specs.Record.{Record}
+use Rattle.logic.specs.Record.{Record}
 
 -- an item: the top, or one of the group that is entry k, whose owner is entry o and whose link is l
 pub data Item : Type 0 where

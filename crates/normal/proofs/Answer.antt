@@ -7,6 +7,7 @@ use lib.Seq.{drop-at, take-at}
 use mathlib.Core.List.{List, _++_}
 use mathlib.Core.Path.{_∙_, _≡_, ap, sym}
 use native.Mathlib.Omega.{arith}
+use Rattle.base.specs.Sorted.{Sorted}
 use Rattle.blocks.proofs.Accepting.{Sound, encoded-accepted, sound-of-accepted}
 use Rattle.blocks.proofs.Bounds.{AllBounded, encode-bytes, entries-bounded}
 use Rattle.blocks.proofs.Counts.{blocks-limit}
@@ -21,19 +22,18 @@ use Rattle.blocks.specs.Entries.{entriesOf}
 use Rattle.blocks.specs.Frame.{blocksIn, plain}
 use Rattle.blocks.specs.Reading.{readingOf}
 use Rattle.blocks.specs.declared.Entry.{Entry}
+use Rattle.blocks.specs.declared.Reading.the-variants as reading
 use Rattle.blocks.specs.declared.Schema.the-variants.{Description}
 use Rattle.fit.specs.Description.{placeOf}
-use Rattle.fit.specs.Record.{Record, fits}
+use Rattle.logic.specs.Record.{Record, fits}
+use Rattle.logic.specs.SpecimenTree.{total}
 use Rattle.normal.proofs.AnswerLaws.{Ready, input-refused, normalise-cases, normalised, normalised-ready, refused-output, too-short}
 use Rattle.normal.proofs.NormalAscends.{normal-ascends}
 use Rattle.normal.proofs.NormalEntries.{normal-again, normal-fewer, same-items}
 use Rattle.normal.proofs.NormalLegal.{normal-bounded, normal-legal}
 use Rattle.normal.specs.Answer.{normalEntries, normaliseOf, normalisedOf, outputAfter}
 use Rattle.normal.specs.Rows.{entryBefore}
-use Rattle.normal.specs.Sorted.{Sorted}
-use Rattle.normal.specs.SpecimenTree.{total}
 use Rattle.normal.specs.declared.NormalAnswer.the-variants.{Normalised}
-use Rattle.blocks.specs.declared.Reading.the-variants as reading
 
 -- the same items fit both inputs, in every finite record
 abbrev pub SameItems : List ℕ → List ℕ → Type 0

@@ -9,10 +9,10 @@ use mathlib.Core.Logic.{_≢_}
 use mathlib.Core.Path.{_∙_, _≡_, ap, refl}
 use native.Mathlib.Omega.{arith}
 use Rattle.base.proofs.Tests.{eq-cases, ge-ltb, gt-leb, lt-cases, lt-ltb, ne-eqb, tests}
+use Rattle.logic.specs.Normal.{atMost, found}
 use Rattle.normal.proofs.EnterLaws.{scan-some}
 use Rattle.normal.proofs.SlotSearch.{high-slot, low-slot}
 use Rattle.normal.specs.Chain.{Chains, scan}
-use Rattle.normal.specs.Normal.{atMost, found}
 use Rattle.normal.specs.Slots.{Slot}
 use Rattle.normal.specs.States.{Indexed, highAt, lowAt}
 use Rattle.normal.specs.Tables.{Kept, Settling, highIn, highPart, lowPart}

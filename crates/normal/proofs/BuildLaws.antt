@@ -16,11 +16,12 @@ use Rattle.base.proofs.Tests.{and-zero, bool-cases, eq-cases, eq-eqb, eqb-eq, i
 use Rattle.blocks.specs.Entries.{nth, zeroEntry}
 use Rattle.blocks.specs.Owners.{ownerOf}
 use Rattle.blocks.specs.declared.Entry.{Entry}
-use Rattle.fit.specs.Description.{kindOf, rowOf}
+use Rattle.fit.specs.Description.{rowOf}
 use Rattle.fit.specs.Specimen.{top}
+use Rattle.logic.specs.Normal.{put, same}
+use Rattle.logic.specs.Place.{kindOf}
 use Rattle.normal.proofs.ChainLaws.{chain-none}
 use Rattle.normal.specs.Chain.{Chains}
-use Rattle.normal.specs.Normal.{put, same}
 use Rattle.normal.specs.Slots.{Slot, atTop, build, high, isLink, leading, low, position, slots, tighten}
 use Rattle.normal.specs.Tables.{Entered, Kept, Nodes, Owned, hashOf, highIn, highKind, keyIn, leadsTo, linkKind, lowKind, slotsFrom, slotsIn}
 

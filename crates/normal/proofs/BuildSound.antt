@@ -10,10 +10,10 @@ use mathlib.Core.Path.{_∙_, _≡_, ap, fun-ext, refl, sym}
 use native.Mathlib.Omega.{arith}
 use Rattle.base.proofs.Cases.{opt-cases}
 use Rattle.base.proofs.Tests.{and-zero, bool-cases, eqb-eq, eqb-self, tests}
-use Rattle.fit.specs.Description.{Atom, Kind, Place, atom}
-use Rattle.fit.specs.Record.{Record, eachLinked, fits}
-use Rattle.fit.specs.Tree.{Row, leafRow, nodeRow, rowOwner, tree}
-use Rattle.normal.proofs.Merged.{merged, merged-none, merged-or, merged-tree}
+use Rattle.logic.proofs.Merged.{merged, merged-none, merged-or, merged-tree}
+use Rattle.logic.specs.Place.{Atom, Kind, Place, atom}
+use Rattle.logic.specs.Record.{Record, eachLinked, fits}
+use Rattle.logic.specs.Tree.{Row, leafRow, nodeRow, rowOwner, tree}
 use Rattle.normal.proofs.SlotBounds.{inside, inside-atom}
 use Rattle.normal.proofs.SlotLaws.{Bounded, bounded-leading, bounded-tighten, bounded-top, position-below, position-from, tighten-early}
 use Rattle.normal.proofs.SlotMeaning.{asks, asks-ext, besides, every-asks, tighten-asks}

@@ -19,17 +19,18 @@ use Rattle.blocks.specs.Faults.{entryFaults, first}
 use Rattle.blocks.specs.Frame.{plain}
 use Rattle.blocks.specs.Owners.{chain, depthOf, depthOk, ownerOf, ownerOk}
 use Rattle.blocks.specs.declared.Entry.{Entry}
+use Rattle.blocks.specs.declared.Finding.the-variants.{Clean}
 use Rattle.blocks.specs.declared.Schema.the-variants.{Description}
-use Rattle.fit.specs.Description.{kindOf, placeOf, rowOf}
-use Rattle.fit.specs.Tree.{tree}
+use Rattle.fit.specs.Description.{placeOf, rowOf}
+use Rattle.logic.specs.Layout.{later, lay, weight, write}
+use Rattle.logic.specs.Normal.{add, excluded, fill, find, insert, isBottom, nf, put, putEvery, remove, removeEvery, removeLacks, sub, within}
+use Rattle.logic.specs.Place.{kindOf}
+use Rattle.logic.specs.SpecimenTree.{total}
+use Rattle.logic.specs.Tree.{tree}
 use Rattle.normal.proofs.AnswerLaws.{normalised}
 use Rattle.normal.proofs.Forms.{form}
 use Rattle.normal.specs.Answer.{normalEntries, normaliseOf, normalisedOf, outputAfter}
-use Rattle.blocks.specs.declared.Finding.the-variants.{Clean}
 use Rattle.normal.specs.Cases.{Line, lines, normalises}
-use Rattle.normal.specs.Layout.{later, lay, weight, write}
-use Rattle.normal.specs.Normal.{add, excluded, fill, find, insert, isBottom, nf, put, putEvery, remove, removeEvery, removeLacks, sub, within}
-use Rattle.normal.specs.SpecimenTree.{total}
 use Rattle.normal.specs.declared.NormalAnswer.the-variants.{Normalised}
 
 -- what a line says: the entries as blocks give the number of entries, and their blocks at the start of each output that is long enough

@@ -9,15 +9,15 @@ use mathlib.Core.Option.{Option, none, some}
 use mathlib.Core.Path.{_∙_, _≡_, ap, ap₂, refl, sym}
 use native.Mathlib.Omega.{arith}
 use Rattle.base.proofs.Cases.{not-true}
+use Rattle.base.proofs.SortedLaws.{AllApart, sort-sorted}
 use Rattle.base.proofs.Tests.{and-swap, bool-cases, eqb-eq, eqb-sym, neither-left, neither-right, tests}
-use Rattle.fit.specs.Record.{bit}
-use Rattle.normal.proofs.Order.{before-not, before-total, before-trans}
+use Rattle.base.specs.Sorted.{Sorted, insertIn, sort}
+use Rattle.logic.proofs.Order.{before-not, before-total, before-trans}
+use Rattle.logic.specs.Record.{bit}
 use Rattle.normal.proofs.SlotLaws.{exchange, name-class, name-eq}
-use Rattle.normal.proofs.SortedLaws.{AllApart, sort-sorted}
 use Rattle.normal.proofs.WrittenPasses.{allCells}
 use Rattle.normal.specs.Pipeline.{beforeCell}
 use Rattle.normal.specs.Slots.{Cell, DistinctSlots, Slot, cell, cells, lookup, sameKey, sameName, slot, standsAt, taken}
-use Rattle.normal.specs.Sorted.{Sorted, insertIn, sort}
 
 -- ---- the order of cells
 

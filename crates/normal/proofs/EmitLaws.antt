@@ -10,11 +10,11 @@ use native.Mathlib.Nat.{add-assoc, add-zero}
 use native.Mathlib.Omega.{arith}
 use Rattle.base.proofs.Cases.{opt-cases}
 use Rattle.base.proofs.Tests.{bool-cases}
-use Rattle.fit.specs.Description.{Atom, Kind, atom, has, lacks, least, most}
-use Rattle.fit.specs.Tree.{Row, leafRow, nodeRow}
+use Rattle.logic.specs.Layout.{Queue, done, job, later}
+use Rattle.logic.specs.Place.{Atom, Kind, atom, has, lacks, least, most}
+use Rattle.logic.specs.Tree.{Row, leafRow, nodeRow}
 use Rattle.normal.specs.Emitted.{atomRows, everyRows, everySlots, kindRows}
 use Rattle.normal.specs.Filling.{laterEach}
-use Rattle.normal.specs.Layout.{Queue, done, job, later}
 use Rattle.normal.specs.Pipeline.{outEvery, outKind, walk}
 use Rattle.normal.specs.Slots.{Cell, cell, isLink, sameClass, value}
 

@@ -6,25 +6,25 @@ use mathlib.Core.Bool.{Bool, _&&_, not}
 use mathlib.Core.List.{List}
 use mathlib.Core.Path.{_∙_, _≡_, ap, fun-ext, refl}
 use native.Mathlib.Omega.{arith}
+use Rattle.base.proofs.SortedLaws.{Within, sort-within, sorted-one, within-sort}
 use Rattle.base.proofs.Tests.{bool-cases}
-use Rattle.fit.specs.Background.{unrestricted}
-use Rattle.fit.specs.Description.{Atom}
-use Rattle.fit.specs.Tree.{Row, tree}
+use Rattle.base.specs.Sorted.{Sorted, sort}
+use Rattle.logic.proofs.LayoutLaws.{weight-nodes, write-length}
+use Rattle.logic.proofs.Merged.{tree-nodes}
+use Rattle.logic.proofs.Size.{nf-nodes}
+use Rattle.logic.specs.Background.{unrestricted}
+use Rattle.logic.specs.Layout.{lay, weight, write}
+use Rattle.logic.specs.Normal.{atMost, nf}
+use Rattle.logic.specs.Place.{Atom}
+use Rattle.logic.specs.Tree.{Row, tree}
 use Rattle.normal.proofs.CellLaws.{cell-irreflexive, cell-trans, cells-sorted}
 use Rattle.normal.proofs.FormNormal.{form-nonempty, form-top, top-nothing}
 use Rattle.normal.proofs.Forms.{form, form-written}
-use Rattle.normal.proofs.LayoutLaws.{weight-nodes, write-length}
-use Rattle.normal.proofs.Merged.{tree-nodes}
-use Rattle.normal.proofs.Size.{nf-nodes}
 use Rattle.normal.proofs.SlotLaws.{slots-distinct, slots-early}
-use Rattle.normal.proofs.SortedLaws.{Within, sort-within, sorted-one, within-sort}
 use Rattle.normal.proofs.WalkLaws.{walk-writes}
 use Rattle.normal.proofs.Written.{kept}
-use Rattle.normal.specs.Layout.{lay, weight, write}
-use Rattle.normal.specs.Normal.{atMost, nf}
 use Rattle.normal.specs.Pipeline.{beforeCell, enoughFor, keeping, normalRows, rowsFrom, sortedCells}
 use Rattle.normal.specs.Slots.{Cell, Slot, cells, inconsistent, slots}
-use Rattle.normal.specs.Sorted.{Sorted, sort}
 
 module _ (rs : List (Row Atom ℕ)) where
   abbrev ss : List Slot

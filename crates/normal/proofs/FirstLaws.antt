@@ -10,11 +10,11 @@ use native.Mathlib.Numerals.{add-one}
 use native.Mathlib.Omega.{arith}
 use Rattle.base.proofs.Range.{none-left, one-left}
 use Rattle.base.proofs.Tests.{bool-cases, eq-cases}
+use Rattle.base.specs.Search.{firstFrom}
 use Rattle.blocks.specs.declared.Entry.{Entry}
+use Rattle.logic.specs.Background.{Background}
+use Rattle.logic.specs.Place.{Place}
 use Rattle.normal.specs.First.{entryHolds, firstFailing}
-use Rattle.normal.specs.Search.{firstFrom}
-use Rattle.fit.specs.Background.{Background}
-use Rattle.fit.specs.Description.{Place}
 
 -- ---- a search
 

@@ -8,17 +8,17 @@ use mathlib.Core.Option.{Option, none, some}
 use mathlib.Core.Path.{_∙_, _≡_, ap, refl, sym}
 use Rattle.base.proofs.Cases.{and-never}
 use Rattle.base.proofs.Tests.{and-left, and-right, and-zero, bool-cases, false-of-not, tests}
-use Rattle.fit.proofs.Counting.{every-ext}
-use Rattle.fit.specs.Description.{Place}
-use Rattle.fit.specs.Record.{Record, eachLinked, fits, successors}
+use Rattle.logic.proofs.Counting.{every-ext}
+use Rattle.logic.proofs.Fits.{linked-bottom, linked-none}
+use Rattle.logic.specs.Normal.{found, isEnd, under}
+use Rattle.logic.specs.Place.{Place}
+use Rattle.logic.specs.Record.{Record, eachLinked, fits, successors}
 use Rattle.normal.proofs.CellLaws.{all-sort}
-use Rattle.normal.proofs.Fits.{linked-bottom, linked-none}
 use Rattle.normal.proofs.Forms.{Formed, formed-here, formed-next}
 use Rattle.normal.proofs.SlotBounds.{capped, eachBelow, inside}
 use Rattle.normal.proofs.SlotMeaning.{asks}
 use Rattle.normal.proofs.WrittenMeaning.{cellFits, cellSays, written-end, written-fits}
 use Rattle.normal.proofs.WrittenPasses.{allCells}
-use Rattle.normal.specs.Normal.{found, isEnd, under}
 use Rattle.normal.specs.Slots.{Cell, EarlySlots, Slot, broken, cell, cells, closed, inconsistent, nonempty, settled, slot}
 
 either : (a d : Bool) → (a || not d) ≡ not (not a && d)

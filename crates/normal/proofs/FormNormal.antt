@@ -7,30 +7,30 @@ use mathlib.Core.List.{List, List·Memᴰ, List·Memᴰ·cases-cons, List·Mem�
 use mathlib.Core.Logic.{inl, inr, ⊎-elim}
 use mathlib.Core.Option.{Option}
 use mathlib.Core.Path.{_∙_, _≡_, ap, refl, sym}
+use Rattle.base.proofs.SortedLaws.{sort-within}
 use Rattle.base.proofs.Tests.{and-right, bool-cases, true-of-not}
-use Rattle.fit.proofs.Kept.{lawful-unrestricted}
-use Rattle.fit.specs.Background.{unrestricted}
-use Rattle.fit.specs.Description.{Atom, Kind, Place}
-use Rattle.fit.specs.Record.{Record, fits}
-use Rattle.fit.specs.Tree.{Row, tree}
+use Rattle.base.specs.Sorted.{sort}
+use Rattle.logic.proofs.Kept.{lawful-unrestricted}
+use Rattle.logic.proofs.Normal.{canonical-alive}
+use Rattle.logic.proofs.Unique.{only-normal}
+use Rattle.logic.specs.Background.{unrestricted}
+use Rattle.logic.specs.Canonical.{Canonical}
+use Rattle.logic.specs.Normal.{bottom, find, isBottom, isEnd, nf, sub}
+use Rattle.logic.specs.Place.{Atom, Kind, Place}
+use Rattle.logic.specs.Record.{Record, fits}
+use Rattle.logic.specs.Tree.{Row, tree}
 use Rattle.normal.proofs.BuildSound.{slots-sound}
 use Rattle.normal.proofs.CellLaws.{all-sort, cells-distinct, cells-sorted, lookup-sort}
 use Rattle.normal.proofs.FormMeaning.{cellWhole, cells-mean, cells-say, inconsistent-cells, inconsistent-empty}
 use Rattle.normal.proofs.Forms.{Formed, form, form-written, formed-here, formed-next}
-use Rattle.normal.proofs.Normal.{canonical-alive}
 use Rattle.normal.proofs.SlotLaws.{slots-distinct, slots-early}
-use Rattle.normal.proofs.SortedLaws.{sort-within}
-use Rattle.normal.proofs.Unique.{only-normal}
 use Rattle.normal.proofs.Written.{kept, written}
 use Rattle.normal.proofs.WrittenLists.{below, listed, written-find, written-sub}
 use Rattle.normal.proofs.WrittenMeaning.{cellFits, cellSays, written-end, written-fits}
 use Rattle.normal.proofs.WrittenNormal.{written-normal}
 use Rattle.normal.proofs.WrittenPasses.{allCells}
-use Rattle.normal.specs.Canonical.{Canonical}
-use Rattle.normal.specs.Normal.{bottom, find, isBottom, isEnd, nf, sub}
 use Rattle.normal.specs.Pipeline.{beforeCell, sortedCells}
 use Rattle.normal.specs.Slots.{Cell, DistinctSlots, EarlySlots, Slot, cell, cells, closed, inconsistent, isLink, lookup, nonempty, settled, slot, slots}
-use Rattle.normal.specs.Sorted.{sort}
 
 -- ---- normal places
 

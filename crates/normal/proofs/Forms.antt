@@ -6,15 +6,15 @@ use mathlib.Core.Bool.{cond, false}
 use mathlib.Core.List.{List, [], _∷_}
 use mathlib.Core.Path.{_∙_, _≡_, refl, sym}
 use native.Mathlib.Omega.{arith}
+use Rattle.base.proofs.SortedLaws.{sort-within}
 use Rattle.base.proofs.Tests.{eq-cases, eqb-self, tests}
-use Rattle.fit.specs.Description.{Place}
-use Rattle.fit.specs.Tree.{end}
+use Rattle.base.specs.Sorted.{sort}
+use Rattle.logic.specs.Place.{Place}
+use Rattle.logic.specs.Tree.{end}
 use Rattle.normal.proofs.CellLaws.{cells-from, cells-skip}
-use Rattle.normal.proofs.SortedLaws.{sort-within}
 use Rattle.normal.proofs.Written.{ofEvery, ofKind, written, written-agree}
 use Rattle.normal.specs.Pipeline.{beforeCell, sortedCells}
 use Rattle.normal.specs.Slots.{EarlySlots, Slot, cell, cells}
-use Rattle.normal.specs.Sorted.{sort}
 
 -- the place below slot j, for the slots that count from k
 unfoldable pub formed : ℕ → List Slot → ℕ → Place

@@ -11,26 +11,27 @@ use mathlib.Core.Option.{Option}
 use mathlib.Core.Path.{_∙_, _≡_, refl, sym}
 use native.Mathlib.Omega.{arith}
 use Rattle.base.proofs.Tests.{and-left, and-right, bool-cases, eq-cases, eq-eqb, iff-eq, leb-le, ltb-lt, ne-eqb, or-one, tests}
+use Rattle.base.specs.Search.{firstFrom}
 use Rattle.blocks.proofs.Legal.{Legal, owner-earlier}
 use Rattle.blocks.specs.Entries.{formOk, kindOk, nth}
 use Rattle.blocks.specs.Owners.{ownerOf}
 use Rattle.blocks.specs.declared.Entry.{Entry}
 use Rattle.blocks.specs.declared.Schema.the-variants.{Description}
 use Rattle.fit.proofs.Links.{links-into, linksInto}
-use Rattle.fit.specs.Background.{unrestricted}
-use Rattle.fit.specs.Description.{Atom, Kind, atom, atomOf, has, kindOf, lacks, least, linksTo, most, placeOf, rowOf}
-use Rattle.fit.specs.Tree.{Row, end}
+use Rattle.fit.specs.Description.{atomOf, linksTo, placeOf, rowOf}
+use Rattle.logic.proofs.Plain.{supports-plain}
+use Rattle.logic.specs.Background.{unrestricted}
+use Rattle.logic.specs.Holds.{holds, holdsAt}
+use Rattle.logic.specs.Normal.{atMost, enough, find, found, nf, sub, supports}
+use Rattle.logic.specs.Place.{Atom, Kind, atom, has, kindOf, lacks, least, most}
+use Rattle.logic.specs.Tree.{Row, end}
 use Rattle.normal.proofs.FirstLaws.{first-same, none-failing}
 use Rattle.normal.proofs.FormNormal.{form-top, top-bottom}
 use Rattle.normal.proofs.Forms.{form, formed}
-use Rattle.normal.proofs.Plain.{supports-plain}
 use Rattle.normal.proofs.SlotLaws.{position-from}
 use Rattle.normal.proofs.SlotNumbers.{no-link-slot, no-slot, position-range, slot-lists, slot-owns}
 use Rattle.normal.proofs.WrittenLists.{value-none}
 use Rattle.normal.specs.First.{entryHolds, firstFailing}
-use Rattle.normal.specs.Holds.{holds, holdsAt}
-use Rattle.normal.specs.Normal.{atMost, enough, find, found, nf, sub, supports}
-use Rattle.normal.specs.Search.{firstFrom}
 use Rattle.normal.specs.Slots.{Slot, inconsistent, isLink, position, slots, taken, value}
 use Rattle.normal.specs.States.{entrySlot, heldAt, heldIn, highAt, linkName, lowAt, slotFor, stateBelow, stateOf, supportedBy}
 

@@ -9,12 +9,12 @@ use mathlib.Core.Path.{_≡_, refl}
 use native.Mathlib.Omega.{arith}
 use Rattle.base.proofs.Cases.{opt-cases}
 use Rattle.base.proofs.Tests.{and-both, and-left, and-right, bool-cases, iff-eq, tests}
-use Rattle.fit.specs.Description.{Atom, Kind, atom, has, lacks, least, most, nothing}
-use Rattle.fit.specs.Record.{bit}
-use Rattle.fit.specs.Tree.{Row, leafRow, nodeRow}
-use Rattle.normal.proofs.Order.{before-eq, before-lt}
+use Rattle.logic.proofs.Order.{before-eq, before-lt}
+use Rattle.logic.specs.Normal.{before}
+use Rattle.logic.specs.Place.{Atom, Kind, atom, has, lacks, least, most, nothing}
+use Rattle.logic.specs.Record.{bit}
+use Rattle.logic.specs.Tree.{Row, leafRow, nodeRow}
 use Rattle.normal.specs.Keys.{Small, SmallRows, SmallSlot, SmallSlots, SmallTop, keyNumber}
-use Rattle.normal.specs.Normal.{before}
 use Rattle.normal.specs.Slots.{Slot, build, high, isLink, leading, low, position, sameKey, slot, slots, smaller, tighten}
 
 -- ---- numbers

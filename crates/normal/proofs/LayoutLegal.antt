@@ -18,10 +18,10 @@ use Rattle.blocks.specs.Owners.{depthOf, depthOk, ownerOf, ownerOk}
 use Rattle.blocks.specs.Steps.{levelOf}
 use Rattle.blocks.specs.declared.Entry.{Entry}
 use Rattle.blocks.specs.declared.Schema.{Schema}
-use Rattle.fit.specs.Tree.{Early, Row, Tree, end, leaf, leafRow, node, nodeRow, rowOwner}
-use Rattle.normal.proofs.LayoutLaws.{write-early}
-use Rattle.normal.specs.Layout.{Queue, done, job, later, lay, weight, write}
-use Rattle.normal.specs.Size.{levels, measure}
+use Rattle.logic.proofs.LayoutLaws.{write-early}
+use Rattle.logic.specs.Layout.{Queue, done, job, later, lay, weight, write}
+use Rattle.logic.specs.Size.{levels, measure}
+use Rattle.logic.specs.Tree.{Early, Row, Tree, end, leaf, leafRow, node, nodeRow, rowOwner}
 
 -- ---- levels of owners
 

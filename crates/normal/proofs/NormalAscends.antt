@@ -8,19 +8,20 @@ use mathlib.Core.Logic.{inl, inr}
 use mathlib.Core.Path.{_≡_}
 use native.Mathlib.Omega.{arith}
 use Rattle.base.proofs.Tests.{and-both, eqb-self, lt-ltb, or-left, or-right}
+use Rattle.base.specs.Sorted.{AllAfter, Sorted}
 use Rattle.blocks.specs.declared.Entry.{Entry}
-use Rattle.fit.specs.Background.{Background, unrestricted}
-use Rattle.fit.specs.Description.{Atom, Place, atom, placeOf}
-use Rattle.fit.specs.Tree.{end, leaf, leafRow, node, nodeRow}
-use Rattle.normal.proofs.Lookup.{sub-head}
-use Rattle.normal.proofs.Order.{sub-rest}
-use Rattle.normal.proofs.Plain.{plain-normal}
+use Rattle.fit.specs.Description.{placeOf}
+use Rattle.logic.proofs.Lookup.{sub-head}
+use Rattle.logic.proofs.Order.{sub-rest}
+use Rattle.logic.proofs.Plain.{plain-normal}
+use Rattle.logic.specs.Background.{Background, unrestricted}
+use Rattle.logic.specs.Canonical.{Above, Ascending, Canonical, Normal, canonical}
+use Rattle.logic.specs.Layout.{Queue, done, job, later, lay, weight, write}
+use Rattle.logic.specs.Normal.{isEnd, nf, rank, sub}
+use Rattle.logic.specs.Place.{Atom, Place, atom}
+use Rattle.logic.specs.Tree.{end, leaf, leafRow, node, nodeRow}
 use Rattle.normal.specs.Answer.{normalEntries}
-use Rattle.normal.specs.Canonical.{Above, Ascending, Canonical, Normal, canonical}
-use Rattle.normal.specs.Layout.{Queue, done, job, later, lay, weight, write}
-use Rattle.normal.specs.Normal.{isEnd, nf, rank, sub}
 use Rattle.normal.specs.Rows.{entryBefore, rowEntry}
-use Rattle.normal.specs.Sorted.{AllAfter, Sorted}
 
 -- ---- places
 

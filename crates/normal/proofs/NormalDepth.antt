@@ -18,11 +18,11 @@ use Rattle.fit.proofs.Owned.{owned-at, owned-of}
 use Rattle.fit.proofs.Places.{asks, place-owned}
 use Rattle.fit.specs.Description.{placeOf}
 use Rattle.fit.specs.Groups.{allOwned}
+use Rattle.logic.specs.Size.{levels}
 use Rattle.normal.proofs.NormalEntries.{normal-levels}
 use Rattle.normal.proofs.NormalLegal.{normal-legal}
 use Rattle.normal.proofs.PlaceSize.{depth-owned, levels-here}
 use Rattle.normal.specs.Answer.{normalEntries}
-use Rattle.normal.specs.Size.{levels}
 
 module _ (d : List Entry) (L : Legal Description d) where
   -- ---- from depths to levels

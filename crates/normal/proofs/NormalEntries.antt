@@ -8,21 +8,22 @@ use mathlib.Core.Logic.{_↔_}
 use mathlib.Core.Path.{_∙_, _≡_, ap, refl, sym}
 use native.Mathlib.Omega.{arith}
 use Rattle.blocks.specs.declared.Entry.{Entry}
-use Rattle.fit.proofs.Kept.{lawful-unrestricted}
-use Rattle.fit.specs.Background.{unrestricted}
-use Rattle.fit.specs.Description.{Atom, Place, atom, has, kindOf, lacks, least, most, nothing, placeOf, rowOf}
-use Rattle.fit.specs.Record.{Record, fits}
-use Rattle.fit.specs.Tree.{Row, leafRow, nodeRow, tree}
-use Rattle.normal.proofs.LayoutLaws.{write-length, write-reads}
+use Rattle.fit.specs.Description.{placeOf, rowOf}
+use Rattle.logic.proofs.Kept.{lawful-unrestricted}
+use Rattle.logic.proofs.LayoutLaws.{write-length, write-reads}
+use Rattle.logic.proofs.Plain.{plain-sound, plain-unique}
+use Rattle.logic.proofs.Size.{nf-levels, nf-nodes}
+use Rattle.logic.proofs.Unique.{idempotent}
+use Rattle.logic.specs.Background.{unrestricted}
+use Rattle.logic.specs.Layout.{write}
+use Rattle.logic.specs.Normal.{nf}
+use Rattle.logic.specs.Place.{Atom, Place, atom, has, kindOf, lacks, least, most, nothing}
+use Rattle.logic.specs.Record.{Record, fits}
+use Rattle.logic.specs.Size.{levels, nodes}
+use Rattle.logic.specs.Tree.{Row, leafRow, nodeRow, tree}
 use Rattle.normal.proofs.PlaceSize.{place-nodes}
-use Rattle.normal.proofs.Plain.{plain-sound, plain-unique}
-use Rattle.normal.proofs.Size.{nf-levels, nf-nodes}
-use Rattle.normal.proofs.Unique.{idempotent}
 use Rattle.normal.specs.Answer.{normalEntries}
-use Rattle.normal.specs.Layout.{write}
-use Rattle.normal.specs.Normal.{nf}
 use Rattle.normal.specs.Rows.{rowEntry}
-use Rattle.normal.specs.Size.{levels, nodes}
 
 -- ---- rows and entries
 

@@ -13,21 +13,22 @@ use Rattle.blocks.specs.Entries.{formOk, nameOk, nth, numberOk, zeroEntry}
 use Rattle.blocks.specs.Owners.{ownerOf}
 use Rattle.blocks.specs.declared.Entry.{Entry}
 use Rattle.blocks.specs.declared.Schema.the-variants.{Description}
-use Rattle.fit.specs.Background.{unrestricted}
-use Rattle.fit.specs.Description.{Atom, Place, atom, has, lacks, least, most, nothing, placeOf}
-use Rattle.fit.specs.Tree.{Row, leafRow, nodeRow, rowOwner}
-use Rattle.normal.proofs.AllEntries.{OfRow, row-all, write-all}
+use Rattle.fit.specs.Description.{placeOf}
+use Rattle.logic.proofs.AllEntries.{OfRow, row-all, write-all}
+use Rattle.logic.proofs.Size.{nf-levels}
+use Rattle.logic.proofs.Stored.{Stored, nf-stored}
+use Rattle.logic.specs.Background.{unrestricted}
+use Rattle.logic.specs.Layout.{write}
+use Rattle.logic.specs.Normal.{nf, stored}
+use Rattle.logic.specs.Place.{Atom, Place, atom, has, lacks, least, most, nothing}
+use Rattle.logic.specs.Size.{levels}
+use Rattle.logic.specs.Tree.{Row, leafRow, nodeRow, rowOwner}
 use Rattle.normal.proofs.EntryFields.{Any, Positive, Word, bounded-words, legal-names, place-fields}
 use Rattle.normal.proofs.LayoutLegal.{EntryRows, write-legal}
 use Rattle.normal.proofs.NormalEntries.{normal-fewer}
 use Rattle.normal.proofs.PlaceSize.{place-levels}
-use Rattle.normal.proofs.Size.{nf-levels}
-use Rattle.normal.proofs.Stored.{Stored, nf-stored}
 use Rattle.normal.specs.Answer.{normalEntries}
-use Rattle.normal.specs.Layout.{write}
-use Rattle.normal.specs.Normal.{nf, stored}
 use Rattle.normal.specs.Rows.{rowEntry}
-use Rattle.normal.specs.Size.{levels}
 
 -- ---- rows as entries
 

@@ -6,15 +6,15 @@ use lib.ListN.{getD}
 use mathlib.Core.Bool.{false}
 use mathlib.Core.List.{List, map}
 use mathlib.Core.Path.{_∙_, _≡_, ap, fun-ext, sym}
-use Rattle.fit.specs.Background.{unrestricted}
-use Rattle.fit.specs.Description.{Atom}
-use Rattle.fit.specs.Tree.{Row, tree}
+use Rattle.logic.specs.Background.{unrestricted}
+use Rattle.logic.specs.Layout.{write}
+use Rattle.logic.specs.Normal.{nf}
+use Rattle.logic.specs.Place.{Atom}
+use Rattle.logic.specs.Tree.{Row, tree}
 use Rattle.normal.proofs.Parts.{normal-sorted}
 use Rattle.normal.proofs.RunLaws.{run-part}
 use Rattle.normal.proofs.TagLaws.{tags-table}
 use Rattle.normal.proofs.TagOrder.{numbers-many, places-rise, tags-same, tags-same-back, tags-sorted}
-use Rattle.normal.specs.Layout.{write}
-use Rattle.normal.specs.Normal.{nf}
 use Rattle.normal.specs.Ordered.{firstOfPlace, runFrom, runOf, tagIn, tagNumbers}
 use Rattle.normal.specs.Pipeline.{enoughFor, part, rowsFrom}
 use Rattle.normal.specs.Slots.{settled, slots}

@@ -11,29 +11,30 @@ use Rattle.blocks.proofs.Accepting.{sound-of-accepted, written-encodes}
 use Rattle.blocks.proofs.Bounds.{AllBounded}
 use Rattle.blocks.proofs.Faithful.{entries-limit}
 use Rattle.blocks.proofs.Legal.{owner-earlier, owner-kind}
-use Rattle.blocks.specs.Reading.{readingOf}
 use Rattle.blocks.specs.Encoding.{bytesWritten, written}
 use Rattle.blocks.specs.Entries.{entriesOf, packed}
+use Rattle.blocks.specs.Reading.{readingOf}
 use Rattle.blocks.specs.declared.Entry.{Entry}
+use Rattle.blocks.specs.declared.Reading.the-variants as reading
 use Rattle.blocks.specs.declared.Schema.the-variants.{Description}
-use Rattle.fit.specs.Background.{unrestricted}
-use Rattle.fit.specs.Description.{Atom, Place, placeOf}
-use Rattle.fit.specs.Tree.{Row}
+use Rattle.fit.specs.Description.{placeOf}
+use Rattle.logic.specs.Background.{unrestricted}
+use Rattle.logic.specs.Layout.{write}
+use Rattle.logic.specs.Normal.{nf}
+use Rattle.logic.specs.Place.{Atom, Place}
+use Rattle.logic.specs.Tree.{Row}
 use Rattle.normal.proofs.Answer.{normalised-means}
 use Rattle.normal.proofs.AnswerLaws.{Ready, normalised}
 use Rattle.normal.proofs.NormalEntries.{normal-fewer}
+use Rattle.normal.proofs.NormalLegal.{normal-bounded}
 use Rattle.normal.proofs.PassLaws.{all-bounded}
 use Rattle.normal.proofs.PassOrder.{rows-few}
 use Rattle.normal.proofs.PushLaws.{pushed-total}
-use Rattle.normal.proofs.NormalLegal.{normal-bounded}
 use Rattle.normal.specs.Answer.{normalEntries, normaliseOf, normalisedOf, outputAfter}
 use Rattle.normal.specs.Emitted.{NormalRows, rowNumber}
-use Rattle.normal.specs.Tables.{Owned}
-use Rattle.normal.specs.Layout.{write}
-use Rattle.normal.specs.Normal.{nf}
 use Rattle.normal.specs.Rows.{rowEntry}
+use Rattle.normal.specs.Tables.{Owned}
 use Rattle.normal.specs.declared.NormalAnswer.the-variants.{Normalised}
-use Rattle.blocks.specs.declared.Reading.the-variants as reading
 
 rows-packed : (rs : List (Row Atom ℕ)) → map rowNumber rs ≡ map packed (map rowEntry rs)
 rows-packed [] = refl

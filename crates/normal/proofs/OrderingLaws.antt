@@ -9,8 +9,8 @@ use native.Mathlib.Nat.{add-suc, add-zero, suc-add}
 use native.Mathlib.Numerals.{add-one}
 use native.Mathlib.Omega.{arith}
 use Rattle.base.proofs.Tests.{eq-cases, eq-eqb, ne-eqb}
+use Rattle.base.specs.Search.{firstFrom}
 use Rattle.normal.specs.Ordered.{firstOfPlace, tagNumber, tagNumbers, tagPlace}
-use Rattle.normal.specs.Search.{firstFrom}
 use Rattle.normal.specs.Tables.{keyIn}
 
 tag-last : (t : List ℕ) (i n : ℕ) → tagNumbers t i (suc n) ≡ tagNumbers t i n ++ (tagNumber (keyIn (getD t (i + n) 0)) (i + n) ∷ [])

@@ -6,17 +6,17 @@ use mathlib.Core.Bool.{_&&_}
 use mathlib.Core.List.{List, List·Memᴰ, List·Memᴰ·cases-cons, List·Memᴰ·head, List·Memᴰ·not-nil, List·Memᴰ·tail, [], _∷_}
 use mathlib.Core.Logic.{⊎-elim}
 use mathlib.Core.Path.{_≡_, refl}
+use Rattle.base.proofs.SortedLaws.{Within}
 use Rattle.base.proofs.Tests.{and-right, bool-cases, eqb-eq, eqb-self, or-cases, tests}
-use Rattle.fit.specs.Background.{unrestricted}
-use Rattle.fit.specs.Description.{Atom}
-use Rattle.fit.specs.Tree.{Row, tree}
-use Rattle.normal.proofs.SortedLaws.{Within}
-use Rattle.normal.specs.Layout.{write}
-use Rattle.normal.specs.Normal.{nf}
+use Rattle.base.specs.Sorted.{AllAfter, Sorted}
+use Rattle.logic.specs.Background.{unrestricted}
+use Rattle.logic.specs.Layout.{write}
+use Rattle.logic.specs.Normal.{nf}
+use Rattle.logic.specs.Place.{Atom}
+use Rattle.logic.specs.Tree.{Row, tree}
+use Rattle.normal.proofs.Exact.{normal-any}
 use Rattle.normal.specs.Pipeline.{Tag, beforeCell, beforeTag, enoughFor, part, rowsFrom, tag, tags}
 use Rattle.normal.specs.Slots.{Cell, Slot, cells, slot, slots}
-use Rattle.normal.specs.Sorted.{AllAfter, Sorted}
-use Rattle.normal.proofs.Exact.{normal-any}
 
 tags-cells : (k : ℕ) (ss : List Slot) (v : ℕ) → part (tags k ss) v ≡ cells k ss v
 unfolding part tags cells

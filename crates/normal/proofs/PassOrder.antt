@@ -13,10 +13,13 @@ use Rattle.base.proofs.Elements.{member-at}
 use Rattle.base.proofs.Parts.{length-low, length-put-low, lowOf, putLow, take-low}
 use Rattle.base.proofs.Tests.{bool-cases, lt-cases}
 use Rattle.blocks.specs.Entries.{entriesOf}
-use Rattle.fit.specs.Background.{unrestricted}
-use Rattle.fit.specs.Description.{atom, nothing, placeOf, rowOf}
-use Rattle.fit.specs.Record.{bit}
-use Rattle.fit.specs.Tree.{leafRow}
+use Rattle.fit.specs.Description.{placeOf, rowOf}
+use Rattle.logic.specs.Background.{unrestricted}
+use Rattle.logic.specs.Layout.{write}
+use Rattle.logic.specs.Normal.{nf, same}
+use Rattle.logic.specs.Place.{atom, nothing}
+use Rattle.logic.specs.Record.{bit}
+use Rattle.logic.specs.Tree.{leafRow}
 use Rattle.normal.proofs.Exact.{normal-exact, normal-length}
 use Rattle.normal.proofs.FirstLaws.{first-same}
 use Rattle.normal.proofs.KeyLaws.{slots-small}
@@ -28,8 +31,6 @@ use Rattle.normal.proofs.TagOrder.{Numbers, numbers-many, numbers-slot}
 use Rattle.normal.proofs.WalkLaws.{places}
 use Rattle.normal.proofs.WalkingLaws.{run-from}
 use Rattle.normal.specs.Emitted.{Walkable, allRows, keepIn}
-use Rattle.normal.specs.Layout.{write}
-use Rattle.normal.specs.Normal.{nf, same}
 use Rattle.normal.specs.Ordered.{firstOfPlace, otherPlace, runFrom, runOf, tagNumbers, tagPlace, tagSlot}
 use Rattle.normal.specs.Pipeline.{enoughFor, keeping, normalRows, rowsFrom}
 use Rattle.normal.specs.Slots.{inconsistent, low, nonempty, settled, slot, slots}

@@ -14,13 +14,13 @@ use Rattle.blocks.specs.Faults.{Fault, blockFaults, entryFaults, fault, faults}
 use Rattle.blocks.specs.Frame.{blocksIn, plain}
 use Rattle.blocks.specs.Reading.{readingOf}
 use Rattle.blocks.specs.declared.Entry.{Entry}
+use Rattle.blocks.specs.declared.Reading.the-variants as reading
 use Rattle.blocks.specs.declared.Schema.{Schema}
 use Rattle.blocks.specs.declared.Schema.the-variants.{Description}
+use Rattle.logic.specs.Normal.{before}
 use Rattle.normal.proofs.AnswerLaws.{refused-why, too-short}
 use Rattle.normal.specs.Answer.{normaliseOf}
-use Rattle.normal.specs.Normal.{before}
 use Rattle.normal.specs.declared.NormalAnswer.the-variants.{Refused}
-use Rattle.blocks.specs.declared.Reading.the-variants as reading
 
 -- each row of the table has a number up to 6
 abbrev Small : List Fault → Type 0

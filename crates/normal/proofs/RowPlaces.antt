@@ -12,13 +12,13 @@ use native.Mathlib.Omega.{arith}
 use Rattle.base.proofs.Tests.{bool-cases, eq-eqb, eqb-self, ne-eqb, tests}
 use Rattle.blocks.specs.Entries.{zeroEntry}
 use Rattle.blocks.specs.declared.Entry.{Entry}
-use Rattle.fit.specs.Description.{Atom, Kind, Place, atom, has, lacks, least, most, nothing}
-use Rattle.fit.specs.Tree.{Early, Row, end, leafRow, nodeRow, rowOwner, tree}
-use Rattle.normal.proofs.Lookup.{same-rank, same-self}
-use Rattle.normal.proofs.Order.{before-cases, find-rest}
-use Rattle.normal.specs.Canonical.{Above, Ascending}
+use Rattle.logic.proofs.Lookup.{same-rank, same-self}
+use Rattle.logic.proofs.Order.{before-cases, find-rest}
+use Rattle.logic.specs.Canonical.{Above, Ascending}
+use Rattle.logic.specs.Normal.{before, find, isEnd, rank, sub}
+use Rattle.logic.specs.Place.{Atom, Kind, Place, atom, has, lacks, least, most, nothing}
+use Rattle.logic.specs.Tree.{Early, Row, end, leafRow, nodeRow, rowOwner, tree}
 use Rattle.normal.specs.Rows.{rowEntry}
-use Rattle.normal.specs.Normal.{before, find, isEnd, rank, sub}
 
 -- the entry of the row at position i
 abbrev pub entryOfRow : List (Row Atom ℕ) → ℕ → Entry

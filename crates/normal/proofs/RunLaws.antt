@@ -8,9 +8,9 @@ use mathlib.Core.Path.{_∙_, _≡_, ap, refl, sym}
 use native.Mathlib.Omega.{arith}
 use Rattle.base.proofs.Lists.{holds-self, listed, part-eq}
 use Rattle.base.proofs.Tests.{eq-cases, eq-eqb, ne-eqb}
+use Rattle.base.specs.Search.{firstFrom}
 use Rattle.normal.specs.Ordered.{firstOfPlace, runFrom, tagCell, tagIn, tagPlace}
 use Rattle.normal.specs.Pipeline.{part}
-use Rattle.normal.specs.Search.{firstFrom}
 use Rattle.normal.specs.Slots.{Cell}
 
 module _ (t z : List ℕ) (v : ℕ) where

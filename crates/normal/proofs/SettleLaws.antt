@@ -10,12 +10,12 @@ use mathlib.Core.Logic.{inl}
 use mathlib.Core.Path.{_∙_, _≡_, ap, refl}
 use native.Mathlib.Omega.{arith}
 use Rattle.base.proofs.Tests.{and-zero, bool-cases, eq-cases, eq-eqb, ne-eqb}
-use Rattle.fit.specs.Record.{bit}
+use Rattle.logic.specs.Normal.{found}
+use Rattle.logic.specs.Record.{bit}
+use Rattle.logic.specs.Witness.{below}
 use Rattle.normal.proofs.TableLaws.{high-made, key-made, low-made, slots-other}
-use Rattle.normal.specs.Normal.{found}
 use Rattle.normal.specs.Slots.{Slot, broken, closed, inconsistent, nonempty, settled, slot}
 use Rattle.normal.specs.Tables.{Placed, Settling, Slotted, closedBound, highIn, highPart, keyIn, lowPart, slotIn, slotNumber, slotsFrom}
-use Rattle.normal.specs.Witness.{below}
 
 -- an upper bound that is closed
 closed-high : (c : Bool) (h : ℕ) → highIn (cond c 0 h) ≡ closed c (highIn h)

@@ -6,10 +6,10 @@ use mathlib.Core.Bool.{Bool, _&&_, _||_, and-true, false, not, or-and-distrib-le
 use mathlib.Core.Option.{Option, none, some}
 use mathlib.Core.Path.{_∙_, _≡_, ap, fun-ext, refl, sym}
 use Rattle.base.proofs.Tests.{and-both, and-left, and-right, bool-cases, iff-eq, or-right, tests}
-use Rattle.fit.proofs.Counting.{every-and, every-ext, every-of}
-use Rattle.fit.specs.Description.{Kind, atom, has, lacks, least, most, nothing}
-use Rattle.fit.specs.Record.{Record, eachLinked, meets, successors}
-use Rattle.normal.specs.Normal.{found}
+use Rattle.logic.proofs.Counting.{every-and, every-ext, every-of}
+use Rattle.logic.specs.Normal.{found}
+use Rattle.logic.specs.Place.{Kind, atom, has, lacks, least, most, nothing}
+use Rattle.logic.specs.Record.{Record, eachLinked, meets, successors}
 use Rattle.normal.specs.Slots.{high, isLink, low, smaller}
 
 -- a count is within an upper bound, if there is one

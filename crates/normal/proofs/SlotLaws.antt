@@ -10,8 +10,8 @@ use mathlib.Core.Path.{_∙_, _≡_, refl}
 use native.Mathlib.Omega.{arith}
 use Rattle.base.proofs.Cases.{opt-cases, some-none}
 use Rattle.base.proofs.Tests.{and-left, and-right, bool-cases, eqb-eq, eqb-sym, neither-left, neither-right, or-none}
-use Rattle.fit.specs.Description.{Atom, atom}
-use Rattle.fit.specs.Tree.{Row, leafRow, nodeRow}
+use Rattle.logic.specs.Place.{Atom, atom}
+use Rattle.logic.specs.Tree.{Row, leafRow, nodeRow}
 use Rattle.normal.specs.Slots.{DistinctSlots, EarlySlots, Slot, atTop, build, high, isLink, leading, low, position, sameClass, sameKey, sameName, slot, slots, taken, tighten}
 
 -- ---- keys

@@ -9,7 +9,7 @@ use mathlib.Core.Option.{Option, none}
 use mathlib.Core.Path.{_∙_, _≡_, ap, fun-ext, refl, sym}
 use native.Mathlib.Omega.{arith}
 use Rattle.base.proofs.Tests.{and-swap, and-zero, bool-cases, eqb-self, tests}
-use Rattle.fit.specs.Record.{Record, eachLinked}
+use Rattle.logic.specs.Record.{Record, eachLinked}
 use Rattle.normal.proofs.SlotBounds.{below-ext, below-true, eachBelow, inside, inside-both, inside-free, linked-and}
 use Rattle.normal.proofs.SlotLaws.{key-name, key-place, name-class, name-eq, position-from}
 use Rattle.normal.specs.Slots.{EarlySlots, Slot, position, sameKey, slot, tighten}

@@ -9,13 +9,13 @@ use mathlib.Core.Option.{Option, none, some}
 use mathlib.Core.Path.{_∙_, _≡_, ap, refl}
 use native.Mathlib.Omega.{arith}
 use Rattle.base.proofs.Tests.{bool-cases, eqb-self, eqb-sym, tests}
-use Rattle.fit.specs.Description.{Atom, Kind}
-use Rattle.fit.specs.Tree.{Row, end}
+use Rattle.logic.specs.Normal.{atMost, find, sub}
+use Rattle.logic.specs.Place.{Atom, Kind}
+use Rattle.logic.specs.Tree.{Row, end}
 use Rattle.normal.proofs.FormNormal.{form-find, form-sub}
 use Rattle.normal.proofs.Forms.{form}
 use Rattle.normal.proofs.SlotLaws.{key-name, key-place, name-class, name-eq, position-from}
 use Rattle.normal.proofs.WrittenLists.{value-none}
-use Rattle.normal.specs.Normal.{atMost, find, sub}
 use Rattle.normal.specs.Slots.{Cell, Slot, cell, cells, closed, inconsistent, isLink, lookup, position, sameKey, sameName, settled, slot, slotAt, slotHigh, slotLow, slots, taken, value}
 
 -- the slots of one key are among them

@@ -9,6 +9,7 @@ use mathlib.Core.Path.{_∙_, _≡_, ap, refl, sym}
 use native.Mathlib.Omega.{arith}
 use Rattle.base.proofs.Tests.{eq-cases, eq-eqb, ne-eqb}
 use Rattle.base.specs.Range.{all}
+use Rattle.base.specs.Search.{firstFrom}
 use Rattle.blocks.proofs.Accepting.{accepted-by-none, none-of-accepted, refused-by-first, sound-of-accepted}
 use Rattle.blocks.proofs.Faithful.{entries-limit}
 use Rattle.blocks.proofs.FirstFault.{FirstOf, None}
@@ -17,19 +18,18 @@ use Rattle.blocks.specs.Entries.{entriesOf}
 use Rattle.blocks.specs.Faults.{faults}
 use Rattle.blocks.specs.Reading.{readingOf}
 use Rattle.blocks.specs.declared.Reading.{Reading}
-use Rattle.normal.specs.declared.Holding.the-variants.{All, Fails, Refused}
+use Rattle.blocks.specs.declared.Reading.the-variants as reading
 use Rattle.blocks.specs.declared.Schema.the-variants.{Description}
 use Rattle.fit.specs.Description.{rowOf}
-use Rattle.fit.specs.Record.{bit, every}
+use Rattle.logic.specs.Record.{bit, every}
 use Rattle.normal.proofs.HoldingLaws.{bottom-first, slots-first}
 use Rattle.normal.proofs.TableLaws.{length-slots}
 use Rattle.normal.proofs.Written.{kept}
 use Rattle.normal.specs.Holding.{heldBy, holdingOf, holdingReturned, unheld}
-use Rattle.normal.specs.Search.{firstFrom}
 use Rattle.normal.specs.Slots.{Slot, inconsistent, settled, slot, slots}
 use Rattle.normal.specs.States.{Indexed, heldIn}
 use Rattle.normal.specs.Tables.{Chained, Owned}
-use Rattle.blocks.specs.declared.Reading.the-variants as reading
+use Rattle.normal.specs.declared.Holding.the-variants.{All, Fails, Refused}
 
 -- ---- two inputs
 

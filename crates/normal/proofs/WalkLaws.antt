@@ -8,11 +8,11 @@ use mathlib.Core.Path.{_∙_, _≡_, ap, refl, sym}
 use native.Mathlib.Omega.{arith}
 use Rattle.base.proofs.Cases.{opt-cases}
 use Rattle.base.proofs.Tests.{bool-cases}
-use Rattle.fit.specs.Description.{Atom, Kind, Place, atom, has, lacks, least, most}
-use Rattle.fit.specs.Tree.{Row, leaf, leafRow, node, nodeRow}
-use Rattle.normal.proofs.LayoutLaws.{load, load-later, weight-pos}
+use Rattle.logic.proofs.LayoutLaws.{load, load-later, weight-pos}
+use Rattle.logic.specs.Layout.{Queue, done, job, later, lay, weight, write}
+use Rattle.logic.specs.Place.{Atom, Kind, Place, atom, has, lacks, least, most}
+use Rattle.logic.specs.Tree.{Row, leaf, leafRow, node, nodeRow}
 use Rattle.normal.proofs.Written.{kept, leafIf, ofEvery, ofKind, written}
-use Rattle.normal.specs.Layout.{Queue, done, job, later, lay, weight, write}
 use Rattle.normal.specs.Pipeline.{outEvery, outKind, walk}
 use Rattle.normal.specs.Slots.{Cell, cell, isLink, sameClass, value}
 

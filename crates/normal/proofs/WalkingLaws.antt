@@ -12,8 +12,9 @@ use native.Mathlib.Omega.{arith}
 use Rattle.base.proofs.Lists.{zeros-read}
 use Rattle.base.proofs.Tests.{bool-cases, eq-cases}
 use Rattle.blocks.proofs.Blocks.{parts}
-use Rattle.fit.specs.Description.{Atom}
-use Rattle.fit.specs.Tree.{Row}
+use Rattle.logic.specs.Layout.{Queue, done, job}
+use Rattle.logic.specs.Place.{Atom}
+use Rattle.logic.specs.Tree.{Row}
 use Rattle.normal.proofs.EmitLaws.{walk-done, walk-place}
 use Rattle.normal.proofs.FillLaws.{Codes, filled-anew, filled-none, noted-after, noted-good, noted-length, queue-each, queue-next, queue-none, queue-past}
 use Rattle.normal.proofs.FirstLaws.{first-within}
@@ -21,7 +22,6 @@ use Rattle.normal.proofs.PlacingLaws.{every-length}
 use Rattle.normal.proofs.PushLaws.{Pushing, part-room, pushed-total, pushing-done, pushing-more, pushing-room, pushing-same}
 use Rattle.normal.specs.Emitted.{Placing, Pushed, Walkable, allRows, atomRows, everyRows, everySlots, keepCell, placeRows}
 use Rattle.normal.specs.Filling.{laterEach, queueFrom}
-use Rattle.normal.specs.Layout.{Queue, done, job}
 use Rattle.normal.specs.Ordered.{firstOfPlace, otherPlace, runFrom, runOf, tagCell, tagPlace, tagSlot}
 use Rattle.normal.specs.Pipeline.{walk}
 use Rattle.normal.specs.Slots.{Cell}

@@ -7,16 +7,16 @@ use mathlib.Core.Option.{Option, none, some}
 use mathlib.Core.Path.{_∙_, _≡_, ap, refl, sym}
 use native.Mathlib.Omega.{arith}
 use Rattle.base.proofs.Tests.{and-left, and-right, bool-cases, false-of-not}
-use Rattle.fit.specs.Description.{Kind, Place, atom, has, lacks, least, most}
-use Rattle.fit.specs.Record.{bit}
-use Rattle.fit.specs.Tree.{end, leaf, node}
-use Rattle.normal.proofs.Order.{before-cases, before-eq, before-lt}
+use Rattle.base.specs.Sorted.{AllAfter, Sorted}
+use Rattle.logic.proofs.Order.{before-cases, before-eq, before-lt}
+use Rattle.logic.specs.Canonical.{Above, Ascending}
+use Rattle.logic.specs.Normal.{atMost, before, isEnd, rank}
+use Rattle.logic.specs.Place.{Kind, Place, atom, has, lacks, least, most}
+use Rattle.logic.specs.Record.{bit}
+use Rattle.logic.specs.Tree.{end, leaf, node}
 use Rattle.normal.proofs.SlotLaws.{class-eq}
-use Rattle.normal.specs.Canonical.{Above, Ascending}
-use Rattle.normal.specs.Normal.{atMost, before, isEnd, rank}
 use Rattle.normal.specs.Pipeline.{beforeCell}
 use Rattle.normal.specs.Slots.{Cell, cell, isLink, sameClass, value}
-use Rattle.normal.specs.Sorted.{AllAfter, Sorted}
 
 -- ---- the place
 

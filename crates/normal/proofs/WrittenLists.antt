@@ -8,17 +8,17 @@ use mathlib.Core.Option.{Option, none, some}
 use mathlib.Core.Path.{_∙_, _≡_, refl, sym}
 use native.Mathlib.Omega.{arith}
 use Rattle.base.proofs.Tests.{and-zero, bool-cases, eqb-eq, eqb-sym, tests}
-use Rattle.fit.specs.Description.{Kind, Place, has, lacks, least, most, nothing}
-use Rattle.fit.specs.Record.{bit}
-use Rattle.fit.specs.Tree.{end}
-use Rattle.normal.proofs.Lookup.{is-end, same-self}
-use Rattle.normal.proofs.Order.{before-cases}
+use Rattle.base.specs.Sorted.{AllAfter, Sorted}
+use Rattle.logic.proofs.Lookup.{is-end, same-self}
+use Rattle.logic.proofs.Order.{before-cases}
+use Rattle.logic.specs.Normal.{atMost, before, find, isEnd, rank, same, sub}
+use Rattle.logic.specs.Place.{Kind, Place, has, lacks, least, most, nothing}
+use Rattle.logic.specs.Record.{bit}
+use Rattle.logic.specs.Tree.{end}
 use Rattle.normal.proofs.SlotLaws.{class-eq}
 use Rattle.normal.proofs.Written.{kept, leafIf, ofEvery, ofKind, written}
-use Rattle.normal.specs.Normal.{atMost, before, find, isEnd, rank, same, sub}
 use Rattle.normal.specs.Pipeline.{beforeCell}
 use Rattle.normal.specs.Slots.{Cell, cell, highOf, isLink, lookup, lowOf, sameClass, sameName, value}
-use Rattle.normal.specs.Sorted.{AllAfter, Sorted}
 
 -- the place below a cell; nothing is owned where there is none, or where the link is at most 0
 abbrev pub below : (ℕ → Place) → Option Cell → Place

@@ -8,14 +8,14 @@ use mathlib.Core.Option.{Option, none, some}
 use mathlib.Core.Path.{_∙_, _≡_, refl, sym}
 use Rattle.base.proofs.Cases.{and-cong}
 use Rattle.base.proofs.Tests.{bool-cases, tests}
-use Rattle.fit.specs.Description.{Place, has, lacks, least, most}
-use Rattle.fit.specs.Record.{Record, eachLinked, fits, meets, successors}
-use Rattle.fit.specs.Tree.{end, leaf, node}
-use Rattle.normal.proofs.Fits.{end-sound, linked-none}
+use Rattle.logic.proofs.Fits.{end-sound, linked-none}
+use Rattle.logic.specs.Normal.{atMost, found, isEnd}
+use Rattle.logic.specs.Place.{Place, has, lacks, least, most}
+use Rattle.logic.specs.Record.{Record, eachLinked, fits, meets, successors}
+use Rattle.logic.specs.Tree.{end, leaf, node}
 use Rattle.normal.proofs.SlotBounds.{below-true, capped, eachBelow, inside}
 use Rattle.normal.proofs.Written.{kept, written}
 use Rattle.normal.proofs.WrittenPasses.{allCells, cellPasses, cells-ext, ifListed, passes, written-passes}
-use Rattle.normal.specs.Normal.{atMost, found, isEnd}
 use Rattle.normal.specs.Slots.{Cell, cell, value}
 
 -- ---- when it is empty

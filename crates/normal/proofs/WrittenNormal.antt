@@ -9,19 +9,19 @@ use mathlib.Core.Option.{Option, none, some}
 use mathlib.Core.Path.{_∙_, _≡_, ap, refl, sym}
 use Rattle.base.proofs.Cases.{some-none}
 use Rattle.base.proofs.Tests.{and-both, and-left, and-right, bool-cases, false-of-not, not-to-true, tests}
-use Rattle.fit.specs.Background.{unrestricted}
-use Rattle.fit.specs.Description.{Place, atom, has, lacks, least, most, nothing}
+use Rattle.base.specs.Sorted.{Sorted}
+use Rattle.logic.proofs.Plain.{clash-plain, excluded-plain, supports-plain}
+use Rattle.logic.specs.Background.{unrestricted}
+use Rattle.logic.specs.Canonical.{Canonical, Clean, canonical}
+use Rattle.logic.specs.Normal.{atMost, found, isEnd, over, sub, supports, under}
+use Rattle.logic.specs.Place.{Place, atom, has, lacks, least, most, nothing}
 use Rattle.normal.proofs.CellLaws.{lookup-cases}
 use Rattle.normal.proofs.FormMeaning.{cellWhole}
-use Rattle.normal.proofs.Plain.{clash-plain, excluded-plain, supports-plain}
 use Rattle.normal.proofs.Written.{kept, written, written-ascending}
 use Rattle.normal.proofs.WrittenLists.{below, written-find, written-sub}
 use Rattle.normal.proofs.WrittenPasses.{allCells}
-use Rattle.normal.specs.Canonical.{Canonical, Clean, canonical}
-use Rattle.normal.specs.Normal.{atMost, found, isEnd, over, sub, supports, under}
 use Rattle.normal.specs.Pipeline.{beforeCell}
 use Rattle.normal.specs.Slots.{Cell, broken, cell, highOf, lookup, lowOf, value}
-use Rattle.normal.specs.Sorted.{Sorted}
 
 all-member : (p : Cell → Bool) (q : List Cell) → allCells p q ≡ true → (c : Cell) → List·Memᴰ c q → p c ≡ true
 unfolding allCells

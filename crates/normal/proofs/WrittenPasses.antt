@@ -6,8 +6,8 @@ use mathlib.Core.List.{List, [], _∷_}
 use mathlib.Core.Option.{Option, none, some}
 use mathlib.Core.Path.{_∙_, _≡_, refl, sym}
 use Rattle.base.proofs.Tests.{and-swap, bool-cases}
-use Rattle.fit.specs.Description.{Atom, Kind, Place, atom, has, lacks, least, most}
-use Rattle.fit.specs.Tree.{end, leaf, node}
+use Rattle.logic.specs.Place.{Atom, Kind, Place, atom, has, lacks, least, most}
+use Rattle.logic.specs.Tree.{end, leaf, node}
 use Rattle.normal.proofs.Written.{kept, leafIf, ofEvery, ofKind, written}
 use Rattle.normal.specs.Slots.{Cell, cell, isLink, sameClass, value}
 

@@ -10,15 +10,15 @@ use native.Mathlib.Numerals.{one-add}
 use native.Mathlib.Omega.{arith}
 use Rattle.blocks.specs.Entries.{nth}
 use Rattle.blocks.specs.declared.Entry.{Entry}
-use Rattle.fit.specs.Background.{Background, LawfulBackground}
-use Rattle.fit.specs.Description.{Atom, Place, atom}
-use Rattle.fit.specs.Tree.{Early, Row, end, leaf, leafRow, node, nodeRow, tree}
-use Rattle.normal.proofs.LayoutLaws.{write-early, write-reads}
-use Rattle.normal.proofs.Normal.{canonical-sub}
+use Rattle.logic.proofs.LayoutLaws.{write-early, write-reads}
+use Rattle.logic.proofs.Normal.{canonical-sub}
+use Rattle.logic.specs.Background.{Background, LawfulBackground}
+use Rattle.logic.specs.Canonical.{Ascending, Canonical, canonical}
+use Rattle.logic.specs.Layout.{Queue, done, job, later, lay, weight, write}
+use Rattle.logic.specs.Place.{Atom, Place, atom}
+use Rattle.logic.specs.Tree.{Early, Row, end, leaf, leafRow, node, nodeRow, tree}
 use Rattle.normal.proofs.RowPlaces.{EveryRow, entryOfRow, every-row}
-use Rattle.normal.specs.Canonical.{Ascending, Canonical, canonical}
 use Rattle.normal.specs.Rows.{rowEntry}
-use Rattle.normal.specs.Layout.{Queue, done, job, later, lay, weight, write}
 
 -- ---- owners
 

@@ -13,10 +13,10 @@ use Rattle.blocks.specs.declared.Entry.{Entry}
 use Rattle.blocks.specs.declared.Reading.{Reading}
 use Rattle.blocks.specs.declared.Reading.the-variants as reading
 use Rattle.blocks.specs.declared.Schema.the-variants.{Description}
-use Rattle.fit.specs.Background.{unrestricted}
 use Rattle.fit.specs.Description.{placeOf}
-use Rattle.normal.specs.Layout.{write}
-use Rattle.normal.specs.Normal.{nf}
+use Rattle.logic.specs.Background.{unrestricted}
+use Rattle.logic.specs.Layout.{write}
+use Rattle.logic.specs.Normal.{nf}
 use Rattle.normal.specs.Rows.{rowEntry}
 use Rattle.normal.specs.declared.NormalAnswer.{NormalAnswer}
 use Rattle.normal.specs.declared.NormalAnswer.the-variants.{Normalised, Refused}

@@ -9,12 +9,13 @@ use mathlib.Core.Logic.{_≢_}
 use mathlib.Core.Option.{Option, none, some}
 use mathlib.Core.Path.{_≡_}
 use Rattle.blocks.specs.Entries.{Bounded, entriesOf, nth, packed}
-use Rattle.fit.specs.Background.{unrestricted}
-use Rattle.fit.specs.Description.{Atom, Kind, atom, has, lacks, least, most, placeOf}
-use Rattle.fit.specs.Tree.{Row, leafRow, nodeRow}
+use Rattle.fit.specs.Description.{placeOf}
+use Rattle.logic.specs.Background.{unrestricted}
+use Rattle.logic.specs.Layout.{done, job, write}
+use Rattle.logic.specs.Normal.{atMost, nf}
+use Rattle.logic.specs.Place.{Atom, Kind, atom, has, lacks, least, most}
+use Rattle.logic.specs.Tree.{Row, leafRow, nodeRow}
 use Rattle.normal.specs.Filling.{Filled, Joined}
-use Rattle.normal.specs.Layout.{done, job, write}
-use Rattle.normal.specs.Normal.{atMost, nf}
 use Rattle.normal.specs.Ordered.{tagNumbers, tagPlace, tagSlot}
 use Rattle.normal.specs.Pipeline.{walk}
 use Rattle.normal.specs.Rows.{rowEntry}

@@ -7,7 +7,7 @@ use lib.ListN.{getD, length, set, take}
 use mathlib.Core.Bool.{cond}
 use mathlib.Core.List.{List, [], _++_, _∷_}
 use mathlib.Core.Path.{_≡_}
-use Rattle.normal.specs.Layout.{Queue, done, job, later}
+use Rattle.logic.specs.Layout.{Queue, done, job, later}
 
 -- numbers are pushed onto a table of so many places, which has `from` of them, and then has r
 pub record Filled (width : ℕ) (rows : List ℕ) (from : ℕ) (L : List ℕ) (rows′ : List ℕ) (r : ℕ) : Type 0 where

@@ -4,9 +4,9 @@ use Prim.Native.Nat.{_*_, _+_, _<_, ℕ}
 use mathlib.Core.Bool.{Bool}
 use mathlib.Core.List.{List, [], _∷_}
 use mathlib.Core.Option.{Option, none, some}
-use Rattle.fit.specs.Description.{Atom, atom}
-use Rattle.fit.specs.Record.{bit}
-use Rattle.fit.specs.Tree.{Row, leafRow, nodeRow}
+use Rattle.logic.specs.Place.{Atom, atom}
+use Rattle.logic.specs.Record.{bit}
+use Rattle.logic.specs.Tree.{Row, leafRow, nodeRow}
 use Rattle.normal.specs.Slots.{Slot, slot}
 
 -- the key of a slot: its place, its class and its name

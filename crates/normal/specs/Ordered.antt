@@ -5,8 +5,8 @@ use lib.Dec.{eqb}
 use lib.ListN.{getD}
 use mathlib.Core.Bool.{Bool, cond, not}
 use mathlib.Core.List.{List, [], _∷_}
+use Rattle.base.specs.Search.{firstFrom}
 use Rattle.normal.specs.Pipeline.{Tag, tag}
-use Rattle.normal.specs.Search.{firstFrom}
 use Rattle.normal.specs.Slots.{Cell, cell}
 use Rattle.normal.specs.Tables.{highIn, highPart, keyIn, lowPart}
 

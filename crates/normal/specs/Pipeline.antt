@@ -6,13 +6,13 @@ use lib.ListN.{length}
 use mathlib.Core.Bool.{Bool, _&&_, _||_, cond, not}
 use mathlib.Core.List.{List, [], _∷_}
 use mathlib.Core.Option.{Option, none, some}
-use Rattle.fit.specs.Description.{Atom, Kind, atom, has, lacks, least, most, nothing}
-use Rattle.fit.specs.Record.{bit}
-use Rattle.fit.specs.Tree.{Row, leafRow, nodeRow}
-use Rattle.normal.specs.Layout.{Queue, done, job, later}
-use Rattle.normal.specs.Normal.{atMost, before}
+use Rattle.base.specs.Sorted.{sort}
+use Rattle.logic.specs.Layout.{Queue, done, job, later}
+use Rattle.logic.specs.Normal.{atMost, before}
+use Rattle.logic.specs.Place.{Atom, Kind, atom, has, lacks, least, most, nothing}
+use Rattle.logic.specs.Record.{bit}
+use Rattle.logic.specs.Tree.{Row, leafRow, nodeRow}
 use Rattle.normal.specs.Slots.{Cell, Slot, cell, cells, closed, inconsistent, isLink, nonempty, sameClass, settled, slot, slots, value}
-use Rattle.normal.specs.Sorted.{sort}
 
 -- ---- the third pass: the cells of each place in ascending order
 

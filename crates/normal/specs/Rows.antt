@@ -4,9 +4,9 @@ use Prim.Native.Nat.{ℕ}
 use lib.Dec.{eqb, ltb}
 use mathlib.Core.Bool.{Bool, _&&_, _||_}
 use Rattle.blocks.specs.declared.Entry.{Entry}
-use Rattle.fit.specs.Description.{Atom, atom}
-use Rattle.fit.specs.Tree.{Row, leafRow, nodeRow}
-use Rattle.normal.specs.Normal.{before, rank}
+use Rattle.logic.specs.Normal.{before, rank}
+use Rattle.logic.specs.Place.{Atom, atom}
+use Rattle.logic.specs.Tree.{Row, leafRow, nodeRow}
 
 -- the entry of a row
 abbrev pub rowEntry : Row Atom ℕ → Entry

@@ -6,9 +6,9 @@ use mathlib.Core.Bool.{Bool, _&&_, _||_, cond, false, not, true}
 use mathlib.Core.List.{List, [], _∷_}
 use mathlib.Core.Option.{Option, none, some}
 use mathlib.Core.Path.{_≡_}
-use Rattle.fit.specs.Description.{Atom, Kind, atom, has, lacks, least, most, nothing}
-use Rattle.fit.specs.Tree.{Row, leafRow, nodeRow}
-use Rattle.normal.specs.Normal.{found, under}
+use Rattle.logic.specs.Normal.{found, under}
+use Rattle.logic.specs.Place.{Atom, Kind, atom, has, lacks, least, most, nothing}
+use Rattle.logic.specs.Tree.{Row, leafRow, nodeRow}
 
 -- A slot: the place where it stands, whether its name is a link's (else it is a property's), its name, the number of items that
 -- there are at least, and the number that there are at most, if any. Slots count from 1. The place below a link's slot has the

@@ -9,7 +9,7 @@ use mathlib.Core.Path.{_≡_}
 use Rattle.blocks.specs.Entries.{nth}
 use Rattle.blocks.specs.Owners.{ownerOf}
 use Rattle.blocks.specs.declared.Entry.{Entry}
-use Rattle.normal.specs.Normal.{atMost, found}
+use Rattle.logic.specs.Normal.{atMost, found}
 use Rattle.normal.specs.Slots.{Slot, position, settled, slotAt, slotHigh, slotLow, taken}
 use Rattle.normal.specs.Tables.{Kept, slotsFrom}
 

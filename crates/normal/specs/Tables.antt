@@ -12,9 +12,9 @@ use Rattle.blocks.specs.Entries.{Bounded, entriesOf, nth}
 use Rattle.blocks.specs.Owners.{ownerOf}
 use Rattle.blocks.specs.declared.Entry.{Entry}
 use Rattle.fit.specs.Description.{rowOf}
-use Rattle.fit.specs.Record.{bit}
+use Rattle.logic.specs.Normal.{found}
+use Rattle.logic.specs.Record.{bit}
 use Rattle.normal.specs.Chain.{Chains}
-use Rattle.normal.specs.Normal.{found}
 use Rattle.normal.specs.Slots.{Slot, broken, inconsistent, nonempty, position, settled, slot, slots, tighten}
 
 -- an upper bound as a number; 65,536 for none

@@ -4,7 +4,7 @@ ghost use mathlib.Core.Path.{_≡_};
 ghost use mathlib.Core.List.{[], _∷_};
 ghost use Prim.Native.Nat.{_+_, _*_, _-_, _≤_, _<_};
 ghost use lib.ListN.{length, getD};
-ghost use Rattle.fit.specs.Description.{kindOf};
+ghost use Rattle.logic.specs.Place.{kindOf};
 ghost use Rattle.normal.specs.Slots.{value};
 ghost use Rattle.normal.specs.Tables.{highIn, lowPart};
 ghost use Rattle.normal.specs.Ordered.{tagSlot, tagCell, runFrom};

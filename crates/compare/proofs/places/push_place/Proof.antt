@@ -6,7 +6,7 @@ use Rattle.compare.proofs.PlaceLaws.{asked-joints, first-room, place-do
 use Rattle.compare.specs.Codes.{groupsWith, jointsBy, propertiesBy}
 use Rattle.compare.specs.Laying.{joint}
 use Rattle.compare.specs.Table.{namesWith}
-use Rattle.normal.specs.SpecimenTree.{group}
+use Rattle.logic.specs.SpecimenTree.{group}
 use Rattle.compare.proofs.places.push_place.Statement.{statement}
 use Rattle.compare.proofs.places.push_place.Tie as tie
 

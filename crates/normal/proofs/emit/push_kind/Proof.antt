@@ -5,7 +5,7 @@ use lib.ListN.{getD}
 use mathlib.Core.Logic.{_≢_}
 use mathlib.Core.Path.{_∙_, _≡_, sym}
 use native.Mathlib.Omega.{arith}
-use Rattle.fit.specs.Description.{kindOf}
+use Rattle.logic.specs.Place.{kindOf}
 use Rattle.normal.proofs.PushLaws.{Pushing, kinds-more, kinds-none, kinds-room, pushing-done, pushing-more, pushing-room, pushing-start, run-ends, run-stops}
 use Rattle.normal.specs.Emitted.{cellName, cellValue, kindRows, rowsIf}
 use Rattle.normal.specs.Ordered.{runFrom, tagCell, tagPlace}

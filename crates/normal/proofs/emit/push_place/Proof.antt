@@ -1,7 +1,7 @@
 -- `push_place` meets its contract: the rows of each kind one after the other.
 use Prim.Native.Nat.{_-_}
 use native.Mathlib.Omega.{arith}
-use Rattle.fit.specs.Description.{has, kindOf, lacks, least, most}
+use Rattle.logic.specs.Place.{has, kindOf, lacks, least, most}
 use Rattle.normal.proofs.PlacingLaws.{atoms-pushed, place-length, place-pushed}
 use Rattle.normal.proofs.PushLaws.{pushed-total}
 use Rattle.normal.specs.Emitted.{keepIn, kindRows}

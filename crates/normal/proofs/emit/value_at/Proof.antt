@@ -7,8 +7,8 @@ use mathlib.Core.Logic.{⊎-elim}
 use mathlib.Core.Path.{_∙_, _≡_}
 use native.Mathlib.Omega.{arith}
 use Rattle.base.proofs.Tests.{confirmed, eq-cases, ge-ltb, lt-ltb, refuted}
-use Rattle.fit.specs.Description.{kindOf}
-use Rattle.normal.specs.Normal.{same}
+use Rattle.logic.specs.Normal.{same}
+use Rattle.logic.specs.Place.{kindOf}
 use Rattle.normal.specs.Ordered.{tagCell}
 use Rattle.normal.specs.Slots.{isLink, sameClass}
 use Rattle.normal.proofs.emit.value_at.Statement.{statement}

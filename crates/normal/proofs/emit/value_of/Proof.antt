@@ -2,7 +2,7 @@
 use mathlib.Core.Path.{_≡_}
 use native.Mathlib.Omega.{arith}
 use Rattle.base.proofs.Tests.{eq-eqb, ge-ltb, lt-ltb, ne-eqb}
-use Rattle.fit.specs.Description.{kindOf}
+use Rattle.logic.specs.Place.{kindOf}
 use Rattle.normal.proofs.emit.value_of.Statement.{statement}
 use Rattle.normal.proofs.emit.value_of.Tie as tie
 

@@ -6,13 +6,13 @@ use mathlib.Core.List.{List}
 use mathlib.Core.Path.{_∙_, _≡_, ap, refl, sym}
 use native.Mathlib.Omega.{arith}
 use Rattle.base.proofs.Tests.{false-of-not, true-of-not}
+use Rattle.base.specs.Search.{firstFrom}
 use Rattle.blocks.proofs.EntryLaws.{of-nth}
 use Rattle.blocks.specs.Entries.{entriesOf, nth}
 use Rattle.blocks.specs.Owners.{ownerOf}
 use Rattle.blocks.specs.declared.Entry.{Entry}
 use Rattle.normal.proofs.FirstLaws.{first-end, first-goes, first-stops}
 use Rattle.normal.proofs.SlotStates.{States, held-here, small-more, small-start, states-more, states-owner, states-start}
-use Rattle.normal.specs.Search.{firstFrom}
 use Rattle.normal.specs.Slots.{Slot}
 use Rattle.normal.specs.States.{Indexed, heldAt, heldIn, stateBelow, stateOf}
 use Rattle.normal.proofs.states.first_failing.Statement.{statement}

@@ -1,0 +1,12 @@
+pub mod Tree
+pub mod Place
+pub mod Record
+pub mod Background
+pub mod Normal
+pub mod Canonical
+pub mod Meaning
+pub mod Size
+pub mod Holds
+pub mod SpecimenTree
+pub mod Witness
+pub mod Layout
