@@ -13,9 +13,9 @@ use Rattle.logic.specs.Normal.{atMost, found}
 use Rattle.normal.proofs.EnterLaws.{scan-some}
 use Rattle.normal.proofs.SlotSearch.{high-slot, low-slot}
 use Rattle.normal.specs.Chain.{Chains, scan}
-use Rattle.normal.specs.Slots.{Slot}
 use Rattle.normal.specs.States.{Indexed, highAt, lowAt}
 use Rattle.normal.specs.Tables.{Kept, Settling, highIn, highPart, lowPart}
+use Rattle.passes.specs.Slots.{Slot}
 
 -- what a search finds is a slot or 0
 pub scan-most : (key : ℕ → ℕ) (k n : ℕ) {s : ℕ} → s ≡ scan key k n → s ≤ n

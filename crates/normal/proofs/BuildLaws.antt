@@ -22,8 +22,8 @@ use Rattle.logic.specs.Normal.{put, same}
 use Rattle.logic.specs.Place.{kindOf}
 use Rattle.normal.proofs.ChainLaws.{chain-none}
 use Rattle.normal.specs.Chain.{Chains}
-use Rattle.normal.specs.Slots.{Slot, atTop, build, high, isLink, leading, low, position, slots, tighten}
 use Rattle.normal.specs.Tables.{Entered, Kept, Nodes, Owned, hashOf, highIn, highKind, keyIn, leadsTo, linkKind, lowKind, slotsFrom, slotsIn}
+use Rattle.passes.specs.Slots.{Slot, atTop, build, high, isLink, leading, low, position, slots, tighten}
 
 -- ---- kinds by number
 

@@ -28,10 +28,10 @@ use Rattle.logic.specs.Place.{kindOf}
 use Rattle.logic.specs.SpecimenTree.{total}
 use Rattle.logic.specs.Tree.{tree}
 use Rattle.normal.proofs.AnswerLaws.{normalised}
-use Rattle.normal.proofs.Forms.{form}
 use Rattle.normal.specs.Answer.{normalEntries, normaliseOf, normalisedOf, outputAfter}
 use Rattle.normal.specs.Cases.{Line, lines, normalises}
 use Rattle.normal.specs.declared.NormalAnswer.the-variants.{Normalised}
+use Rattle.passes.proofs.Forms.{form}
 
 -- what a line says: the entries as blocks give the number of entries, and their blocks at the start of each output that is long enough
 abbrev pub Right : Line → Type 0

@@ -15,8 +15,8 @@ use Rattle.logic.specs.Place.{Atom, Kind, atom, has, lacks, least, most}
 use Rattle.logic.specs.Tree.{Row, leafRow, nodeRow}
 use Rattle.normal.specs.Emitted.{atomRows, everyRows, everySlots, kindRows}
 use Rattle.normal.specs.Filling.{laterEach}
-use Rattle.normal.specs.Pipeline.{outEvery, outKind, walk}
-use Rattle.normal.specs.Slots.{Cell, cell, isLink, sameClass, value}
+use Rattle.passes.specs.Pipeline.{outEvery, outKind, walk}
+use Rattle.passes.specs.Slots.{Cell, cell, isLink, sameClass, value}
 
 -- ---- one kind
 

@@ -16,8 +16,8 @@ use Rattle.normal.proofs.ChainLaws.{chain-new}
 use Rattle.normal.proofs.SearchLaws.{keysOf}
 use Rattle.normal.proofs.TableLaws.{key-made, position-found, position-none, slot-made, slots-last, slots-other, tighten-found, tighten-none}
 use Rattle.normal.specs.Chain.{Chains, changed, scan}
-use Rattle.normal.specs.Keys.{keyNumber}
 use Rattle.normal.specs.Tables.{Entered, Kept, hashOf, highIn, highPart, keyIn, lowPart, slotNumber}
+use Rattle.passes.specs.Keys.{keyNumber}
 
 -- ---- what a search finds
 

@@ -26,14 +26,14 @@ use Rattle.logic.specs.Normal.{atMost, enough, find, found, nf, sub, supports}
 use Rattle.logic.specs.Place.{Atom, Kind, atom, has, kindOf, lacks, least, most}
 use Rattle.logic.specs.Tree.{Row, end}
 use Rattle.normal.proofs.FirstLaws.{first-same, none-failing}
-use Rattle.normal.proofs.FormNormal.{form-top, top-bottom}
-use Rattle.normal.proofs.Forms.{form, formed}
-use Rattle.normal.proofs.SlotLaws.{position-from}
-use Rattle.normal.proofs.SlotNumbers.{no-link-slot, no-slot, position-range, slot-lists, slot-owns}
-use Rattle.normal.proofs.WrittenLists.{value-none}
 use Rattle.normal.specs.First.{entryHolds, firstFailing}
-use Rattle.normal.specs.Slots.{Slot, inconsistent, isLink, position, slots, taken, value}
 use Rattle.normal.specs.States.{entrySlot, heldAt, heldIn, highAt, linkName, lowAt, slotFor, stateBelow, stateOf, supportedBy}
+use Rattle.passes.proofs.FormNormal.{form-top, top-bottom}
+use Rattle.passes.proofs.Forms.{form, formed}
+use Rattle.passes.proofs.SlotLaws.{position-from}
+use Rattle.passes.proofs.SlotNumbers.{no-link-slot, no-slot, position-range, slot-lists, slot-owns}
+use Rattle.passes.proofs.WrittenLists.{value-none}
+use Rattle.passes.specs.Slots.{Slot, inconsistent, isLink, position, slots, taken, value}
 
 -- ---- the states
 

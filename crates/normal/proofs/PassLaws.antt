@@ -14,10 +14,10 @@ use Rattle.blocks.proofs.Bounds.{AllBounded}
 use Rattle.blocks.specs.Entries.{Bounded, entriesOf, nth, zeroEntry}
 use Rattle.blocks.specs.declared.Entry.{Entry}
 use Rattle.fit.specs.Description.{rowOf}
-use Rattle.normal.proofs.SlotLaws.{slots-early}
-use Rattle.normal.specs.Keys.{SmallRows, SmallSlots, SmallTop}
-use Rattle.normal.specs.Slots.{EarlySlots, Slot, closed, inconsistent, nonempty, settled, slot}
 use Rattle.normal.specs.Tables.{Built, Placed, Settled, Settling, keyIn, lowPart, slotIn, slotsFrom}
+use Rattle.passes.proofs.SlotLaws.{slots-early}
+use Rattle.passes.specs.Keys.{SmallRows, SmallSlots, SmallTop}
+use Rattle.passes.specs.Slots.{EarlySlots, Slot, closed, inconsistent, nonempty, settled, slot}
 
 -- ---- slots of a table
 

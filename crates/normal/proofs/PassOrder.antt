@@ -20,21 +20,21 @@ use Rattle.logic.specs.Normal.{nf, same}
 use Rattle.logic.specs.Place.{atom, nothing}
 use Rattle.logic.specs.Record.{bit}
 use Rattle.logic.specs.Tree.{leafRow}
-use Rattle.normal.proofs.Exact.{normal-exact, normal-length}
 use Rattle.normal.proofs.FirstLaws.{first-same}
-use Rattle.normal.proofs.KeyLaws.{slots-small}
 use Rattle.normal.proofs.NormalOrdered.{normal-ordered}
 use Rattle.normal.proofs.PassLaws.{all-bounded, low-at, nonempty-far, rows-small, small-settled}
-use Rattle.normal.proofs.SlotLaws.{slots-early, slots-length}
 use Rattle.normal.proofs.TagLaws.{number-key, number-slot}
 use Rattle.normal.proofs.TagOrder.{Numbers, numbers-many, numbers-slot}
-use Rattle.normal.proofs.WalkLaws.{places}
 use Rattle.normal.proofs.WalkingLaws.{run-from}
 use Rattle.normal.specs.Emitted.{Walkable, allRows, keepIn}
 use Rattle.normal.specs.Ordered.{firstOfPlace, otherPlace, runFrom, runOf, tagNumbers, tagPlace, tagSlot}
-use Rattle.normal.specs.Pipeline.{enoughFor, keeping, normalRows, rowsFrom}
-use Rattle.normal.specs.Slots.{inconsistent, low, nonempty, settled, slot, slots}
 use Rattle.normal.specs.Tables.{Settled, keyIn, lowPart}
+use Rattle.passes.proofs.Exact.{normal-exact, normal-length}
+use Rattle.passes.proofs.KeyLaws.{slots-small}
+use Rattle.passes.proofs.SlotLaws.{slots-early, slots-length}
+use Rattle.passes.proofs.WalkLaws.{places}
+use Rattle.passes.specs.Pipeline.{enoughFor, keeping, normalRows, rowsFrom}
+use Rattle.passes.specs.Slots.{inconsistent, low, nonempty, settled, slot, slots}
 use Rattle.sorting.proofs.Elements.{member-of-sorted}
 use Rattle.sorting.specs.Sorted.{sorted}
 

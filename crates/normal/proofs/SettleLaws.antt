@@ -14,8 +14,8 @@ use Rattle.logic.specs.Normal.{found}
 use Rattle.logic.specs.Record.{bit}
 use Rattle.logic.specs.Witness.{below}
 use Rattle.normal.proofs.TableLaws.{high-made, key-made, low-made, slots-other}
-use Rattle.normal.specs.Slots.{Slot, broken, closed, inconsistent, nonempty, settled, slot}
 use Rattle.normal.specs.Tables.{Placed, Settling, Slotted, closedBound, highIn, highPart, keyIn, lowPart, slotIn, slotNumber, slotsFrom}
+use Rattle.passes.specs.Slots.{Slot, broken, closed, inconsistent, nonempty, settled, slot}
 
 -- an upper bound that is closed
 closed-high : (c : Bool) (h : ℕ) → highIn (cond c 0 h) ≡ closed c (highIn h)

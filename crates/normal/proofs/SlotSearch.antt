@@ -12,10 +12,10 @@ use Rattle.normal.proofs.EnterLaws.{scan-none, scan-some}
 use Rattle.normal.proofs.SearchLaws.{keysOf}
 use Rattle.normal.proofs.TableLaws.{key-test, position-found}
 use Rattle.normal.specs.Chain.{scan}
-use Rattle.normal.specs.Keys.{keyNumber}
-use Rattle.normal.specs.Slots.{Slot, position, settled, slot, slotAt, slotHigh, slotLow, taken}
 use Rattle.normal.specs.States.{Indexed, highAt, lowAt, slotFor}
 use Rattle.normal.specs.Tables.{highIn, highPart, keyIn, lowPart, slotIn, slotsFrom}
+use Rattle.passes.specs.Keys.{keyNumber}
+use Rattle.passes.specs.Slots.{Slot, position, settled, slot, slotAt, slotHigh, slotLow, taken}
 
 -- ---- settled slots have the keys of the slots
 

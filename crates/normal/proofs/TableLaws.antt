@@ -13,11 +13,11 @@ use native.Mathlib.Nat.{add-suc, add-zero, suc-add}
 use native.Mathlib.Omega.{arith}
 use Rattle.base.proofs.Split.{place-of, row-of}
 use Rattle.base.proofs.Tests.{and-both, eq-cases, eq-eqb, eqb-self, ge-ltb, lt-cases, lt-ltb, tests}
-use Rattle.normal.proofs.KeyLaws.{class-of, key-parts, key-same, name-of-key, place-of-key}
-use Rattle.normal.proofs.SlotLaws.{class-self}
-use Rattle.normal.specs.Keys.{keyNumber}
-use Rattle.normal.specs.Slots.{Slot, position, sameKey, slot, smaller, tighten}
 use Rattle.normal.specs.Tables.{highIn, highPart, keyIn, lowPart, slotIn, slotNumber, slotsFrom}
+use Rattle.passes.proofs.KeyLaws.{class-of, key-parts, key-same, name-of-key, place-of-key}
+use Rattle.passes.proofs.SlotLaws.{class-self}
+use Rattle.passes.specs.Keys.{keyNumber}
+use Rattle.passes.specs.Slots.{Slot, position, sameKey, slot, smaller, tighten}
 
 -- ---- taking a number apart
 

@@ -24,12 +24,12 @@ use Rattle.fit.specs.Description.{rowOf}
 use Rattle.logic.specs.Record.{bit, every}
 use Rattle.normal.proofs.HoldingLaws.{bottom-first, slots-first}
 use Rattle.normal.proofs.TableLaws.{length-slots}
-use Rattle.normal.proofs.Written.{kept}
 use Rattle.normal.specs.Holding.{heldBy, holdingOf, holdingReturned, unheld}
-use Rattle.normal.specs.Slots.{Slot, inconsistent, settled, slot, slots}
 use Rattle.normal.specs.States.{Indexed, heldIn}
 use Rattle.normal.specs.Tables.{Chained, Owned}
 use Rattle.normal.specs.declared.Holding.the-variants.{All, Fails, Refused}
+use Rattle.passes.proofs.Written.{kept}
+use Rattle.passes.specs.Slots.{Slot, inconsistent, settled, slot, slots}
 
 -- ---- two inputs
 

@@ -23,8 +23,8 @@ use Rattle.normal.proofs.PushLaws.{Pushing, part-room, pushed-total, pu
 use Rattle.normal.specs.Emitted.{Placing, Pushed, Walkable, allRows, atomRows, everyRows, everySlots, keepCell, placeRows}
 use Rattle.normal.specs.Filling.{laterEach, queueFrom}
 use Rattle.normal.specs.Ordered.{firstOfPlace, otherPlace, runFrom, runOf, tagCell, tagPlace, tagSlot}
-use Rattle.normal.specs.Pipeline.{walk}
-use Rattle.normal.specs.Slots.{Cell}
+use Rattle.passes.specs.Pipeline.{walk}
+use Rattle.passes.specs.Slots.{Cell}
 
 -- ---- slots that are noted
 

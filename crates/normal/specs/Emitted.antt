@@ -17,10 +17,10 @@ use Rattle.logic.specs.Place.{Atom, Kind, atom, has, lacks, least, most}
 use Rattle.logic.specs.Tree.{Row, leafRow, nodeRow}
 use Rattle.normal.specs.Filling.{Filled, Joined}
 use Rattle.normal.specs.Ordered.{tagNumbers, tagPlace, tagSlot}
-use Rattle.normal.specs.Pipeline.{walk}
 use Rattle.normal.specs.Rows.{rowEntry}
-use Rattle.normal.specs.Slots.{Cell, cell, isLink, sameClass, value}
 use Rattle.normal.specs.Tables.{lowPart}
+use Rattle.passes.specs.Pipeline.{walk}
+use Rattle.passes.specs.Slots.{Cell, cell, isLink, sameClass, value}
 use Rattle.sorting.specs.Sorted.{sorted}
 
 -- ---- rows as entries

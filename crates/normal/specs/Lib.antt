@@ -1,8 +1,5 @@
 pub mod Filling
-pub mod Slots
 pub mod Chain
-pub mod Pipeline
-pub mod Keys
 pub mod Tables
 pub mod Ordered
 pub mod Rows

@@ -15,7 +15,7 @@ use Rattle.fit.specs.Description.{rowOf}
 use Rattle.logic.specs.Normal.{found}
 use Rattle.logic.specs.Record.{bit}
 use Rattle.normal.specs.Chain.{Chains}
-use Rattle.normal.specs.Slots.{Slot, broken, inconsistent, nonempty, position, settled, slot, slots, tighten}
+use Rattle.passes.specs.Slots.{Slot, broken, inconsistent, nonempty, position, settled, slot, slots, tighten}
 
 -- an upper bound as a number; 65,536 for none
 abbrev pub highNumber : Option ℕ → ℕ

@@ -5,7 +5,7 @@ ghost use mathlib.Core.List.{[], _∷_};
 ghost use Prim.Native.Nat.{_+_, _*_, _-_, _≤_, _<_};
 ghost use lib.ListN.{length, getD};
 ghost use Rattle.logic.specs.Place.{kindOf};
-ghost use Rattle.normal.specs.Slots.{value};
+ghost use Rattle.passes.specs.Slots.{value};
 ghost use Rattle.normal.specs.Tables.{highIn, lowPart};
 ghost use Rattle.normal.specs.Ordered.{tagSlot, tagCell, runFrom};
 ghost use Rattle.normal.specs.Emitted.{cellValue, cellName, valueNumber, rowsIf, kindRows, atomRows, everyRows, everySlots, keepIn, keepCell, placeRows, Pushed, Placing, Walkable, packedOf};

@@ -6,7 +6,7 @@ ghost use Prim.Native.Nat.{_-_, _/_, _%_, _≤_, _<_};
 ghost use lib.Dec.{eqb};
 ghost use lib.ListN.{length, getD, set, replicate};
 ghost use Rattle.logic.specs.Normal.{found};
-ghost use Rattle.normal.specs.Slots.{broken};
+ghost use Rattle.passes.specs.Slots.{broken};
 ghost use Rattle.normal.specs.Tables.{keyIn, highIn, Placed, Settling, Slotted};
 use crate::slots::high_in;
 use crate::slots::key_in;

@@ -4,7 +4,7 @@ ghost use mathlib.Core.Path.{_≡_};
 ghost use Prim.Native.Nat.{_+_, _*_, _≤_, _<_, min, max};
 ghost use lib.ListN.{getD, set};
 ghost use Rattle.normal.specs.Chain.{scan};
-ghost use Rattle.normal.specs.Keys.{keyNumber};
+ghost use Rattle.passes.specs.Keys.{keyNumber};
 ghost use Rattle.normal.specs.Tables.{keyIn, lowPart, highPart, slotNumber, hashOf, Kept, Entered};
 
 // An entry or slot number as an index.

@@ -8,7 +8,7 @@ ghost use lib.Dec.{eqb};
 ghost use lib.ListN.{getD, length};
 ghost use Rattle.blocks.specs.Entries.{entriesOf};
 ghost use Rattle.base.specs.Search.{firstFrom};
-ghost use Rattle.normal.specs.Slots.{Slot};
+ghost use Rattle.passes.specs.Slots.{Slot};
 ghost use Rattle.normal.specs.States.{Indexed, entrySlot, heldAt, heldIn, slotFor, stateBelow, supportedBy};
 ghost use Rattle.normal.specs.Tables.{Kept, Owned, highIn};
 use crate::slots::high_in;

@@ -12,10 +12,10 @@ use Rattle.blocks.specs.Owners.{ownerOf}
 use Rattle.blocks.specs.declared.Entry.{Entry}
 use Rattle.fit.specs.Description.{rowOf}
 use Rattle.normal.proofs.BuildLaws.{build-ends, build-goes, build-starts, kept-starts, nodes-more, nodes-start}
-use Rattle.normal.proofs.Written.{kept}
-use Rattle.normal.specs.Slots.{slots}
 use Rattle.normal.specs.Tables.{Entered, Kept, Nodes, highKind, leadsTo, linkKind, lowKind, slotsIn}
-use Rattle.normal.specs.Slots as slot-build
+use Rattle.passes.proofs.Written.{kept}
+use Rattle.passes.specs.Slots as slot-build
+use Rattle.passes.specs.Slots.{slots}
 use Rattle.normal.proofs.build.build.Statement.{statement}
 use Rattle.normal.proofs.build.build.Tie as tie
 

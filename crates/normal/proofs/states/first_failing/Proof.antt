@@ -13,8 +13,8 @@ use Rattle.blocks.specs.Owners.{ownerOf}
 use Rattle.blocks.specs.declared.Entry.{Entry}
 use Rattle.normal.proofs.FirstLaws.{first-end, first-goes, first-stops}
 use Rattle.normal.proofs.SlotStates.{States, held-here, small-more, small-start, states-more, states-owner, states-start}
-use Rattle.normal.specs.Slots.{Slot}
 use Rattle.normal.specs.States.{Indexed, heldAt, heldIn, stateBelow, stateOf}
+use Rattle.passes.specs.Slots.{Slot}
 use Rattle.normal.proofs.states.first_failing.Statement.{statement}
 use Rattle.normal.proofs.states.first_failing.Tie as tie
 

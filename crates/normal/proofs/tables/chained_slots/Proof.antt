@@ -2,7 +2,7 @@
 use borrow.Author.Needs.{needs}
 use Rattle.normal.proofs.BoundLaws.{settled-kept}
 use Rattle.normal.proofs.PassLaws.{built-placed, settled-from}
-use Rattle.normal.proofs.Written.{kept}
+use Rattle.passes.proofs.Written.{kept}
 use Rattle.normal.proofs.tables.chained_slots.Statement.{statement}
 use Rattle.normal.proofs.tables.chained_slots.Tie as tie
 

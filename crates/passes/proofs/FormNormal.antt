@@ -19,18 +19,18 @@ use Rattle.logic.specs.Normal.{bottom, find, isBottom, isEnd, nf, sub}
 use Rattle.logic.specs.Place.{Atom, Kind, Place}
 use Rattle.logic.specs.Record.{Record, fits}
 use Rattle.logic.specs.Tree.{Row, tree}
-use Rattle.normal.proofs.BuildSound.{slots-sound}
-use Rattle.normal.proofs.CellLaws.{all-sort, cells-distinct, cells-sorted, lookup-sort}
-use Rattle.normal.proofs.FormMeaning.{cellWhole, cells-mean, cells-say, inconsistent-cells, inconsistent-empty}
-use Rattle.normal.proofs.Forms.{Formed, form, form-written, formed-here, formed-next}
-use Rattle.normal.proofs.SlotLaws.{slots-distinct, slots-early}
-use Rattle.normal.proofs.Written.{kept, written}
-use Rattle.normal.proofs.WrittenLists.{below, listed, written-find, written-sub}
-use Rattle.normal.proofs.WrittenMeaning.{cellFits, cellSays, written-end, written-fits}
-use Rattle.normal.proofs.WrittenNormal.{written-normal}
-use Rattle.normal.proofs.WrittenPasses.{allCells}
-use Rattle.normal.specs.Pipeline.{beforeCell, sortedCells}
-use Rattle.normal.specs.Slots.{Cell, DistinctSlots, EarlySlots, Slot, cell, cells, closed, inconsistent, isLink, lookup, nonempty, settled, slot, slots}
+use Rattle.passes.proofs.BuildSound.{slots-sound}
+use Rattle.passes.proofs.CellLaws.{all-sort, cells-distinct, cells-sorted, lookup-sort}
+use Rattle.passes.proofs.FormMeaning.{cellWhole, cells-mean, cells-say, inconsistent-cells, inconsistent-empty}
+use Rattle.passes.proofs.Forms.{Formed, form, form-written, formed-here, formed-next}
+use Rattle.passes.proofs.SlotLaws.{slots-distinct, slots-early}
+use Rattle.passes.proofs.Written.{kept, written}
+use Rattle.passes.proofs.WrittenLists.{below, listed, written-find, written-sub}
+use Rattle.passes.proofs.WrittenMeaning.{cellFits, cellSays, written-end, written-fits}
+use Rattle.passes.proofs.WrittenNormal.{written-normal}
+use Rattle.passes.proofs.WrittenPasses.{allCells}
+use Rattle.passes.specs.Pipeline.{beforeCell, sortedCells}
+use Rattle.passes.specs.Slots.{Cell, DistinctSlots, EarlySlots, Slot, cell, cells, closed, inconsistent, isLink, lookup, nonempty, settled, slot, slots}
 
 -- ---- normal places
 

@@ -15,10 +15,10 @@ use Rattle.logic.specs.Normal.{atMost, before, find, isEnd, rank, same, sub}
 use Rattle.logic.specs.Place.{Kind, Place, has, lacks, least, most, nothing}
 use Rattle.logic.specs.Record.{bit}
 use Rattle.logic.specs.Tree.{end}
-use Rattle.normal.proofs.SlotLaws.{class-eq}
-use Rattle.normal.proofs.Written.{kept, leafIf, ofEvery, ofKind, written}
-use Rattle.normal.specs.Pipeline.{beforeCell}
-use Rattle.normal.specs.Slots.{Cell, cell, highOf, isLink, lookup, lowOf, sameClass, sameName, value}
+use Rattle.passes.proofs.SlotLaws.{class-eq}
+use Rattle.passes.proofs.Written.{kept, leafIf, ofEvery, ofKind, written}
+use Rattle.passes.specs.Pipeline.{beforeCell}
+use Rattle.passes.specs.Slots.{Cell, cell, highOf, isLink, lookup, lowOf, sameClass, sameName, value}
 
 -- the place below a cell; nothing is owned where there is none, or where the link is at most 0
 abbrev pub below : (ℕ → Place) → Option Cell → Place

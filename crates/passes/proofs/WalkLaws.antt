@@ -12,9 +12,9 @@ use Rattle.logic.proofs.LayoutLaws.{load, load-later, weight-pos}
 use Rattle.logic.specs.Layout.{Queue, done, job, later, lay, weight, write}
 use Rattle.logic.specs.Place.{Atom, Kind, Place, atom, has, lacks, least, most}
 use Rattle.logic.specs.Tree.{Row, leaf, leafRow, node, nodeRow}
-use Rattle.normal.proofs.Written.{kept, leafIf, ofEvery, ofKind, written}
-use Rattle.normal.specs.Pipeline.{outEvery, outKind, walk}
-use Rattle.normal.specs.Slots.{Cell, cell, isLink, sameClass, value}
+use Rattle.passes.proofs.Written.{kept, leafIf, ofEvery, ofKind, written}
+use Rattle.passes.specs.Pipeline.{outEvery, outKind, walk}
+use Rattle.passes.specs.Slots.{Cell, cell, isLink, sameClass, value}
 
 -- ---- the rows of one kind
 

@@ -11,10 +11,10 @@ use Rattle.base.proofs.Tests.{eq-cases, eqb-self, tests}
 use Rattle.base.specs.Sorted.{sort}
 use Rattle.logic.specs.Place.{Place}
 use Rattle.logic.specs.Tree.{end}
-use Rattle.normal.proofs.CellLaws.{cells-from, cells-skip}
-use Rattle.normal.proofs.Written.{ofEvery, ofKind, written, written-agree}
-use Rattle.normal.specs.Pipeline.{beforeCell, sortedCells}
-use Rattle.normal.specs.Slots.{EarlySlots, Slot, cell, cells}
+use Rattle.passes.proofs.CellLaws.{cells-from, cells-skip}
+use Rattle.passes.proofs.Written.{ofEvery, ofKind, written, written-agree}
+use Rattle.passes.specs.Pipeline.{beforeCell, sortedCells}
+use Rattle.passes.specs.Slots.{EarlySlots, Slot, cell, cells}
 
 -- the place below slot j, for the slots that count from k
 unfoldable pub formed : ℕ → List Slot → ℕ → Place

@@ -17,14 +17,14 @@ use Rattle.logic.specs.Layout.{lay, weight, write}
 use Rattle.logic.specs.Normal.{atMost, nf}
 use Rattle.logic.specs.Place.{Atom}
 use Rattle.logic.specs.Tree.{Row, tree}
-use Rattle.normal.proofs.CellLaws.{cell-irreflexive, cell-trans, cells-sorted}
-use Rattle.normal.proofs.FormNormal.{form-nonempty, form-top, top-nothing}
-use Rattle.normal.proofs.Forms.{form, form-written}
-use Rattle.normal.proofs.SlotLaws.{slots-distinct, slots-early}
-use Rattle.normal.proofs.WalkLaws.{walk-writes}
-use Rattle.normal.proofs.Written.{kept}
-use Rattle.normal.specs.Pipeline.{beforeCell, enoughFor, keeping, normalRows, rowsFrom, sortedCells}
-use Rattle.normal.specs.Slots.{Cell, Slot, cells, inconsistent, slots}
+use Rattle.passes.proofs.CellLaws.{cell-irreflexive, cell-trans, cells-sorted}
+use Rattle.passes.proofs.FormNormal.{form-nonempty, form-top, top-nothing}
+use Rattle.passes.proofs.Forms.{form, form-written}
+use Rattle.passes.proofs.SlotLaws.{slots-distinct, slots-early}
+use Rattle.passes.proofs.WalkLaws.{walk-writes}
+use Rattle.passes.proofs.Written.{kept}
+use Rattle.passes.specs.Pipeline.{beforeCell, enoughFor, keeping, normalRows, rowsFrom, sortedCells}
+use Rattle.passes.specs.Slots.{Cell, Slot, cells, inconsistent, slots}
 
 module _ (rs : List (Row Atom ℕ)) where
   abbrev ss : List Slot

@@ -13,10 +13,10 @@ use Rattle.logic.specs.Normal.{atMost, found, isEnd}
 use Rattle.logic.specs.Place.{Place, has, lacks, least, most}
 use Rattle.logic.specs.Record.{Record, eachLinked, fits, meets, successors}
 use Rattle.logic.specs.Tree.{end, leaf, node}
-use Rattle.normal.proofs.SlotBounds.{below-true, capped, eachBelow, inside}
-use Rattle.normal.proofs.Written.{kept, written}
-use Rattle.normal.proofs.WrittenPasses.{allCells, cellPasses, cells-ext, ifListed, passes, written-passes}
-use Rattle.normal.specs.Slots.{Cell, cell, value}
+use Rattle.passes.proofs.SlotBounds.{below-true, capped, eachBelow, inside}
+use Rattle.passes.proofs.Written.{kept, written}
+use Rattle.passes.proofs.WrittenPasses.{allCells, cellPasses, cells-ext, ifListed, passes, written-passes}
+use Rattle.passes.specs.Slots.{Cell, cell, value}
 
 -- ---- when it is empty
 

@@ -8,8 +8,8 @@ use mathlib.Core.Path.{_∙_, _≡_, refl, sym}
 use Rattle.base.proofs.Tests.{and-swap, bool-cases}
 use Rattle.logic.specs.Place.{Atom, Kind, Place, atom, has, lacks, least, most}
 use Rattle.logic.specs.Tree.{end, leaf, node}
-use Rattle.normal.proofs.Written.{kept, leafIf, ofEvery, ofKind, written}
-use Rattle.normal.specs.Slots.{Cell, cell, isLink, sameClass, value}
+use Rattle.passes.proofs.Written.{kept, leafIf, ofEvery, ofKind, written}
+use Rattle.passes.specs.Slots.{Cell, cell, isLink, sameClass, value}
 
 -- each cell passes
 unfoldable pub allCells : (Cell → Bool) → List Cell → Bool

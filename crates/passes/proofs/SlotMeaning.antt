@@ -10,9 +10,9 @@ use mathlib.Core.Path.{_∙_, _≡_, ap, fun-ext, refl, sym}
 use native.Mathlib.Omega.{arith}
 use Rattle.base.proofs.Tests.{and-swap, and-zero, bool-cases, eqb-self, tests}
 use Rattle.logic.specs.Record.{Record, eachLinked}
-use Rattle.normal.proofs.SlotBounds.{below-ext, below-true, eachBelow, inside, inside-both, inside-free, linked-and}
-use Rattle.normal.proofs.SlotLaws.{key-name, key-place, name-class, name-eq, position-from}
-use Rattle.normal.specs.Slots.{EarlySlots, Slot, position, sameKey, slot, tighten}
+use Rattle.passes.proofs.SlotBounds.{below-ext, below-true, eachBelow, inside, inside-both, inside-free, linked-and}
+use Rattle.passes.proofs.SlotLaws.{key-name, key-place, name-class, name-eq, position-from}
+use Rattle.passes.specs.Slots.{EarlySlots, Slot, position, sameKey, slot, tighten}
 
 -- g is asked of the place u besides what ρ asks of each place
 abbrev pub besides : ℕ → (ℕ → Bool) → (ℕ → ℕ → Bool) → ℕ → ℕ → Bool

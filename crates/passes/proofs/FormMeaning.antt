@@ -13,13 +13,13 @@ use Rattle.logic.proofs.Fits.{linked-bottom, linked-none}
 use Rattle.logic.specs.Normal.{found, isEnd, under}
 use Rattle.logic.specs.Place.{Place}
 use Rattle.logic.specs.Record.{Record, eachLinked, fits, successors}
-use Rattle.normal.proofs.CellLaws.{all-sort}
-use Rattle.normal.proofs.Forms.{Formed, formed-here, formed-next}
-use Rattle.normal.proofs.SlotBounds.{capped, eachBelow, inside}
-use Rattle.normal.proofs.SlotMeaning.{asks}
-use Rattle.normal.proofs.WrittenMeaning.{cellFits, cellSays, written-end, written-fits}
-use Rattle.normal.proofs.WrittenPasses.{allCells}
-use Rattle.normal.specs.Slots.{Cell, EarlySlots, Slot, broken, cell, cells, closed, inconsistent, nonempty, settled, slot}
+use Rattle.passes.proofs.CellLaws.{all-sort}
+use Rattle.passes.proofs.Forms.{Formed, formed-here, formed-next}
+use Rattle.passes.proofs.SlotBounds.{capped, eachBelow, inside}
+use Rattle.passes.proofs.SlotMeaning.{asks}
+use Rattle.passes.proofs.WrittenMeaning.{cellFits, cellSays, written-end, written-fits}
+use Rattle.passes.proofs.WrittenPasses.{allCells}
+use Rattle.passes.specs.Slots.{Cell, EarlySlots, Slot, broken, cell, cells, closed, inconsistent, nonempty, settled, slot}
 
 either : (a d : Bool) → (a || not d) ≡ not (not a && d)
 either true d = refl

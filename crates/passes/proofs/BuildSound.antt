@@ -14,10 +14,10 @@ use Rattle.logic.proofs.Merged.{merged, merged-none, merged-or, merged-tree}
 use Rattle.logic.specs.Place.{Atom, Kind, Place, atom}
 use Rattle.logic.specs.Record.{Record, eachLinked, fits}
 use Rattle.logic.specs.Tree.{Row, leafRow, nodeRow, rowOwner, tree}
-use Rattle.normal.proofs.SlotBounds.{inside, inside-atom}
-use Rattle.normal.proofs.SlotLaws.{Bounded, bounded-leading, bounded-tighten, bounded-top, position-below, position-from, tighten-early}
-use Rattle.normal.proofs.SlotMeaning.{asks, asks-ext, besides, every-asks, tighten-asks}
-use Rattle.normal.specs.Slots.{EarlySlots, Slot, atTop, build, high, isLink, leading, low, position, slots, tighten}
+use Rattle.passes.proofs.SlotBounds.{inside, inside-atom}
+use Rattle.passes.proofs.SlotLaws.{Bounded, bounded-leading, bounded-tighten, bounded-top, position-below, position-from, tighten-early}
+use Rattle.passes.proofs.SlotMeaning.{asks, asks-ext, besides, every-asks, tighten-asks}
+use Rattle.passes.specs.Slots.{EarlySlots, Slot, atTop, build, high, isLink, leading, low, position, slots, tighten}
 
 -- an owner that leads to the place v
 abbrev isAt : ℕ → Option ℕ → Bool

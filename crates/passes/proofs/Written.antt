@@ -14,9 +14,9 @@ use Rattle.logic.specs.Normal.{atMost, before, isEnd, rank}
 use Rattle.logic.specs.Place.{Kind, Place, atom, has, lacks, least, most}
 use Rattle.logic.specs.Record.{bit}
 use Rattle.logic.specs.Tree.{end, leaf, node}
-use Rattle.normal.proofs.SlotLaws.{class-eq}
-use Rattle.normal.specs.Pipeline.{beforeCell}
-use Rattle.normal.specs.Slots.{Cell, cell, isLink, sameClass, value}
+use Rattle.passes.proofs.SlotLaws.{class-eq}
+use Rattle.passes.specs.Pipeline.{beforeCell}
+use Rattle.passes.specs.Slots.{Cell, cell, isLink, sameClass, value}
 
 -- ---- the place
 

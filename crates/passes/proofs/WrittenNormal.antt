@@ -15,13 +15,13 @@ use Rattle.logic.specs.Background.{unrestricted}
 use Rattle.logic.specs.Canonical.{Canonical, Clean, canonical}
 use Rattle.logic.specs.Normal.{atMost, found, isEnd, over, sub, supports, under}
 use Rattle.logic.specs.Place.{Place, atom, has, lacks, least, most, nothing}
-use Rattle.normal.proofs.CellLaws.{lookup-cases}
-use Rattle.normal.proofs.FormMeaning.{cellWhole}
-use Rattle.normal.proofs.Written.{kept, written, written-ascending}
-use Rattle.normal.proofs.WrittenLists.{below, written-find, written-sub}
-use Rattle.normal.proofs.WrittenPasses.{allCells}
-use Rattle.normal.specs.Pipeline.{beforeCell}
-use Rattle.normal.specs.Slots.{Cell, broken, cell, highOf, lookup, lowOf, value}
+use Rattle.passes.proofs.CellLaws.{lookup-cases}
+use Rattle.passes.proofs.FormMeaning.{cellWhole}
+use Rattle.passes.proofs.Written.{kept, written, written-ascending}
+use Rattle.passes.proofs.WrittenLists.{below, written-find, written-sub}
+use Rattle.passes.proofs.WrittenPasses.{allCells}
+use Rattle.passes.specs.Pipeline.{beforeCell}
+use Rattle.passes.specs.Slots.{Cell, broken, cell, highOf, lookup, lowOf, value}
 
 all-member : (p : Cell → Bool) (q : List Cell) → allCells p q ≡ true → (c : Cell) → List·Memᴰ c q → p c ≡ true
 unfolding allCells

@@ -14,10 +14,10 @@ use Rattle.base.proofs.Tests.{and-swap, bool-cases, eqb-eq, eqb-sym, neither-le
 use Rattle.base.specs.Sorted.{Sorted, insertIn, sort}
 use Rattle.logic.proofs.Order.{before-not, before-total, before-trans}
 use Rattle.logic.specs.Record.{bit}
-use Rattle.normal.proofs.SlotLaws.{exchange, name-class, name-eq}
-use Rattle.normal.proofs.WrittenPasses.{allCells}
-use Rattle.normal.specs.Pipeline.{beforeCell}
-use Rattle.normal.specs.Slots.{Cell, DistinctSlots, Slot, cell, cells, lookup, sameKey, sameName, slot, standsAt, taken}
+use Rattle.passes.proofs.SlotLaws.{exchange, name-class, name-eq}
+use Rattle.passes.proofs.WrittenPasses.{allCells}
+use Rattle.passes.specs.Pipeline.{beforeCell}
+use Rattle.passes.specs.Slots.{Cell, DistinctSlots, Slot, cell, cells, lookup, sameKey, sameName, slot, standsAt, taken}
 
 -- ---- the order of cells
 

@@ -12,11 +12,11 @@ use Rattle.base.proofs.Tests.{bool-cases, eqb-self, eqb-sym, tests}
 use Rattle.logic.specs.Normal.{atMost, find, sub}
 use Rattle.logic.specs.Place.{Atom, Kind}
 use Rattle.logic.specs.Tree.{Row, end}
-use Rattle.normal.proofs.FormNormal.{form-find, form-sub}
-use Rattle.normal.proofs.Forms.{form}
-use Rattle.normal.proofs.SlotLaws.{key-name, key-place, name-class, name-eq, position-from}
-use Rattle.normal.proofs.WrittenLists.{value-none}
-use Rattle.normal.specs.Slots.{Cell, Slot, cell, cells, closed, inconsistent, isLink, lookup, position, sameKey, sameName, settled, slot, slotAt, slotHigh, slotLow, slots, taken, value}
+use Rattle.passes.proofs.FormNormal.{form-find, form-sub}
+use Rattle.passes.proofs.Forms.{form}
+use Rattle.passes.proofs.SlotLaws.{key-name, key-place, name-class, name-eq, position-from}
+use Rattle.passes.proofs.WrittenLists.{value-none}
+use Rattle.passes.specs.Slots.{Cell, Slot, cell, cells, closed, inconsistent, isLink, lookup, position, sameKey, sameName, settled, slot, slotAt, slotHigh, slotLow, slots, taken, value}
 
 -- the slots of one key are among them
 pub position-range : (k : ℕ) (ss : List Slot) (v : ℕ) (b : Bool) (n : ℕ) → taken ss v b n ≡ true → position k ss v b n < k + length ss
