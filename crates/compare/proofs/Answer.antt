@@ -27,16 +27,17 @@ use Rattle.blocks.specs.declared.Entry.{Entry}
 use Rattle.blocks.specs.declared.Reading.the-variants as reading
 use Rattle.blocks.specs.declared.Schema.the-variants.{Description, Specimen}
 use Rattle.compare.proofs.AnswerLaws.{Comparable, compare-cases, compared, contained-ready, contained-verdict, not-contained-ready, not-verdict, verdict-contained, verdict-not}
-use Rattle.compare.proofs.Contained.{FirstUnsaid, contained-all, failing-first}
-use Rattle.compare.proofs.NotContained.{Shown, not-contained-bounded, not-contained-shown}
-use Rattle.compare.specs.Answer.{compareOf, failing, outputAfter, outputOf, specimenOf}
+use Rattle.compare.specs.Answer.{compareOf, outputAfter, outputOf}
 use Rattle.compare.specs.declared.Comparison.the-variants.{Contained, NotContained, Refused}
 use Rattle.fit.proofs.AnswerLaws.{first-accepted, second-no, second-yes}
 use Rattle.fit.specs.Answer.{fitOf, topFits}
-use Rattle.fit.specs.Description.{placeOf}
 use Rattle.fit.specs.declared.FitAnswer.the-variants.{No, Yes}
 use Rattle.logic.specs.Background.{unrestricted}
 use Rattle.logic.specs.Record.{Record, fits}
+use Rattle.meaning.proofs.Contained.{FirstUnsaid, contained-all, failing-first}
+use Rattle.meaning.proofs.NotContained.{Shown, not-contained-bounded, not-contained-shown}
+use Rattle.meaning.specs.Description.{placeOf}
+use Rattle.meaning.specs.Failing.{failing, specimenOf}
 
 -- every item that fits C fits D, in every finite record
 abbrev pub WithinAll : List ℕ → List ℕ → Type 0

@@ -17,8 +17,9 @@ use Rattle.blocks.specs.declared.Entry.{Entry}
 use Rattle.blocks.specs.declared.Reading.{Reading}
 use Rattle.blocks.specs.declared.Reading.the-variants as reading
 use Rattle.blocks.specs.declared.Schema.the-variants.{Description}
-use Rattle.compare.specs.Answer.{compareOf, failing, returned, specimenOf, verdict}
+use Rattle.compare.specs.Answer.{compareOf, returned, verdict}
 use Rattle.compare.specs.declared.Comparison.the-variants.{Contained, NotContained, Refused}
+use Rattle.meaning.specs.Failing.{failing, specimenOf}
 
 -- both inputs are accepted, and the output is at least as long as both
 pub record Comparable (c d out : List ℕ) : Type 0 where

@@ -23,12 +23,9 @@ use Rattle.blocks.specs.declared.Entry.{Entry}
 use Rattle.blocks.specs.declared.Finding.the-variants.{Clean}
 use Rattle.blocks.specs.declared.Schema.the-variants.{Description}
 use Rattle.compare.proofs.AnswerLaws.{Comparable, compared, verdict-contained}
-use Rattle.compare.specs.Answer.{compareOf, failing, normalOf, outputAfter, outputOf, specimenOf, verdict}
-use Rattle.compare.specs.Cases.{Line, Outcome, compares, impossible, inside, lines, normalises, outside}
-use Rattle.compare.specs.Specimen.{specimenEntries, specimenFor}
+use Rattle.compare.specs.Answer.{compareOf, outputAfter, outputOf, verdict}
 use Rattle.compare.specs.declared.Comparison.{Comparison}
 use Rattle.compare.specs.declared.Comparison.the-variants.{Contained, NotContained}
-use Rattle.fit.specs.Description.{linksTo, linksUp, placeOf, rowOf}
 use Rattle.logic.specs.Background.{unrestricted}
 use Rattle.logic.specs.Holds.{holds, holdsAt}
 use Rattle.logic.specs.Layout.{later, lay, weight, write}
@@ -36,8 +33,12 @@ use Rattle.logic.specs.Normal.{add, bottom, excluded, fill, find, insert, isBot
 use Rattle.logic.specs.Place.{kindOf}
 use Rattle.logic.specs.Tree.{tree}
 use Rattle.logic.specs.Witness.{below, build, groupsBy, member, names, once, path, putAscending, withProperties, witness}
-use Rattle.normal.proofs.FirstLaws.{none-failing}
-use Rattle.normal.specs.First.{entryHolds, firstFailing}
+use Rattle.meaning.proofs.FirstLaws.{none-failing}
+use Rattle.meaning.specs.CompareCases.{Line, Outcome, compares, impossible, inside, lines, normalises, outside}
+use Rattle.meaning.specs.Description.{linksTo, linksUp, placeOf, rowOf}
+use Rattle.meaning.specs.Failing.{failing, normalOf, specimenOf}
+use Rattle.meaning.specs.First.{entryHolds, firstFailing}
+use Rattle.meaning.specs.SpecimenFor.{specimenEntries, specimenFor}
 
 -- ---- what a line says
 

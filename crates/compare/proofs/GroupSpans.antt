@@ -20,7 +20,6 @@ use Rattle.compare.proofs.WordNames.{increasing-at}
 use Rattle.compare.specs.Codes.{codeBelow, groupAt, groupsAt, groupsFrom, propertiesAt, targetAt, targetBelow}
 use Rattle.compare.specs.Laying.{Joint, joint}
 use Rattle.compare.specs.Table.{Ranked, Table, keyOf, nameIn, namesFrom, numberIn, placeBelow}
-use Rattle.fit.specs.Description.{placeOf}
 use Rattle.logic.proofs.WitnessTree.{want-none}
 use Rattle.logic.specs.Background.{unrestricted}
 use Rattle.logic.specs.Canonical.{Canonical}
@@ -28,6 +27,7 @@ use Rattle.logic.specs.Normal.{find, rank}
 use Rattle.logic.specs.Place.{Atom, Kind, has, least}
 use Rattle.logic.specs.SpecimenTree.{Group, group}
 use Rattle.logic.specs.Witness.{member, names, targetLinks, targetProperties}
+use Rattle.meaning.specs.Description.{placeOf}
 
 -- ---- other links than the target's
 

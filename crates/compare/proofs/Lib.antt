@@ -11,15 +11,9 @@ pub mod SpecimenPlaces
 pub mod WordNames
 pub mod NameSpans
 pub mod GroupSpans
-pub mod Contained
-pub mod SpecimenRecord
-pub mod SpecimenKeeps
-pub mod LinkPaths
 pub mod PathLaws
 pub mod TargetLaws
 pub mod NormalTable
-pub mod SpecimenLegal
-pub mod NotContained
 pub mod WritableLaws
 pub mod AnswerLaws
 pub mod Answer

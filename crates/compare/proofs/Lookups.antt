@@ -16,11 +16,11 @@ use Rattle.blocks.specs.Owners.{ownerOf}
 use Rattle.blocks.specs.declared.Entry.{Entry}
 use Rattle.blocks.specs.declared.Schema.the-variants.{Description}
 use Rattle.compare.specs.Table.{entryFor, firstMatch, placeBelow}
-use Rattle.fit.proofs.Places.{early-rows, tree-skip}
-use Rattle.fit.specs.Description.{placeOf, rowOf}
 use Rattle.logic.specs.Normal.{find, rank, sub}
 use Rattle.logic.specs.Place.{Kind, has, kindOf, lacks, least, most, nothing}
 use Rattle.logic.specs.Tree.{Early, end, tree}
+use Rattle.meaning.proofs.Places.{early-rows, tree-skip}
+use Rattle.meaning.specs.Description.{placeOf, rowOf}
 use Rattle.normal.proofs.HoldingLaws.{form-kind}
 
 -- ---- the first entry that matches

@@ -14,13 +14,13 @@ use Rattle.compare.proofs.Lookups.{kind-range}
 use Rattle.compare.proofs.TablePlaces.{places-normal}
 use Rattle.compare.proofs.WordNames.{each-name, names-own, names-parts, own-span}
 use Rattle.compare.specs.Table.{Narrow, Ranked, Table, keyOf, nameIn, namesFrom, numberIn, wordOf}
-use Rattle.fit.specs.Description.{placeOf}
 use Rattle.logic.proofs.IncreasingNames.{Increasing, all-around, all-increasing, kind-increasing, kindNames, names-all, onceAll}
 use Rattle.logic.specs.Background.{unrestricted}
 use Rattle.logic.specs.Canonical.{Ascending, Canonical, canonical}
 use Rattle.logic.specs.Normal.{rank}
 use Rattle.logic.specs.Place.{Kind, Place, has, lacks, least, most, nothing}
 use Rattle.logic.specs.Witness.{names}
+use Rattle.meaning.specs.Description.{placeOf}
 
 -- ---- the table
 

@@ -16,18 +16,18 @@ use Rattle.blocks.specs.declared.Entry.{Entry}
 use Rattle.blocks.specs.declared.Schema.the-variants.{Description}
 use Rattle.compare.proofs.Lookups.{kind-range}
 use Rattle.compare.specs.Table.{Narrow, Table, Unpacked, wordOf}
-use Rattle.fit.specs.Description.{placeOf}
 use Rattle.logic.proofs.Kept.{lawful-unrestricted}
 use Rattle.logic.proofs.Normal.{alive}
 use Rattle.logic.proofs.Plain.{plain-normal}
 use Rattle.logic.specs.Background.{unrestricted}
 use Rattle.logic.specs.Canonical.{Canonical}
 use Rattle.logic.specs.Normal.{before, isBottom}
-use Rattle.normal.proofs.NormalAscends.{normal-ascends}
-use Rattle.normal.proofs.NormalEntries.{normal-fewer, normal-place}
-use Rattle.normal.proofs.NormalLegal.{normal-legal}
-use Rattle.normal.specs.Answer.{normalEntries}
-use Rattle.normal.specs.Rows.{entryBefore}
+use Rattle.meaning.proofs.NormalAscends.{normal-ascends}
+use Rattle.meaning.proofs.NormalEntries.{normal-fewer, normal-place}
+use Rattle.meaning.proofs.NormalLegal.{normal-legal}
+use Rattle.meaning.specs.Description.{placeOf}
+use Rattle.meaning.specs.NormalEntries.{normalEntries}
+use Rattle.meaning.specs.Rows.{entryBefore}
 use Rattle.sorting.specs.Sorted.{sorted}
 
 -- ---- words that ascend

@@ -14,9 +14,9 @@ use Rattle.blocks.specs.Entries.{nth}
 use Rattle.blocks.specs.Owners.{ownerOf}
 use Rattle.blocks.specs.declared.Entry.{Entry}
 use Rattle.compare.specs.Codes.{upFrom}
-use Rattle.fit.proofs.Links.{links-into, linksInto}
-use Rattle.fit.specs.Description.{linksTo}
-use Rattle.normal.specs.Tables.{Owned}
+use Rattle.meaning.proofs.Links.{links-into, linksInto}
+use Rattle.meaning.specs.Description.{linksTo}
+use Rattle.meaning.specs.Owned.{Owned}
 
 -- ---- the links that are kept
 

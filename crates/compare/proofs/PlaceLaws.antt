@@ -13,9 +13,9 @@ use Rattle.compare.proofs.WalkingLaws.{numbers-length}
 use Rattle.compare.specs.Codes.{Writable, askedBy, groupsWith, jointsBy, leastFor, specimenNumber, targetAt, targetBelow, upFrom}
 use Rattle.compare.specs.Laying.{Joint, Placed, Pushed, codes, joint, jointRows, leafRows, placeNumbers}
 use Rattle.compare.specs.Table.{around, entriesIn, nameOr, placeBelow}
-use Rattle.fit.specs.Description.{atomOf}
 use Rattle.logic.specs.SpecimenTree.{Group, group}
 use Rattle.logic.specs.Witness.{targetLinks, want}
+use Rattle.meaning.specs.Description.{atomOf}
 use Rattle.normal.proofs.FillLaws.{joined-after}
 
 -- ---- what the target asks for

@@ -21,7 +21,6 @@ use Rattle.compare.proofs.TablePlaces.{places-normal}
 use Rattle.compare.specs.Codes.{codeBelow, groupsAt, propertiesAt, targetAt, targetBelow, treeAt}
 use Rattle.compare.specs.Laying.{codes, joint, joints, leaves}
 use Rattle.compare.specs.Table.{Table, entryFor, placeBelow}
-use Rattle.fit.specs.Description.{placeOf}
 use Rattle.logic.proofs.Names.{member-names}
 use Rattle.logic.proofs.WitnessTree.{below-witness}
 use Rattle.logic.specs.Background.{unrestricted}
@@ -30,6 +29,7 @@ use Rattle.logic.specs.Normal.{find, found}
 use Rattle.logic.specs.Place.{Atom, Place, atom, has, lacks, least, most, nothing}
 use Rattle.logic.specs.SpecimenTree.{Group, SpecimenTree, group}
 use Rattle.logic.specs.Witness.{Target, below, build, countFor, groupsBy, member, names, next, off, on, targetLinks, want, withProperties, witness}
+use Rattle.meaning.specs.Description.{placeOf}
 use Rattle.normal.proofs.FillLaws.{Codes}
 
 -- ---- the target, by its number

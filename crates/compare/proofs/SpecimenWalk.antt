@@ -14,9 +14,9 @@ use Rattle.compare.proofs.WalkingLaws.{Walking, top-room, walking-done,
 use Rattle.compare.specs.Codes.{OnPath, PlacedBy, Stepped, Writable, jointsBy, numbersBy, propertiesBy, specimenNumber, treeBy, upFrom}
 use Rattle.compare.specs.Laying.{Joint, codes, joints, leaves}
 use Rattle.compare.specs.Table.{entriesIn}
-use Rattle.fit.specs.Description.{atomOf}
 use Rattle.logic.specs.Layout.{write}
 use Rattle.logic.specs.SpecimenTree.{Group, SpecimenTree}
+use Rattle.meaning.specs.Description.{atomOf}
 use Rattle.normal.proofs.FillLaws.{Codes}
 
 codes-as : {P Q : ℕ → Type 0} → ((c : ℕ) → P c → Q c) → (cs : List ℕ) → Codes P cs → Codes Q cs

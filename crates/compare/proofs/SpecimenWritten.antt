@@ -17,22 +17,23 @@ use Rattle.blocks.specs.declared.Entry.{Entry}
 use Rattle.blocks.specs.declared.Schema.the-variants.{Description}
 use Rattle.compare.proofs.Answer.{not-contained-means}
 use Rattle.compare.proofs.AnswerLaws.{Comparable, compared, verdict-not}
-use Rattle.compare.proofs.SpecimenLegal.{specimen-bounded, specimen-length}
 use Rattle.compare.proofs.WritableLaws.{Tables, tables-shown, tables-specimen, tables-tree}
-use Rattle.compare.specs.Answer.{compareOf, failing, normalOf, outputAfter, outputOf, specimenOf}
+use Rattle.compare.specs.Answer.{compareOf, outputAfter, outputOf}
 use Rattle.compare.specs.Codes.{treeBy, upFrom}
-use Rattle.compare.specs.Specimen.{specimenEntries}
 use Rattle.compare.specs.declared.Comparison.the-variants.{NotContained}
-use Rattle.fit.specs.Description.{atomOf, linksTo}
 use Rattle.logic.proofs.Fields.{Fields}
 use Rattle.logic.proofs.WitnessFields.{AllNames, SpecimenFields, TargetFields, witness-fields}
 use Rattle.logic.specs.Size.{nodes}
 use Rattle.logic.specs.SpecimenTree.{SpecimenTree}
 use Rattle.logic.specs.Witness.{on}
-use Rattle.normal.proofs.EntryFields.{EntryFields, Word, atom-fields, place-fields}
-use Rattle.normal.proofs.NormalEntries.{normal-place}
+use Rattle.meaning.proofs.EntryFields.{EntryFields, Word, atom-fields, place-fields}
+use Rattle.meaning.proofs.NormalEntries.{normal-place}
+use Rattle.meaning.proofs.SpecimenLegal.{specimen-bounded, specimen-length}
+use Rattle.meaning.specs.Description.{atomOf, linksTo}
+use Rattle.meaning.specs.Failing.{failing, normalOf, specimenOf}
+use Rattle.meaning.specs.NormalEntries.{normalEntries}
+use Rattle.meaning.specs.SpecimenFor.{specimenEntries}
 use Rattle.normal.proofs.NormalWritten.{written-front}
-use Rattle.normal.specs.Answer.{normalEntries}
 
 -- ---- fields
 

@@ -16,12 +16,12 @@ use Rattle.blocks.specs.declared.Entry.{Entry}
 use Rattle.blocks.specs.declared.Schema.the-variants.{Description}
 use Rattle.compare.proofs.Lookups.{match-first, sub-some, tree-none}
 use Rattle.compare.specs.Table.{Table, entryFor, wordOf}
-use Rattle.fit.specs.Description.{placeOf}
 use Rattle.logic.proofs.Kept.{lawful-unrestricted}
 use Rattle.logic.proofs.Normal.{canonical-end, canonical-sub}
 use Rattle.logic.specs.Background.{unrestricted}
 use Rattle.logic.specs.Canonical.{Canonical}
 use Rattle.logic.specs.Tree.{end}
+use Rattle.meaning.specs.Description.{placeOf}
 
 -- ---- places of a description
 

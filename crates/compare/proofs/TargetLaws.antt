@@ -15,9 +15,9 @@ use Rattle.blocks.specs.declared.Entry.{Entry}
 use Rattle.compare.proofs.PathLaws.{length-up}
 use Rattle.compare.specs.Codes.{targetAt, targetBelow, upFrom}
 use Rattle.compare.specs.Table.{nameOr}
-use Rattle.fit.specs.Description.{atomOf}
 use Rattle.logic.specs.Place.{Atom, Kind, atom, has, kindOf, lacks, least, most, nothing}
 use Rattle.logic.specs.Witness.{linksAt, on, propertiesAt, targetLinks, targetProperties, want, wantAt}
+use Rattle.meaning.specs.Description.{atomOf}
 
 -- ---- the target of a number
 

@@ -27,33 +27,35 @@ use Rattle.blocks.specs.declared.Reading.the-variants as reading
 use Rattle.blocks.specs.declared.Schema.the-variants.{Description}
 use Rattle.compare.proofs.Answer.{refused-output}
 use Rattle.compare.proofs.AnswerLaws.{Comparable, compared, first-refused, second-refused, too-short, verdict-contained}
-use Rattle.compare.proofs.LinkPaths.{links-most}
 use Rattle.compare.proofs.SpecimenWritten.{specimen-written, tables-bounded}
 use Rattle.compare.proofs.WritableLaws.{Tables, tables-numbers, tables-writable}
-use Rattle.compare.specs.Answer.{compareOf, failing, normalOf, outputAfter, outputOf, specimenOf, verdict}
+use Rattle.compare.specs.Answer.{compareOf, outputAfter, outputOf, verdict}
 use Rattle.compare.specs.Codes.{Writable, specimenNumber, treeBy, upFrom}
 use Rattle.compare.specs.Prepared.{Denied, NormalOf, Prepared}
-use Rattle.compare.specs.Specimen.{specimenFor}
 use Rattle.compare.specs.Table.{Unpacked}
 use Rattle.compare.specs.declared.Comparison.{Comparison}
 use Rattle.compare.specs.declared.Comparison.the-variants.{Contained, NotContained, Refused}
-use Rattle.fit.specs.Description.{linksTo, placeOf}
 use Rattle.logic.specs.Background.{unrestricted}
 use Rattle.logic.specs.Holds.{holds}
 use Rattle.logic.specs.Layout.{write}
 use Rattle.logic.specs.Normal.{isBottom}
 use Rattle.logic.specs.Place.{Place}
 use Rattle.logic.specs.Record.{every}
+use Rattle.meaning.proofs.FirstLaws.{failing-least, none-failing}
+use Rattle.meaning.proofs.LinkPaths.{links-most}
+use Rattle.meaning.proofs.NormalEntries.{normal-again, normal-fewer, normal-place}
+use Rattle.meaning.proofs.NormalLegal.{normal-legal}
+use Rattle.meaning.specs.Description.{linksTo, placeOf}
+use Rattle.meaning.specs.Failing.{failing, normalOf, specimenOf}
+use Rattle.meaning.specs.First.{entryHolds, firstFailing}
+use Rattle.meaning.specs.NormalEntries.{normalEntries}
+use Rattle.meaning.specs.Owned.{Owned}
+use Rattle.meaning.specs.SpecimenFor.{specimenFor}
 use Rattle.normal.proofs.Answer.{normalised-means}
 use Rattle.normal.proofs.AnswerLaws.{normalised, normalised-ready}
-use Rattle.normal.proofs.FirstLaws.{failing-least, none-failing}
-use Rattle.normal.proofs.NormalEntries.{normal-again, normal-fewer, normal-place}
-use Rattle.normal.proofs.NormalLegal.{normal-legal}
 use Rattle.normal.proofs.UnheldLaws.{BothRead, all-held, one-fails, refused-by}
-use Rattle.normal.specs.Answer.{normalEntries, normaliseOf, normalisedOf}
-use Rattle.normal.specs.First.{entryHolds, firstFailing}
+use Rattle.normal.specs.Answer.{normaliseOf, normalisedOf}
 use Rattle.normal.specs.Holding.{holdingOf, unheld}
-use Rattle.normal.specs.Tables.{Owned}
 use Rattle.normal.specs.declared.Holding.the-variants as holding
 use Rattle.normal.specs.declared.NormalAnswer.the-variants as normal
 

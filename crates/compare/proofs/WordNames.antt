@@ -13,12 +13,12 @@ use Rattle.blocks.specs.Entries.{zeroEntry}
 use Rattle.blocks.specs.declared.Entry.{Entry}
 use Rattle.compare.proofs.Lookups.{rank-kind, rank-other}
 use Rattle.compare.specs.Table.{nameIn, namesFrom}
-use Rattle.fit.specs.Description.{rowOf}
 use Rattle.logic.proofs.IncreasingNames.{Increasing, kindNames}
 use Rattle.logic.proofs.WitnessFields.{AllNames}
 use Rattle.logic.specs.Normal.{rank}
 use Rattle.logic.specs.Place.{Kind}
 use Rattle.logic.specs.Tree.{tree}
+use Rattle.meaning.specs.Description.{rowOf}
 
 -- ---- the names of n words
 

@@ -20,14 +20,10 @@ use Rattle.blocks.specs.declared.Schema.the-variants.{Description}
 use Rattle.compare.proofs.GroupSpans.{groups-extra, groups-plain, properties-extra, properties-plain}
 use Rattle.compare.proofs.Lookups.{find-none, find-some}
 use Rattle.compare.proofs.NormalTable.{normal-canonical, normal-table}
-use Rattle.compare.proofs.NotContained.{Shown, not-contained-shown}
 use Rattle.compare.proofs.SpanLaws.{around-none, around-some, rank-ranked}
 use Rattle.compare.proofs.SpecimenPlaces.{tree-places}
-use Rattle.compare.specs.Answer.{failing, normalOf, specimenOf}
 use Rattle.compare.specs.Codes.{Writable, askedBy, codeBelow, groupAt, groupsWith, jointsBy, leastFor, propertiesBy, specimenNumber, targetAt, treeAt, treeBy, upFrom}
-use Rattle.compare.specs.Specimen.{rowEntry, specimenEntries, specimenFor}
 use Rattle.compare.specs.Table.{Formed, Narrow, Ranked, Table, Unpacked, entriesFrom, entriesIn, entryFor, entryIn, keyOf, nameIn, nameOr, namesWith, numberIn, spanFrom, wordOf}
-use Rattle.fit.specs.Description.{atomOf, linksTo, placeOf}
 use Rattle.logic.specs.Background.{unrestricted}
 use Rattle.logic.specs.Canonical.{Canonical}
 use Rattle.logic.specs.Layout.{write}
@@ -36,9 +32,13 @@ use Rattle.logic.specs.Place.{least}
 use Rattle.logic.specs.SpecimenTree.{Group}
 use Rattle.logic.specs.Tree.{Row}
 use Rattle.logic.specs.Witness.{on, orZero, targetLinks, targetProperties, witness}
-use Rattle.normal.proofs.NormalEntries.{normal-place}
-use Rattle.normal.proofs.NormalLegal.{normal-legal}
-use Rattle.normal.specs.Answer.{normalEntries}
+use Rattle.meaning.proofs.NormalEntries.{normal-place}
+use Rattle.meaning.proofs.NormalLegal.{normal-legal}
+use Rattle.meaning.proofs.NotContained.{Shown, not-contained-shown}
+use Rattle.meaning.specs.Description.{atomOf, linksTo, placeOf}
+use Rattle.meaning.specs.Failing.{failing, normalOf, specimenOf}
+use Rattle.meaning.specs.NormalEntries.{normalEntries}
+use Rattle.meaning.specs.SpecimenFor.{rowEntry, specimenEntries, specimenFor}
 
 -- the tables of a comparison that finds entry n of D to fail: the normal form of C, and the path to the entry
 pub record Tables (c d : List Entry) (n : ℕ) (form : List ℕ) (k : ℕ) (links : List ℕ) (m : ℕ) : Type 0 where

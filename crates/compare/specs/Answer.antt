@@ -13,28 +13,11 @@ use Rattle.blocks.specs.declared.Entry.{Entry}
 use Rattle.blocks.specs.declared.Reading.{Reading}
 use Rattle.blocks.specs.declared.Reading.the-variants as reading
 use Rattle.blocks.specs.declared.Schema.the-variants.{Description}
-use Rattle.compare.specs.Specimen.{specimenFor}
 use Rattle.compare.specs.declared.Comparison.{Comparison}
 use Rattle.compare.specs.declared.Comparison.the-variants.{Contained, NotContained, Refused}
-use Rattle.fit.specs.Description.{placeOf}
-use Rattle.logic.specs.Background.{unrestricted}
-use Rattle.logic.specs.Normal.{nf}
-use Rattle.logic.specs.Place.{Place}
-use Rattle.normal.specs.First.{firstFailing}
+use Rattle.meaning.specs.Failing.{failing, specimenOf}
 
 -- ---- two lists of entries
-
--- "N is C's normal form"
-unfoldable pub normalOf : List Entry → Place
-normalOf c = nf unrestricted (placeOf c 0)
-
--- "the number of the first e that fails", 0 where all hold
-unfoldable pub failing : List Entry → List Entry → ℕ
-failing c d = firstFailing unrestricted (normalOf c) d
-
--- the specimen, where an entry fails
-unfoldable pub specimenOf : List Entry → List Entry → List Entry
-specimenOf c d = specimenFor (normalOf c) d (failing c d)
 
 -- "All hold: 'contained' .. Otherwise 'not contained', the number of the first e that fails, the number of specimen entries"
 unfoldable pub verdict : List Entry → List Entry → Comparison

@@ -1,6 +1,4 @@
-pub mod Specimen
 pub mod Answer
-pub mod Cases
 pub mod Table
 pub mod Laying
 pub mod Codes

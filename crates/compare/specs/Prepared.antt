@@ -10,8 +10,8 @@ use Rattle.blocks.specs.Entries.{entriesOf}
 use Rattle.blocks.specs.Reading.{readingOf}
 use Rattle.blocks.specs.declared.Reading.the-variants as reading
 use Rattle.blocks.specs.declared.Schema.the-variants.{Description}
-use Rattle.compare.specs.Answer.{failing}
-use Rattle.normal.specs.Answer.{normalEntries}
+use Rattle.meaning.specs.Failing.{failing}
+use Rattle.meaning.specs.NormalEntries.{normalEntries}
 
 -- a description that is its own normal form, of k entries; a description of so many entries; and an output as long as both
 pub record Prepared (normal : List ℕ) (k : ℕ) (d : List ℕ) (total : ℕ) (out : List ℕ) : Type 0 where

@@ -4,7 +4,7 @@ ghost use mathlib.Core.Path.{_≡_};
 ghost use mathlib.Core.List.{List, [], _∷_};
 ghost use Prim.Native.Nat.{ℕ, _+_, _≤_};
 ghost use Rattle.logic.specs.Place.{Atom};
-ghost use Rattle.fit.specs.Description.{atomOf};
+ghost use Rattle.meaning.specs.Description.{atomOf};
 ghost use Rattle.logic.specs.Witness.{targetLinks, targetProperties, want};
 ghost use Rattle.compare.specs.Codes.{targetAt, targetBelow, upFrom};
 ghost use Rattle.compare.specs.Table.{nameOr};

@@ -3,8 +3,8 @@ ghost use mathlib.Core.Path.{_≡_};
 ghost use Prim.Native.Nat.{ℕ, _≤_, _<_};
 ghost use lib.ListN.{getD, length, replicate};
 ghost use Rattle.blocks.specs.Entries.{entriesOf};
-ghost use Rattle.fit.specs.Description.{linksTo};
-ghost use Rattle.normal.specs.Tables.{Owned};
+ghost use Rattle.meaning.specs.Description.{linksTo};
+ghost use Rattle.meaning.specs.Owned.{Owned};
 ghost use Rattle.compare.specs.Codes.{upFrom};
 use crate::table::wide;
 

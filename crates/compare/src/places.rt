@@ -5,7 +5,7 @@ ghost use mathlib.Core.Logic.{_≢_};
 ghost use Prim.Native.Nat.{ℕ, _+_, _*_, _/_, _≤_, _<_, max, pred};
 ghost use lib.ListN.{length};
 ghost use Rattle.logic.specs.Place.{Atom};
-ghost use Rattle.fit.specs.Description.{atomOf};
+ghost use Rattle.meaning.specs.Description.{atomOf};
 ghost use Rattle.logic.specs.SpecimenTree.{group};
 ghost use Rattle.logic.specs.Witness.{targetLinks, want};
 ghost use Rattle.compare.specs.Table.{Formed, entriesIn, namesWith, placeBelow, spanFrom};

@@ -14,16 +14,17 @@ use Rattle.blocks.specs.Entries.{nth}
 use Rattle.blocks.specs.Owners.{depthOf, depthOk, ownerOf}
 use Rattle.blocks.specs.declared.Entry.{Entry}
 use Rattle.blocks.specs.declared.Schema.the-variants.{Description}
-use Rattle.fit.proofs.Items.{eachGroup, fits-groups, fitsBy, groupUnder, linkedItems, meetsBy}
-use Rattle.fit.proofs.Owned.{owned-ext, owned-from, sum-from}
-use Rattle.fit.proofs.Places.{allHere, asks, place-owned}
-use Rattle.fit.specs.Description.{placeOf}
-use Rattle.fit.specs.Groups.{allOwned, fitsPlace, groupsBy, hasProperty, meetsEntry, totalBy}
-use Rattle.fit.specs.Specimen.{owns, recordOf}
+use Rattle.fit.specs.Groups.{fitsPlace, groupsBy, hasProperty, meetsEntry, totalBy}
 use Rattle.logic.proofs.Counting.{every-from-ext, everyFrom, sumIn}
 use Rattle.logic.specs.Place.{Place, kindOf}
 use Rattle.logic.specs.Record.{fits}
 use Rattle.logic.specs.Tree.{end, leaf, node}
+use Rattle.meaning.proofs.Items.{eachGroup, fits-groups, fitsBy, groupUnder, linkedItems, meetsBy}
+use Rattle.meaning.proofs.Owned.{owned-ext, owned-from, sum-from}
+use Rattle.meaning.proofs.Places.{allHere, asks, place-owned}
+use Rattle.meaning.specs.Description.{placeOf}
+use Rattle.meaning.specs.Owned.{allOwned}
+use Rattle.meaning.specs.Specimen.{owns, recordOf}
 
 -- ---- the specimen's groups, by number and by list
 

@@ -17,12 +17,13 @@ use Rattle.blocks.specs.declared.Finding.the-variants.{Clean, Faulty}
 use Rattle.blocks.specs.declared.Schema.{Schema}
 use Rattle.blocks.specs.declared.Schema.the-variants.{Description, Specimen}
 use Rattle.fit.proofs.ByNumber.{fit-by-groups}
-use Rattle.fit.specs.Cases.{Case, cases}
-use Rattle.fit.specs.Description.{placeOf}
-use Rattle.fit.specs.Groups.{allWhere, fitsPlace, groupsBy, hasProperty, meetsEntry, sumWhere, totalBy}
-use Rattle.fit.specs.Specimen.{recordOf}
+use Rattle.fit.specs.Groups.{fitsPlace, groupsBy, hasProperty, meetsEntry, totalBy}
 use Rattle.logic.proofs.Counting.{everyIn}
 use Rattle.logic.specs.Record.{fits}
+use Rattle.meaning.specs.Description.{placeOf}
+use Rattle.meaning.specs.FitCases.{Case, cases}
+use Rattle.meaning.specs.Owned.{allWhere, sumWhere}
+use Rattle.meaning.specs.Specimen.{recordOf}
 
 -- the specimen and both descriptions are legal, and the top item fits the supplier's description and not the service's
 pub record Shows (c : Case) : Type 0 where

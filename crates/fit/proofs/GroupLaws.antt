@@ -14,8 +14,9 @@ use Rattle.blocks.specs.declared.Entry.{Entry}
 use Rattle.blocks.specs.declared.Schema.{Schema}
 use Rattle.blocks.specs.declared.Schema.the-variants.{Specimen}
 use Rattle.fit.proofs.BucketLaws.{all-bucket, elsewhere, sum-bucket}
-use Rattle.fit.specs.Groups.{allWhere, givesProperty, hasProperty, itemsBy, sumWhere, totalBy}
+use Rattle.fit.specs.Groups.{givesProperty, hasProperty, itemsBy, totalBy}
 use Rattle.fit.specs.Index.{Ready, bucketOf, hashOf, isOf}
+use Rattle.meaning.specs.Owned.{allWhere, sumWhere}
 
 -- what was worked out of the entry that was read is true of entry k of the list
 pub read-here : {A : Type 0} {σ : Schema} {s : List ℕ} {total : ℕ} {t : List ℕ} → Ready σ s total t → (f : Entry → A) (k : ℕ) {e : Entry} {r : A}

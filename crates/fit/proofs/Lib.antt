@@ -1,12 +1,7 @@
-pub mod Items
-pub mod Owned
 pub mod WalkLaws
 pub mod BucketLaws
 pub mod GroupLaws
 pub mod MeetLaws
 pub mod AnswerLaws
-pub mod Places
 pub mod ByNumber
-pub mod Links
-pub mod Paths
 pub mod Cases

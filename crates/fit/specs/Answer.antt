@@ -8,11 +8,11 @@ use Rattle.blocks.specs.Reading.{readingOf}
 use Rattle.blocks.specs.declared.Reading.{Reading}
 use Rattle.blocks.specs.declared.Reading.the-variants as reading
 use Rattle.blocks.specs.declared.Schema.the-variants.{Description, Specimen}
-use Rattle.fit.specs.Description.{placeOf}
-use Rattle.fit.specs.Specimen.{recordOf}
 use Rattle.fit.specs.declared.FitAnswer.{FitAnswer}
 use Rattle.fit.specs.declared.FitAnswer.the-variants.{Yes, No, Refused}
 use Rattle.logic.specs.Record.{fits}
+use Rattle.meaning.specs.Description.{placeOf}
+use Rattle.meaning.specs.Specimen.{recordOf}
 
 -- "says yes or no for the top item": the top item of the specimen's record fits the description
 unfoldable pub topFits : List ℕ → List ℕ → Bool

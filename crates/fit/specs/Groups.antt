@@ -3,30 +3,12 @@
 -- Assumes nothing.
 use mathlib.Core.Bool.{Bool, true, false, not, cond, _&&_, _||_}
 use mathlib.Core.List.{List}
-use Prim.Native.Nat.{ℕ, zero, suc, _+_}
+use Prim.Native.Nat.{ℕ, zero, suc}
 use lib.Dec.{leb, eqb}
 use lib.ListN.{length}
-use Rattle.blocks.specs.declared.Entry.{Entry}
 use Rattle.blocks.specs.Entries.{nth}
-use Rattle.blocks.specs.Owners.{ownerOf}
-
--- each of the numbers 1 to n of which c gives b passes
-unfoldable pub allWhere : (ℕ → ℕ) → (ℕ → Bool) → ℕ → ℕ → Bool
-allWhere c p b zero = true
-allWhere c p b (suc n) = (not (eqb (c (suc n)) b) || p (suc n)) && allWhere c p b n
-
--- the sum of f over those numbers
-unfoldable pub sumWhere : (ℕ → ℕ) → (ℕ → ℕ) → ℕ → ℕ → ℕ
-sumWhere c f b zero = 0
-sumWhere c f b (suc n) = cond (eqb (c (suc n)) b) (f (suc n)) 0 + sumWhere c f b n
-
--- each of the first n entries that o owns passes
-abbrev pub allOwned : (ℕ → Bool) → List Entry → ℕ → ℕ → Bool
-allOwned p es o n = allWhere (ownerOf es) p o n
-
--- the sum of f over those of the first n entries that o owns
-abbrev pub sumOwned : (ℕ → ℕ) → List Entry → ℕ → ℕ → ℕ
-sumOwned f es o n = sumWhere (ownerOf es) f o n
+use Rattle.blocks.specs.declared.Entry.{Entry}
+use Rattle.meaning.specs.Owned.{allOwned, sumOwned}
 
 -- entry k gives property p; it is a group by link l
 abbrev pub givesProperty : List Entry → ℕ → ℕ → Bool

@@ -1,7 +1,8 @@
 // Fitting: when the top item of a specimen fits a description, by Table 1 of the report.
 //
 // The contract of `fit` speaks of the record of items that a specimen is, of the tree of places that a description is, and of Table 1
-// itself: specs/Specimen and Description, and Record of `logic`. That the answer by groups, which the code works out, is Table 1's is proved in proofs/.
+// itself: Specimen and Description of `meaning`, and Record of `logic`. That the answer by groups, which the code works out, is Table 1's
+// is proved in proofs/.
 mod answer;
 mod groups;
 mod index;

@@ -24,15 +24,16 @@ use Rattle.blocks.specs.Reading.{readingOf}
 use Rattle.blocks.specs.declared.Entry.{Entry}
 use Rattle.blocks.specs.declared.Reading.the-variants as reading
 use Rattle.blocks.specs.declared.Schema.the-variants.{Description}
-use Rattle.fit.specs.Description.{placeOf}
 use Rattle.logic.specs.Record.{Record, fits}
 use Rattle.logic.specs.SpecimenTree.{total}
+use Rattle.meaning.proofs.NormalAscends.{normal-ascends}
+use Rattle.meaning.proofs.NormalEntries.{normal-again, normal-fewer, same-items}
+use Rattle.meaning.proofs.NormalLegal.{normal-bounded, normal-legal}
+use Rattle.meaning.specs.Description.{placeOf}
+use Rattle.meaning.specs.NormalEntries.{normalEntries}
+use Rattle.meaning.specs.Rows.{entryBefore}
 use Rattle.normal.proofs.AnswerLaws.{Ready, input-refused, normalise-cases, normalised, normalised-ready, refused-output, too-short}
-use Rattle.normal.proofs.NormalAscends.{normal-ascends}
-use Rattle.normal.proofs.NormalEntries.{normal-again, normal-fewer, same-items}
-use Rattle.normal.proofs.NormalLegal.{normal-bounded, normal-legal}
-use Rattle.normal.specs.Answer.{normalEntries, normaliseOf, normalisedOf, outputAfter}
-use Rattle.normal.specs.Rows.{entryBefore}
+use Rattle.normal.specs.Answer.{normaliseOf, normalisedOf, outputAfter}
 use Rattle.normal.specs.declared.NormalAnswer.the-variants.{Normalised}
 
 -- the same items fit both inputs, in every finite record

@@ -13,10 +13,11 @@ use Rattle.blocks.specs.Entries.{entriesOf}
 use Rattle.blocks.specs.Faults.{faults}
 use Rattle.blocks.specs.Reading.{readingOf}
 use Rattle.blocks.specs.declared.Reading.{Reading}
-use Rattle.blocks.specs.declared.Schema.the-variants.{Description}
-use Rattle.normal.specs.Answer.{normalEntries, normaliseOf, normalisedOf, outputAfter, returned}
-use Rattle.normal.specs.declared.NormalAnswer.the-variants.{Normalised, Refused}
 use Rattle.blocks.specs.declared.Reading.the-variants as reading
+use Rattle.blocks.specs.declared.Schema.the-variants.{Description}
+use Rattle.meaning.specs.NormalEntries.{normalEntries}
+use Rattle.normal.specs.Answer.{normaliseOf, normalisedOf, outputAfter, returned}
+use Rattle.normal.specs.declared.NormalAnswer.the-variants.{Normalised, Refused}
 
 -- the input is accepted, and the output is at least as long
 pub record Ready (d out : List ℕ) : Type 0 where

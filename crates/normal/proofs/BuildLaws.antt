@@ -16,13 +16,14 @@ use Rattle.base.proofs.Tests.{and-zero, bool-cases, eq-cases, eq-eqb, eqb-eq, i
 use Rattle.blocks.specs.Entries.{nth, zeroEntry}
 use Rattle.blocks.specs.Owners.{ownerOf}
 use Rattle.blocks.specs.declared.Entry.{Entry}
-use Rattle.fit.specs.Description.{rowOf}
-use Rattle.fit.specs.Specimen.{top}
 use Rattle.logic.specs.Normal.{put, same}
 use Rattle.logic.specs.Place.{kindOf}
+use Rattle.meaning.specs.Description.{rowOf}
+use Rattle.meaning.specs.Owned.{Owned}
+use Rattle.meaning.specs.Specimen.{top}
 use Rattle.normal.proofs.ChainLaws.{chain-none}
 use Rattle.normal.specs.Chain.{Chains}
-use Rattle.normal.specs.Tables.{Entered, Kept, Nodes, Owned, hashOf, highIn, highKind, keyIn, leadsTo, linkKind, lowKind, slotsFrom, slotsIn}
+use Rattle.normal.specs.Tables.{Entered, Kept, Nodes, hashOf, highIn, highKind, keyIn, leadsTo, linkKind, lowKind, slotsFrom, slotsIn}
 use Rattle.passes.specs.Slots.{Slot, atTop, build, high, isLink, leading, low, position, slots, tighten}
 
 -- ---- kinds by number

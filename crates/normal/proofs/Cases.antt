@@ -21,15 +21,16 @@ use Rattle.blocks.specs.Owners.{chain, depthOf, depthOk, ownerOf, ownerOk}
 use Rattle.blocks.specs.declared.Entry.{Entry}
 use Rattle.blocks.specs.declared.Finding.the-variants.{Clean}
 use Rattle.blocks.specs.declared.Schema.the-variants.{Description}
-use Rattle.fit.specs.Description.{placeOf, rowOf}
 use Rattle.logic.specs.Layout.{later, lay, weight, write}
 use Rattle.logic.specs.Normal.{add, excluded, fill, find, insert, isBottom, nf, put, putEvery, remove, removeEvery, removeLacks, sub, within}
 use Rattle.logic.specs.Place.{kindOf}
 use Rattle.logic.specs.SpecimenTree.{total}
 use Rattle.logic.specs.Tree.{tree}
+use Rattle.meaning.specs.Description.{placeOf, rowOf}
+use Rattle.meaning.specs.NormalCases.{Line, lines, normalises}
+use Rattle.meaning.specs.NormalEntries.{normalEntries}
 use Rattle.normal.proofs.AnswerLaws.{normalised}
-use Rattle.normal.specs.Answer.{normalEntries, normaliseOf, normalisedOf, outputAfter}
-use Rattle.normal.specs.Cases.{Line, lines, normalises}
+use Rattle.normal.specs.Answer.{normaliseOf, normalisedOf, outputAfter}
 use Rattle.normal.specs.declared.NormalAnswer.the-variants.{Normalised}
 use Rattle.passes.proofs.Forms.{form}
 

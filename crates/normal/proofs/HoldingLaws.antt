@@ -17,16 +17,16 @@ use Rattle.blocks.specs.Entries.{formOk, kindOk, nth}
 use Rattle.blocks.specs.Owners.{ownerOf}
 use Rattle.blocks.specs.declared.Entry.{Entry}
 use Rattle.blocks.specs.declared.Schema.the-variants.{Description}
-use Rattle.fit.proofs.Links.{links-into, linksInto}
-use Rattle.fit.specs.Description.{atomOf, linksTo, placeOf, rowOf}
 use Rattle.logic.proofs.Plain.{supports-plain}
 use Rattle.logic.specs.Background.{unrestricted}
 use Rattle.logic.specs.Holds.{holds, holdsAt}
 use Rattle.logic.specs.Normal.{atMost, enough, find, found, nf, sub, supports}
 use Rattle.logic.specs.Place.{Atom, Kind, atom, has, kindOf, lacks, least, most}
 use Rattle.logic.specs.Tree.{Row, end}
-use Rattle.normal.proofs.FirstLaws.{first-same, none-failing}
-use Rattle.normal.specs.First.{entryHolds, firstFailing}
+use Rattle.meaning.proofs.FirstLaws.{first-same, none-failing}
+use Rattle.meaning.proofs.Links.{links-into, linksInto}
+use Rattle.meaning.specs.Description.{atomOf, linksTo, placeOf, rowOf}
+use Rattle.meaning.specs.First.{entryHolds, firstFailing}
 use Rattle.normal.specs.States.{entrySlot, heldAt, heldIn, highAt, linkName, lowAt, slotFor, stateBelow, stateOf, supportedBy}
 use Rattle.passes.proofs.FormNormal.{form-top, top-bottom}
 use Rattle.passes.proofs.Forms.{form, formed}

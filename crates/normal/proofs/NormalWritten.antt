@@ -17,23 +17,24 @@ use Rattle.blocks.specs.Reading.{readingOf}
 use Rattle.blocks.specs.declared.Entry.{Entry}
 use Rattle.blocks.specs.declared.Reading.the-variants as reading
 use Rattle.blocks.specs.declared.Schema.the-variants.{Description}
-use Rattle.fit.specs.Description.{placeOf}
 use Rattle.logic.specs.Background.{unrestricted}
 use Rattle.logic.specs.Layout.{write}
 use Rattle.logic.specs.Normal.{nf}
 use Rattle.logic.specs.Place.{Atom, Place}
 use Rattle.logic.specs.Tree.{Row}
+use Rattle.meaning.proofs.NormalEntries.{normal-fewer}
+use Rattle.meaning.proofs.NormalLegal.{normal-bounded}
+use Rattle.meaning.specs.Description.{placeOf}
+use Rattle.meaning.specs.NormalEntries.{normalEntries}
+use Rattle.meaning.specs.Owned.{Owned}
+use Rattle.meaning.specs.Rows.{rowEntry}
 use Rattle.normal.proofs.Answer.{normalised-means}
 use Rattle.normal.proofs.AnswerLaws.{Ready, normalised}
-use Rattle.normal.proofs.NormalEntries.{normal-fewer}
-use Rattle.normal.proofs.NormalLegal.{normal-bounded}
 use Rattle.normal.proofs.PassLaws.{all-bounded}
 use Rattle.normal.proofs.PassOrder.{rows-few}
 use Rattle.normal.proofs.PushLaws.{pushed-total}
-use Rattle.normal.specs.Answer.{normalEntries, normaliseOf, normalisedOf, outputAfter}
+use Rattle.normal.specs.Answer.{normaliseOf, normalisedOf, outputAfter}
 use Rattle.normal.specs.Emitted.{NormalRows, rowNumber}
-use Rattle.normal.specs.Rows.{rowEntry}
-use Rattle.normal.specs.Tables.{Owned}
 use Rattle.normal.specs.declared.NormalAnswer.the-variants.{Normalised}
 
 rows-packed : (rs : List (Row Atom ℕ)) → map rowNumber rs ≡ map packed (map rowEntry rs)

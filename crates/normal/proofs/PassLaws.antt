@@ -13,7 +13,7 @@ use Rattle.base.proofs.Tests.{bool-cases, eq-cases, ne-eqb}
 use Rattle.blocks.proofs.Bounds.{AllBounded}
 use Rattle.blocks.specs.Entries.{Bounded, entriesOf, nth, zeroEntry}
 use Rattle.blocks.specs.declared.Entry.{Entry}
-use Rattle.fit.specs.Description.{rowOf}
+use Rattle.meaning.specs.Description.{rowOf}
 use Rattle.normal.specs.Tables.{Built, Placed, Settled, Settling, keyIn, lowPart, slotIn, slotsFrom}
 use Rattle.passes.proofs.SlotLaws.{slots-early}
 use Rattle.passes.specs.Keys.{SmallRows, SmallSlots, SmallTop}

@@ -13,14 +13,14 @@ use Rattle.base.proofs.Elements.{member-at}
 use Rattle.base.proofs.Parts.{length-low, length-put-low, lowOf, putLow, take-low}
 use Rattle.base.proofs.Tests.{bool-cases, lt-cases}
 use Rattle.blocks.specs.Entries.{entriesOf}
-use Rattle.fit.specs.Description.{placeOf, rowOf}
 use Rattle.logic.specs.Background.{unrestricted}
 use Rattle.logic.specs.Layout.{write}
 use Rattle.logic.specs.Normal.{nf, same}
 use Rattle.logic.specs.Place.{atom, nothing}
 use Rattle.logic.specs.Record.{bit}
 use Rattle.logic.specs.Tree.{leafRow}
-use Rattle.normal.proofs.FirstLaws.{first-same}
+use Rattle.meaning.proofs.FirstLaws.{first-same}
+use Rattle.meaning.specs.Description.{placeOf, rowOf}
 use Rattle.normal.proofs.NormalOrdered.{normal-ordered}
 use Rattle.normal.proofs.PassLaws.{all-bounded, low-at, nonempty-far, rows-small, small-settled}
 use Rattle.normal.proofs.TagLaws.{number-key, number-slot}

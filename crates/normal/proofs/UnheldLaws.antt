@@ -20,13 +20,14 @@ use Rattle.blocks.specs.Reading.{readingOf}
 use Rattle.blocks.specs.declared.Reading.{Reading}
 use Rattle.blocks.specs.declared.Reading.the-variants as reading
 use Rattle.blocks.specs.declared.Schema.the-variants.{Description}
-use Rattle.fit.specs.Description.{rowOf}
 use Rattle.logic.specs.Record.{bit, every}
+use Rattle.meaning.specs.Description.{rowOf}
+use Rattle.meaning.specs.Owned.{Owned}
 use Rattle.normal.proofs.HoldingLaws.{bottom-first, slots-first}
 use Rattle.normal.proofs.TableLaws.{length-slots}
 use Rattle.normal.specs.Holding.{heldBy, holdingOf, holdingReturned, unheld}
 use Rattle.normal.specs.States.{Indexed, heldIn}
-use Rattle.normal.specs.Tables.{Chained, Owned}
+use Rattle.normal.specs.Tables.{Chained}
 use Rattle.normal.specs.declared.Holding.the-variants.{All, Fails, Refused}
 use Rattle.passes.proofs.Written.{kept}
 use Rattle.passes.specs.Slots.{Slot, inconsistent, settled, slot, slots}

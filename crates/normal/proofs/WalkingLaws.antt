@@ -15,9 +15,9 @@ use Rattle.blocks.proofs.Blocks.{parts}
 use Rattle.logic.specs.Layout.{Queue, done, job}
 use Rattle.logic.specs.Place.{Atom}
 use Rattle.logic.specs.Tree.{Row}
+use Rattle.meaning.proofs.FirstLaws.{first-within}
 use Rattle.normal.proofs.EmitLaws.{walk-done, walk-place}
 use Rattle.normal.proofs.FillLaws.{Codes, filled-anew, filled-none, noted-after, noted-good, noted-length, queue-each, queue-next, queue-none, queue-past}
-use Rattle.normal.proofs.FirstLaws.{first-within}
 use Rattle.normal.proofs.PlacingLaws.{every-length}
 use Rattle.normal.proofs.PushLaws.{Pushing, part-room, pushed-total, pushing-done, pushing-more, pushing-room, pushing-same}
 use Rattle.normal.specs.Emitted.{Placing, Pushed, Walkable, allRows, atomRows, everyRows, everySlots, keepCell, placeRows}

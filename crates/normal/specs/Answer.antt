@@ -4,30 +4,17 @@ use Prim.Native.Nat.{_*_, ℕ}
 use lib.Dec.{ltb}
 use lib.ListN.{drop, length}
 use mathlib.Core.Bool.{cond}
-use mathlib.Core.List.{List, _++_, map}
+use mathlib.Core.List.{List, _++_}
 use Rattle.blocks.specs.Encoding.{blocksFor, encode}
 use Rattle.blocks.specs.Entries.{entriesOf}
 use Rattle.blocks.specs.Frame.{plain}
 use Rattle.blocks.specs.Reading.{readingOf}
-use Rattle.blocks.specs.declared.Entry.{Entry}
 use Rattle.blocks.specs.declared.Reading.{Reading}
 use Rattle.blocks.specs.declared.Reading.the-variants as reading
 use Rattle.blocks.specs.declared.Schema.the-variants.{Description}
-use Rattle.fit.specs.Description.{placeOf}
-use Rattle.logic.specs.Background.{unrestricted}
-use Rattle.logic.specs.Layout.{write}
-use Rattle.logic.specs.Normal.{nf}
-use Rattle.normal.specs.Rows.{rowEntry}
+use Rattle.meaning.specs.NormalEntries.{normalEntries}
 use Rattle.normal.specs.declared.NormalAnswer.{NormalAnswer}
 use Rattle.normal.specs.declared.NormalAnswer.the-variants.{Normalised, Refused}
-
--- ---- a list of entries
-
--- the normal form's entries: "entries ascend by owner, then kind, then name"
-unfoldable pub normalEntries : List Entry → List Entry
-normalEntries es = map rowEntry (write (nf unrestricted (placeOf es 0)))
-
--- ---- an input
 
 -- "One input; the output is at least as long"; 7 otherwise, "0 for number 7". "The answer is the number of entries."
 abbrev pub roomOf : List ℕ → List ℕ → NormalAnswer

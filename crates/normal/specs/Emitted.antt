@@ -9,15 +9,15 @@ use mathlib.Core.Logic.{_≢_}
 use mathlib.Core.Option.{Option, none, some}
 use mathlib.Core.Path.{_≡_}
 use Rattle.blocks.specs.Entries.{Bounded, entriesOf, nth, packed}
-use Rattle.fit.specs.Description.{placeOf}
 use Rattle.logic.specs.Background.{unrestricted}
 use Rattle.logic.specs.Layout.{done, job, write}
 use Rattle.logic.specs.Normal.{atMost, nf}
 use Rattle.logic.specs.Place.{Atom, Kind, atom, has, lacks, least, most}
 use Rattle.logic.specs.Tree.{Row, leafRow, nodeRow}
+use Rattle.meaning.specs.Description.{placeOf}
+use Rattle.meaning.specs.Rows.{rowEntry}
 use Rattle.normal.specs.Filling.{Filled, Joined}
 use Rattle.normal.specs.Ordered.{tagNumbers, tagPlace, tagSlot}
-use Rattle.normal.specs.Rows.{rowEntry}
 use Rattle.normal.specs.Tables.{lowPart}
 use Rattle.passes.specs.Pipeline.{walk}
 use Rattle.passes.specs.Slots.{Cell, cell, isLink, sameClass, value}

@@ -9,10 +9,10 @@ use Rattle.blocks.specs.Reading.{readingOf}
 use Rattle.blocks.specs.declared.Reading.{Reading}
 use Rattle.blocks.specs.declared.Reading.the-variants as reading
 use Rattle.blocks.specs.declared.Schema.the-variants.{Description}
-use Rattle.fit.specs.Description.{placeOf}
 use Rattle.logic.specs.Background.{unrestricted}
 use Rattle.logic.specs.Normal.{nf}
-use Rattle.normal.specs.First.{firstFailing}
+use Rattle.meaning.specs.Description.{placeOf}
+use Rattle.meaning.specs.First.{firstFailing}
 use Rattle.normal.specs.declared.Holding.{Holding}
 use Rattle.normal.specs.declared.Holding.the-variants.{All, Fails, Refused}
 

@@ -2,11 +2,7 @@ pub mod Filling
 pub mod Chain
 pub mod Tables
 pub mod Ordered
-pub mod Rows
 pub mod Emitted
-pub mod Rules
 pub mod Answer
-pub mod Cases
-pub mod First
 pub mod Holding
 pub mod States

@@ -5,15 +5,13 @@ use lib.Dec.{eqb, ltb}
 use lib.ListN.{getD, length, set}
 use mathlib.Core.Bool.{Bool, _&&_, _||_, cond, false, not, true}
 use mathlib.Core.List.{List, [], _∷_, map}
-use mathlib.Core.Logic.{_≢_}
 use mathlib.Core.Option.{Option, none, some}
 use mathlib.Core.Path.{_≡_}
 use Rattle.blocks.specs.Entries.{Bounded, entriesOf, nth}
-use Rattle.blocks.specs.Owners.{ownerOf}
 use Rattle.blocks.specs.declared.Entry.{Entry}
-use Rattle.fit.specs.Description.{rowOf}
 use Rattle.logic.specs.Normal.{found}
 use Rattle.logic.specs.Record.{bit}
+use Rattle.meaning.specs.Description.{rowOf}
 use Rattle.normal.specs.Chain.{Chains}
 use Rattle.passes.specs.Slots.{Slot, broken, inconsistent, nonempty, position, settled, slot, slots, tighten}
 
@@ -90,11 +88,6 @@ pub record Entered (t next head : List ℕ) (used v : ℕ) (b : Bool) (n lo hi r
   pub to : r ≤ used + 1
   pub tightened : slotsIn t′ (max used r) ≡ tighten (slotsIn t used) v b n lo (highIn hi)
   pub kept : Kept t′ next′ head′ (max used r)
-
--- each entry stands after its owner, which is the top or an 'every'
-pub record Owned (es : List Entry) : Type 0 where
-  pub earlier : (k : ℕ) → 1 ≤ k → k ≤ length es → ownerOf es k < k
-  pub every : (k : ℕ) → 1 ≤ k → k ≤ length es → ownerOf es k ≢ 0 → nth es (ownerOf es k) .kind ≡ 5
 
 -- where entries lead to, as far as `used` slots
 pub record Nodes (node : List ℕ) (used : ℕ) : Type 0 where

@@ -3,9 +3,9 @@
 // place by place. A slot holds what one place says of one property or one link: at least and at most how many. A second call asks which
 // entries of another description a normal form holds; it looks at the slots as they are settled, and orders nothing.
 //
-// The contracts cite specs/: Answer and Holding say what is answered and written, Normal what a normal form is computed to be, Canonical and
-// Rules what it is; Slots, States, Pipeline and the others how it is computed. What these mean together is proved in proofs/: that the same
-// items fit, that no rule applies, that there is only one normal form, and that the passes give it.
+// The contracts cite specs/: Answer and Holding say what is answered and written; the others mirror the code, and no public promise names
+// them. What a normal form is, that the same items fit it and that there is only one, is said and proved in `logic`; the same of lists of
+// entries, and that no rule applies, in `meaning`; that the passes give it in `passes`.
 mod build;
 mod emit;
 mod ordering;

@@ -15,8 +15,9 @@ use Rattle.blocks.specs.Reading.{readingOf}
 use Rattle.blocks.specs.declared.Reading.the-variants as reading
 use Rattle.blocks.specs.declared.Schema.the-variants.{Description}
 use Rattle.compare.proofs.AnswerLaws.{compared, first-refused, not-contained-ready, not-verdict, second-refused}
-use Rattle.compare.specs.Answer.{compareOf, outputOf, specimenOf}
+use Rattle.compare.specs.Answer.{compareOf, outputOf}
 use Rattle.compare.specs.declared.Comparison.the-variants as comparison
+use Rattle.meaning.specs.Failing.{specimenOf}
 use Rattle.report.proofs.Dividing.{no-second}
 use Rattle.report.proofs.Joined.{alone-parts, joined-parts}
 use Rattle.report.proofs.Written.{lines-written}

@@ -11,11 +11,12 @@ use Rattle.blocks.proofs.EntryLaws.{of-nth}
 use Rattle.blocks.specs.Entries.{entriesOf}
 use Rattle.blocks.specs.Owners.{ownerOf}
 use Rattle.blocks.specs.declared.Schema.the-variants.{Specimen}
-use Rattle.fit.specs.Groups.{allOwned, allWhere, meetsEntry, fitsPlace}
-use Rattle.fit.specs.Index.{bucketOf, hashOf}
 use Rattle.fit.proofs.BucketLaws.{hash-below}
-use Rattle.fit.proofs.WalkLaws.{Standing, walk-starts, walk-goes, walk-falls, all-starts, all-goes, all-no, all-ends}
 use Rattle.fit.proofs.MeetLaws.{meets-bottom, meets-atoms, ownFits, meets-bucket, other-passes, group-decides}
+use Rattle.fit.proofs.WalkLaws.{Standing, walk-starts, walk-goes, walk-falls, all-starts, all-goes, all-no, all-ends}
+use Rattle.fit.specs.Groups.{meetsEntry, fitsPlace}
+use Rattle.fit.specs.Index.{bucketOf, hashOf}
+use Rattle.meaning.specs.Owned.{allOwned, allWhere}
 use Rattle.fit.proofs.judge.fits_place.Reads as fits-place
 use Rattle.fit.proofs.judge.fits_place.Kinds as fits-place-kinds
 use Rattle.fit.proofs.judge.+fits_place+meets_entry.Lts-fits_place as fits-place-lts

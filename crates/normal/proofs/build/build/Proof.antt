@@ -10,7 +10,7 @@ use Rattle.blocks.proofs.EntryLaws.{of-nth}
 use Rattle.blocks.specs.Entries.{Bounded, entriesOf, nth}
 use Rattle.blocks.specs.Owners.{ownerOf}
 use Rattle.blocks.specs.declared.Entry.{Entry}
-use Rattle.fit.specs.Description.{rowOf}
+use Rattle.meaning.specs.Description.{rowOf}
 use Rattle.normal.proofs.BuildLaws.{build-ends, build-goes, build-starts, kept-starts, nodes-more, nodes-start}
 use Rattle.normal.specs.Tables.{Entered, Kept, Nodes, highKind, leadsTo, linkKind, lowKind, slotsIn}
 use Rattle.passes.proofs.Written.{kept}

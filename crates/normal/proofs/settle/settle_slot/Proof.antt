@@ -2,7 +2,7 @@
 use borrow.Author.Needs.{needs}
 use mathlib.Core.Path.{_∙_}
 use native.Mathlib.Omega.{arith}
-use Rattle.fit.specs.Specimen.{top}
+use Rattle.meaning.specs.Specimen.{top}
 use Rattle.normal.specs.Tables.{keyIn}
 use Rattle.normal.proofs.settle.settle_slot.Statement.{statement}
 use Rattle.normal.proofs.settle.settle_slot.Tie as tie

@@ -11,7 +11,7 @@ use Rattle.blocks.proofs.EntryLaws.{of-nth}
 use Rattle.blocks.specs.Entries.{entriesOf, nth}
 use Rattle.blocks.specs.Owners.{ownerOf}
 use Rattle.blocks.specs.declared.Entry.{Entry}
-use Rattle.normal.proofs.FirstLaws.{first-end, first-goes, first-stops}
+use Rattle.meaning.proofs.FirstLaws.{first-end, first-goes, first-stops}
 use Rattle.normal.proofs.SlotStates.{States, held-here, small-more, small-start, states-more, states-owner, states-start}
 use Rattle.normal.specs.States.{Indexed, heldAt, heldIn, stateBelow, stateOf}
 use Rattle.passes.specs.Slots.{Slot}

@@ -13,7 +13,6 @@ use Rattle.blocks.specs.Entries.{formOk, nameOk, nth, numberOk, zeroEntry}
 use Rattle.blocks.specs.Owners.{ownerOf}
 use Rattle.blocks.specs.declared.Entry.{Entry}
 use Rattle.blocks.specs.declared.Schema.the-variants.{Description}
-use Rattle.fit.specs.Description.{placeOf}
 use Rattle.logic.proofs.AllEntries.{OfRow, row-all, write-all}
 use Rattle.logic.proofs.Size.{nf-levels}
 use Rattle.logic.proofs.Stored.{Stored, nf-stored}
@@ -23,12 +22,13 @@ use Rattle.logic.specs.Normal.{nf, stored}
 use Rattle.logic.specs.Place.{Atom, Place, atom, has, lacks, least, most, nothing}
 use Rattle.logic.specs.Size.{levels}
 use Rattle.logic.specs.Tree.{Row, leafRow, nodeRow, rowOwner}
-use Rattle.normal.proofs.EntryFields.{Any, Positive, Word, bounded-words, legal-names, place-fields}
-use Rattle.normal.proofs.LayoutLegal.{EntryRows, write-legal}
-use Rattle.normal.proofs.NormalEntries.{normal-fewer}
-use Rattle.normal.proofs.PlaceSize.{place-levels}
-use Rattle.normal.specs.Answer.{normalEntries}
-use Rattle.normal.specs.Rows.{rowEntry}
+use Rattle.meaning.proofs.EntryFields.{Any, Positive, Word, bounded-words, legal-names, place-fields}
+use Rattle.meaning.proofs.LayoutLegal.{EntryRows, write-legal}
+use Rattle.meaning.proofs.NormalEntries.{normal-fewer}
+use Rattle.meaning.proofs.PlaceSize.{place-levels}
+use Rattle.meaning.specs.Description.{placeOf}
+use Rattle.meaning.specs.NormalEntries.{normalEntries}
+use Rattle.meaning.specs.Rows.{rowEntry}
 
 -- ---- rows as entries
 

@@ -9,11 +9,11 @@ use mathlib.Core.Path.{_∙_, _≡_, ap, ap₂, refl}
 use native.Mathlib.Omega.{arith}
 use Rattle.base.proofs.Tests.{bool-cases}
 use Rattle.blocks.specs.declared.Entry.{Entry}
-use Rattle.fit.specs.Specimen.{Item, allItems, groupOf, items, linked, member, owns, recordOf, top}
 use Rattle.logic.proofs.Counting.{count-copies, count-list, countIn, every-copies, every-ext, every-list, everyFrom, everyIn, sumIn}
 use Rattle.logic.specs.Place.{Atom, Place, atom, has, lacks, least, most, nothing}
 use Rattle.logic.specs.Record.{eachLinked, fits, meets, successors}
 use Rattle.logic.specs.Tree.{end, leaf, node}
+use Rattle.meaning.specs.Specimen.{Item, allItems, groupOf, items, linked, member, owns, recordOf, top}
 
 -- ---- fitting by groups
 

@@ -18,7 +18,7 @@ use Rattle.logic.specs.Canonical.{Above, Ascending}
 use Rattle.logic.specs.Normal.{before, find, isEnd, rank, sub}
 use Rattle.logic.specs.Place.{Atom, Kind, Place, atom, has, lacks, least, most, nothing}
 use Rattle.logic.specs.Tree.{Early, Row, end, leafRow, nodeRow, rowOwner, tree}
-use Rattle.normal.specs.Rows.{rowEntry}
+use Rattle.meaning.specs.Rows.{rowEntry}
 
 -- the entry of the row at position i
 abbrev pub entryOfRow : List (Row Atom ℕ) → ℕ → Entry

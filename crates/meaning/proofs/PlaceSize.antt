@@ -14,9 +14,6 @@ use Rattle.blocks.specs.Entries.{nth}
 use Rattle.blocks.specs.Owners.{depthOf, depthOk, ownerOf}
 use Rattle.blocks.specs.declared.Entry.{Entry}
 use Rattle.blocks.specs.declared.Schema.{Schema}
-use Rattle.fit.proofs.Owned.{owned-of}
-use Rattle.fit.proofs.Places.{allHere, place-owned}
-use Rattle.fit.specs.Description.{placeOf, rowOf}
 use Rattle.logic.proofs.Counting.{sumIn}
 use Rattle.logic.proofs.Names.{Different}
 use Rattle.logic.proofs.Sums.{sum-le, sum-once, sum-zero}
@@ -24,6 +21,9 @@ use Rattle.logic.specs.Place.{Place}
 use Rattle.logic.specs.Size.{levels, measure, nodes}
 use Rattle.logic.specs.Tree.{Row, end, leaf, leafRow, node, nodeRow, tree}
 use Rattle.logic.specs.Witness.{member}
+use Rattle.meaning.proofs.Owned.{owned-of}
+use Rattle.meaning.proofs.Places.{allHere, place-owned}
+use Rattle.meaning.specs.Description.{placeOf, rowOf}
 
 -- ---- entries
 

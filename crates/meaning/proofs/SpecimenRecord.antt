@@ -7,10 +7,6 @@ use mathlib.Core.List.{List, [], _∷_, map}
 use mathlib.Core.Path.{_∙_, _≡_, ap, ap₂, refl}
 use native.Mathlib.Omega.{arith}
 use Rattle.base.proofs.Tests.{bool-cases}
-use Rattle.compare.specs.Specimen.{rowEntry, specimenEntries}
-use Rattle.fit.proofs.Items.{eachGroup, fits-groups, fitsBy, groupAt, groupUnder, linkedItems, meetsBy}
-use Rattle.fit.proofs.Places.{tree-skip}
-use Rattle.fit.specs.Specimen.{owns, recordOf}
 use Rattle.logic.proofs.Counting.{every-from-ext, everyFrom, sumIn}
 use Rattle.logic.proofs.LayoutLaws.{write-early, write-reads}
 use Rattle.logic.specs.Layout.{write}
@@ -18,6 +14,10 @@ use Rattle.logic.specs.Place.{Atom, Place, atom, has, lacks, least, most, nothi
 use Rattle.logic.specs.Record.{fits}
 use Rattle.logic.specs.SpecimenTree.{Group, SpecimenTree, eachIn, fitsTop, given, group, meetsTop, total}
 use Rattle.logic.specs.Tree.{Early, Row, end, leaf, leafRow, node, nodeRow, tree}
+use Rattle.meaning.proofs.Items.{eachGroup, fits-groups, fitsBy, groupAt, groupUnder, linkedItems, meetsBy}
+use Rattle.meaning.proofs.Places.{tree-skip}
+use Rattle.meaning.specs.Specimen.{owns, recordOf}
+use Rattle.meaning.specs.SpecimenFor.{rowEntry, specimenEntries}
 
 -- ---- rows
 

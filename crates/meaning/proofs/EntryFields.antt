@@ -14,10 +14,10 @@ use Rattle.blocks.proofs.Legal.{Legal}
 use Rattle.blocks.specs.Entries.{formOk, kindOk, nameOk, nth, numberOk, zeroEntry}
 use Rattle.blocks.specs.declared.Entry.{Entry}
 use Rattle.blocks.specs.declared.Schema.{Schema}
-use Rattle.fit.specs.Description.{atomOf, placeOf, rowOf}
 use Rattle.logic.proofs.AllEntries.{AllRows, OfRow, tree-all}
 use Rattle.logic.proofs.Fields.{AtomFields, Fields}
 use Rattle.logic.specs.Place.{kindOf}
+use Rattle.meaning.specs.Description.{atomOf, placeOf, rowOf}
 
 -- the name of an entry that is not of kind 6, and its number
 pub record EntryFields (Name Number : ℕ → Type 0) (e : Entry) : Type 0 where

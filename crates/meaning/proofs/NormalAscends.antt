@@ -10,7 +10,6 @@ use native.Mathlib.Omega.{arith}
 use Rattle.base.proofs.Tests.{and-both, eqb-self, lt-ltb, or-left, or-right}
 use Rattle.base.specs.Sorted.{AllAfter, Sorted}
 use Rattle.blocks.specs.declared.Entry.{Entry}
-use Rattle.fit.specs.Description.{placeOf}
 use Rattle.logic.proofs.Lookup.{sub-head}
 use Rattle.logic.proofs.Order.{sub-rest}
 use Rattle.logic.proofs.Plain.{plain-normal}
@@ -20,8 +19,9 @@ use Rattle.logic.specs.Layout.{Queue, done, job, later, lay, weight, write}
 use Rattle.logic.specs.Normal.{isEnd, nf, rank, sub}
 use Rattle.logic.specs.Place.{Atom, Place, atom}
 use Rattle.logic.specs.Tree.{end, leaf, leafRow, node, nodeRow}
-use Rattle.normal.specs.Answer.{normalEntries}
-use Rattle.normal.specs.Rows.{entryBefore, rowEntry}
+use Rattle.meaning.specs.Description.{placeOf}
+use Rattle.meaning.specs.NormalEntries.{normalEntries}
+use Rattle.meaning.specs.Rows.{entryBefore, rowEntry}
 
 -- ---- places
 

@@ -12,9 +12,9 @@ use Rattle.base.proofs.Tests.{and-both, and-left, and-right, eq-cases, eq-eqb, 
 use Rattle.blocks.specs.Entries.{nth, zeroEntry}
 use Rattle.blocks.specs.Owners.{ownerOf}
 use Rattle.blocks.specs.declared.Entry.{Entry}
-use Rattle.fit.specs.Groups.{allOwned, allWhere, sumOwned, sumWhere}
 use Rattle.logic.proofs.Counting.{every-ext, every-from, everyFrom, sumIn}
 use Rattle.logic.specs.Record.{every}
+use Rattle.meaning.specs.Owned.{allOwned, allWhere, sumOwned, sumWhere}
 
 -- ---- by number
 

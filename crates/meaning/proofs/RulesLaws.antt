@@ -11,7 +11,6 @@ use native.Mathlib.Omega.{arith}
 use Rattle.base.proofs.Tests.{both-ways, eq-cases, lt-cases, lt-ltb, neither-left}
 use Rattle.blocks.specs.Entries.{nth}
 use Rattle.blocks.specs.declared.Entry.{Entry}
-use Rattle.fit.specs.Description.{placeOf}
 use Rattle.logic.proofs.Kept.{lawful-unrestricted}
 use Rattle.logic.proofs.LayoutLaws.{write-early}
 use Rattle.logic.proofs.Normal.{nf-normal}
@@ -22,10 +21,11 @@ use Rattle.logic.specs.Layout.{lay, weight, write}
 use Rattle.logic.specs.Normal.{atMost, before, bottom, clash, excluded, find, found, isEnd, nf, rank, sub, supports, under}
 use Rattle.logic.specs.Place.{Kind, Place, atom, has, lacks, least, most, nothing}
 use Rattle.logic.specs.Tree.{end, tree}
-use Rattle.normal.proofs.RowPlaces.{EveryRow, ascending-rows, entryOfRow, every-row, no-rows, row-listed}
-use Rattle.normal.proofs.WrittenPlaces.{canonical-ascends, row-canonical}
-use Rattle.normal.specs.Rows.{rowEntry}
-use Rattle.normal.specs.Rules.{AloneSix, Applies, Clashes, Crosses, Equal, HasAndLacks, Is, IsEvery, LeastZero, OwnsNothing, RemovesEvery, SaysNothing, Twice, rule-1, rule-10, rule-2, rule-3, rule-4, rule-5, rule-6, rule-7, rule-8, rule-9}
+use Rattle.meaning.proofs.RowPlaces.{EveryRow, ascending-rows, entryOfRow, every-row, no-rows, row-listed}
+use Rattle.meaning.proofs.WrittenPlaces.{canonical-ascends, row-canonical}
+use Rattle.meaning.specs.Description.{placeOf}
+use Rattle.meaning.specs.Rows.{rowEntry}
+use Rattle.meaning.specs.Rules.{AloneSix, Applies, Clashes, Crosses, Equal, HasAndLacks, Is, IsEvery, LeastZero, OwnsNothing, RemovesEvery, SaysNothing, Twice, rule-1, rule-10, rule-2, rule-3, rule-4, rule-5, rule-6, rule-7, rule-8, rule-9}
 
 -- in a normal place nothing is at odds, and each entry tells something
 clean-of : {t : Place} → Canonical unrestricted t → Clean unrestricted t

@@ -13,11 +13,11 @@ use Rattle.blocks.specs.Entries.{nth}
 use Rattle.blocks.specs.Owners.{chain, depthOf, ownerOf}
 use Rattle.blocks.specs.declared.Entry.{Entry}
 use Rattle.blocks.specs.declared.Schema.the-variants.{Description}
-use Rattle.fit.specs.Description.{atomOf, linksTo, linksUp}
 use Rattle.logic.proofs.WitnessFields.{AllNames, TargetFields}
 use Rattle.logic.specs.Witness.{on}
-use Rattle.normal.proofs.EntryFields.{EntryFields, atom-fields}
-use Rattle.normal.proofs.PlaceSize.{depth-most}
+use Rattle.meaning.proofs.EntryFields.{EntryFields, atom-fields}
+use Rattle.meaning.proofs.PlaceSize.{depth-most}
+use Rattle.meaning.specs.Description.{atomOf, linksTo, linksUp}
 
 -- ---- how many
 

@@ -15,15 +15,15 @@ use Rattle.blocks.specs.Entries.{nth}
 use Rattle.blocks.specs.Owners.{ownerOf}
 use Rattle.blocks.specs.declared.Entry.{Entry}
 use Rattle.blocks.specs.declared.Schema.the-variants.{Description}
-use Rattle.fit.proofs.Links.{links-into, linksInto}
-use Rattle.fit.proofs.Owned.{owned-at, owned-of}
-use Rattle.fit.proofs.Places.{allHere, asks, place-owned}
-use Rattle.fit.specs.Description.{atomOf, linksTo, placeOf}
-use Rattle.fit.specs.Groups.{allOwned}
 use Rattle.logic.proofs.Along.{along-append, along-follows}
 use Rattle.logic.specs.Place.{Place}
 use Rattle.logic.specs.Record.{Record, along, eachLinked, fits, meets}
 use Rattle.logic.specs.Tree.{end, leaf, node}
+use Rattle.meaning.proofs.Links.{links-into, linksInto}
+use Rattle.meaning.proofs.Owned.{owned-at, owned-of}
+use Rattle.meaning.proofs.Places.{allHere, asks, place-owned}
+use Rattle.meaning.specs.Description.{atomOf, linksTo, placeOf}
+use Rattle.meaning.specs.Owned.{allOwned}
 
 -- ---- entries and places
 

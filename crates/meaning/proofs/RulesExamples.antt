@@ -7,8 +7,8 @@ use mathlib.Core.Path.{_≡_, refl}
 use native.Mathlib.Omega.{arith}
 use Rattle.blocks.specs.Entries.{nth}
 use Rattle.blocks.specs.declared.Entry.{Entry}
-use Rattle.normal.proofs.RulesLaws.{six-no-rule}
-use Rattle.normal.specs.Rules.{Applies, Is, IsEvery, Twice, rule-1, rule-10, rule-2, rule-3, rule-4, rule-5, rule-6, rule-7, rule-8, rule-9}
+use Rattle.meaning.proofs.RulesLaws.{six-no-rule}
+use Rattle.meaning.specs.Rules.{Applies, Is, IsEvery, Twice, rule-1, rule-10, rule-2, rule-3, rule-4, rule-5, rule-6, rule-7, rule-8, rule-9}
 
 -- an entry of a kind, an owner, a name and a number
 abbrev entry : ℕ → ℕ → ℕ → ℕ → Entry

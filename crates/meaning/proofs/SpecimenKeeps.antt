@@ -16,11 +16,6 @@ use Rattle.blocks.specs.Entries.{nth, zeroEntry}
 use Rattle.blocks.specs.Owners.{ownerOf}
 use Rattle.blocks.specs.declared.Entry.{Entry}
 use Rattle.blocks.specs.declared.Schema.the-variants.{Specimen}
-use Rattle.compare.proofs.SpecimenRecord.{item-fits}
-use Rattle.compare.specs.Specimen.{rowEntry, specimenEntries}
-use Rattle.fit.proofs.Items.{groupAt}
-use Rattle.fit.proofs.Places.{tree-skip}
-use Rattle.fit.specs.Specimen.{recordOf}
 use Rattle.logic.proofs.LayoutLaws.{write-early, write-reads}
 use Rattle.logic.specs.Background.{Background, Keeps}
 use Rattle.logic.specs.Layout.{write}
@@ -28,6 +23,11 @@ use Rattle.logic.specs.Place.{atom, has, most}
 use Rattle.logic.specs.Record.{fits, successors}
 use Rattle.logic.specs.SpecimenTree.{Group, KeepsTop, KeptBelow, SpecimenTree, fitsTop, given, group, total}
 use Rattle.logic.specs.Tree.{Early, Row, end, leaf, leafRow, nodeRow, tree}
+use Rattle.meaning.proofs.Items.{groupAt}
+use Rattle.meaning.proofs.Places.{tree-skip}
+use Rattle.meaning.proofs.SpecimenRecord.{item-fits}
+use Rattle.meaning.specs.Specimen.{recordOf}
+use Rattle.meaning.specs.SpecimenFor.{rowEntry, specimenEntries}
 
 -- ---- rows
 

@@ -13,9 +13,6 @@ use Rattle.blocks.specs.Entries.{formOk, nameOk, nth, numberOk, zeroEntry}
 use Rattle.blocks.specs.Owners.{ownerOf}
 use Rattle.blocks.specs.declared.Entry.{Entry}
 use Rattle.blocks.specs.declared.Schema.the-variants.{Description, Specimen}
-use Rattle.compare.proofs.LinkPaths.{links-fewer, links-most, target-fields}
-use Rattle.compare.specs.Specimen.{rowEntry, specimenEntries, specimenFor}
-use Rattle.fit.specs.Description.{atomOf, linksTo, placeOf}
 use Rattle.logic.proofs.AllEntries.{OfRow, row-all, write-all}
 use Rattle.logic.proofs.Fields.{nf-fields}
 use Rattle.logic.proofs.LayoutLaws.{write-length}
@@ -30,9 +27,12 @@ use Rattle.logic.specs.Size.{levels, nodes}
 use Rattle.logic.specs.SpecimenTree.{Group, SpecimenTree, group}
 use Rattle.logic.specs.Tree.{Row, leafRow, nodeRow, rowOwner}
 use Rattle.logic.specs.Witness.{on, witness}
-use Rattle.normal.proofs.EntryFields.{Any, EntryFields, Positive, Word, bounded-words, legal-names, place-fields}
-use Rattle.normal.proofs.LayoutLegal.{EntryRows, write-legal}
-use Rattle.normal.proofs.PlaceSize.{place-levels, place-nodes}
+use Rattle.meaning.proofs.EntryFields.{Any, EntryFields, Positive, Word, bounded-words, legal-names, place-fields}
+use Rattle.meaning.proofs.LayoutLegal.{EntryRows, write-legal}
+use Rattle.meaning.proofs.LinkPaths.{links-fewer, links-most, target-fields}
+use Rattle.meaning.proofs.PlaceSize.{place-levels, place-nodes}
+use Rattle.meaning.specs.Description.{atomOf, linksTo, placeOf}
+use Rattle.meaning.specs.SpecimenFor.{rowEntry, specimenEntries, specimenFor}
 
 -- ---- rows as entries
 

@@ -17,8 +17,8 @@ use Rattle.logic.specs.Canonical.{Ascending, Canonical, canonical}
 use Rattle.logic.specs.Layout.{Queue, done, job, later, lay, weight, write}
 use Rattle.logic.specs.Place.{Atom, Place, atom}
 use Rattle.logic.specs.Tree.{Early, Row, end, leaf, leafRow, node, nodeRow, tree}
-use Rattle.normal.proofs.RowPlaces.{EveryRow, entryOfRow, every-row}
-use Rattle.normal.specs.Rows.{rowEntry}
+use Rattle.meaning.proofs.RowPlaces.{EveryRow, entryOfRow, every-row}
+use Rattle.meaning.specs.Rows.{rowEntry}
 
 -- ---- owners
 

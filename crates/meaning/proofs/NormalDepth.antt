@@ -14,15 +14,15 @@ use Rattle.blocks.specs.Entries.{nth}
 use Rattle.blocks.specs.Owners.{depthOf, ownerOf}
 use Rattle.blocks.specs.declared.Entry.{Entry}
 use Rattle.blocks.specs.declared.Schema.the-variants.{Description}
-use Rattle.fit.proofs.Owned.{owned-at, owned-of}
-use Rattle.fit.proofs.Places.{asks, place-owned}
-use Rattle.fit.specs.Description.{placeOf}
-use Rattle.fit.specs.Groups.{allOwned}
 use Rattle.logic.specs.Size.{levels}
-use Rattle.normal.proofs.NormalEntries.{normal-levels}
-use Rattle.normal.proofs.NormalLegal.{normal-legal}
-use Rattle.normal.proofs.PlaceSize.{depth-owned, levels-here}
-use Rattle.normal.specs.Answer.{normalEntries}
+use Rattle.meaning.proofs.NormalEntries.{normal-levels}
+use Rattle.meaning.proofs.NormalLegal.{normal-legal}
+use Rattle.meaning.proofs.Owned.{owned-at, owned-of}
+use Rattle.meaning.proofs.PlaceSize.{depth-owned, levels-here}
+use Rattle.meaning.proofs.Places.{asks, place-owned}
+use Rattle.meaning.specs.Description.{placeOf}
+use Rattle.meaning.specs.NormalEntries.{normalEntries}
+use Rattle.meaning.specs.Owned.{allOwned}
 
 module _ (d : List Entry) (L : Legal Description d) where
   -- ---- from depths to levels

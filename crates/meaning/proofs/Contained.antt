@@ -14,9 +14,6 @@ use Rattle.blocks.proofs.Legal.{Legal}
 use Rattle.blocks.specs.Entries.{nth}
 use Rattle.blocks.specs.declared.Entry.{Entry}
 use Rattle.blocks.specs.declared.Schema.the-variants.{Description}
-use Rattle.compare.specs.Answer.{failing, normalOf}
-use Rattle.fit.proofs.Paths.{fits-paths, paths-fit}
-use Rattle.fit.specs.Description.{atomOf, linksTo, placeOf}
 use Rattle.logic.proofs.Holds.{nf-holds-says}
 use Rattle.logic.proofs.Kept.{kept-unrestricted, lawful-unrestricted}
 use Rattle.logic.specs.Background.{Background, Keeps, LawfulBackground, unrestricted}
@@ -25,8 +22,11 @@ use Rattle.logic.specs.Meaning.{Says}
 use Rattle.logic.specs.Normal.{nf}
 use Rattle.logic.specs.Place.{Place}
 use Rattle.logic.specs.Record.{Record, along, fits, meets}
-use Rattle.normal.proofs.FirstLaws.{failing-least, failing-none, least-failing, none-failing}
-use Rattle.normal.specs.First.{entryHolds, firstFailing}
+use Rattle.meaning.proofs.FirstLaws.{failing-least, failing-none, least-failing, none-failing}
+use Rattle.meaning.proofs.Paths.{fits-paths, paths-fit}
+use Rattle.meaning.specs.Description.{atomOf, linksTo, placeOf}
+use Rattle.meaning.specs.Failing.{failing, normalOf}
+use Rattle.meaning.specs.First.{entryHolds, firstFailing}
 
 -- every item that fits t fits u, in the records that keep the background
 abbrev pub Within : Background → Place → Place → Type 0

@@ -13,12 +13,12 @@ use Rattle.blocks.specs.Entries.{nth, zeroEntry}
 use Rattle.blocks.specs.Owners.{ownerOf}
 use Rattle.blocks.specs.declared.Entry.{Entry}
 use Rattle.blocks.specs.declared.Schema.{Schema}
-use Rattle.fit.proofs.Owned.{owned-from}
-use Rattle.fit.specs.Description.{atomOf, placeOf, rowOf}
-use Rattle.fit.specs.Groups.{allOwned}
 use Rattle.logic.proofs.Counting.{every-from-ext, every-map, everyFrom}
 use Rattle.logic.specs.Place.{Atom, Place}
 use Rattle.logic.specs.Tree.{Early, Row, Tree, end, leaf, leafRow, node, nodeRow, rowOwner, tree}
+use Rattle.meaning.proofs.Owned.{owned-from}
+use Rattle.meaning.specs.Description.{atomOf, placeOf, rowOf}
+use Rattle.meaning.specs.Owned.{allOwned}
 
 -- ---- rows
 

@@ -14,7 +14,7 @@ use Rattle.base.specs.Search.{firstFrom}
 use Rattle.blocks.specs.declared.Entry.{Entry}
 use Rattle.logic.specs.Background.{Background}
 use Rattle.logic.specs.Place.{Place}
-use Rattle.normal.specs.First.{entryHolds, firstFailing}
+use Rattle.meaning.specs.First.{entryHolds, firstFailing}
 
 -- ---- a search
 

@@ -15,15 +15,6 @@ use Rattle.blocks.proofs.Legal.{Legal}
 use Rattle.blocks.specs.Entries.{nth}
 use Rattle.blocks.specs.declared.Entry.{Entry}
 use Rattle.blocks.specs.declared.Schema.the-variants.{Description, Specimen}
-use Rattle.compare.proofs.Contained.{failing-kind}
-use Rattle.compare.proofs.SpecimenKeeps.{specimen-keeps}
-use Rattle.compare.proofs.SpecimenLegal.{shown-bounded, shown-legal, shown-length}
-use Rattle.compare.proofs.SpecimenRecord.{specimen-fits}
-use Rattle.compare.specs.Answer.{failing, normalOf, specimenOf}
-use Rattle.compare.specs.Specimen.{specimenFor}
-use Rattle.fit.proofs.Paths.{fits-paths}
-use Rattle.fit.specs.Description.{atomOf, linksTo, placeOf}
-use Rattle.fit.specs.Specimen.{recordOf}
 use Rattle.logic.proofs.Kept.{lawful-unrestricted}
 use Rattle.logic.proofs.Normal.{alive, nf-normal}
 use Rattle.logic.proofs.Sound.{nf-sound}
@@ -38,8 +29,17 @@ use Rattle.logic.specs.Place.{Atom, Place}
 use Rattle.logic.specs.Record.{fits}
 use Rattle.logic.specs.SpecimenTree.{SpecimenTree, fitsTop}
 use Rattle.logic.specs.Witness.{on, witness}
-use Rattle.normal.proofs.FirstLaws.{failing-least}
-use Rattle.normal.specs.First.{entryHolds, firstFailing}
+use Rattle.meaning.proofs.Contained.{failing-kind}
+use Rattle.meaning.proofs.FirstLaws.{failing-least}
+use Rattle.meaning.proofs.Paths.{fits-paths}
+use Rattle.meaning.proofs.SpecimenKeeps.{specimen-keeps}
+use Rattle.meaning.proofs.SpecimenLegal.{shown-bounded, shown-legal, shown-length}
+use Rattle.meaning.proofs.SpecimenRecord.{specimen-fits}
+use Rattle.meaning.specs.Description.{atomOf, linksTo, placeOf}
+use Rattle.meaning.specs.Failing.{failing, normalOf, specimenOf}
+use Rattle.meaning.specs.First.{entryHolds, firstFailing}
+use Rattle.meaning.specs.Specimen.{recordOf}
+use Rattle.meaning.specs.SpecimenFor.{specimenFor}
 
 -- a specimen, as entries, that is accepted and whose top item fits C and does not fit D
 pub record Shown (c d sp : List Entry) : Type 0 where

@@ -8,7 +8,6 @@ use mathlib.Core.Logic.{_↔_}
 use mathlib.Core.Path.{_∙_, _≡_, ap, refl, sym}
 use native.Mathlib.Omega.{arith}
 use Rattle.blocks.specs.declared.Entry.{Entry}
-use Rattle.fit.specs.Description.{placeOf, rowOf}
 use Rattle.logic.proofs.Kept.{lawful-unrestricted}
 use Rattle.logic.proofs.LayoutLaws.{write-length, write-reads}
 use Rattle.logic.proofs.Plain.{plain-sound, plain-unique}
@@ -21,9 +20,10 @@ use Rattle.logic.specs.Place.{Atom, Place, atom, has, kindOf, lacks, least, mos
 use Rattle.logic.specs.Record.{Record, fits}
 use Rattle.logic.specs.Size.{levels, nodes}
 use Rattle.logic.specs.Tree.{Row, leafRow, nodeRow, tree}
-use Rattle.normal.proofs.PlaceSize.{place-nodes}
-use Rattle.normal.specs.Answer.{normalEntries}
-use Rattle.normal.specs.Rows.{rowEntry}
+use Rattle.meaning.proofs.PlaceSize.{place-nodes}
+use Rattle.meaning.specs.Description.{placeOf, rowOf}
+use Rattle.meaning.specs.NormalEntries.{normalEntries}
+use Rattle.meaning.specs.Rows.{rowEntry}
 
 -- ---- rows and entries
 

@@ -11,7 +11,7 @@ use Rattle.base.proofs.Tests.{eq-cases, eq-eqb, ne-eqb}
 use Rattle.blocks.specs.Entries.{nth}
 use Rattle.blocks.specs.Owners.{ownerOf}
 use Rattle.blocks.specs.declared.Entry.{Entry}
-use Rattle.fit.specs.Description.{linksTo, linksUp}
+use Rattle.meaning.specs.Description.{linksTo, linksUp}
 
 -- the links into the place that entry o owns
 unfoldable pub linksInto : List Entry → ℕ → List ℕ

@@ -4,12 +4,12 @@ use Prim.Native.Nat.{ℕ}
 use mathlib.Core.List.{List, map}
 use Rattle.blocks.specs.Entries.{nth}
 use Rattle.blocks.specs.declared.Entry.{Entry}
-use Rattle.fit.specs.Description.{atomOf, linksTo}
 use Rattle.logic.specs.Layout.{write}
 use Rattle.logic.specs.Place.{Place}
 use Rattle.logic.specs.SpecimenTree.{Group, SpecimenTree, group}
 use Rattle.logic.specs.Tree.{Row, leafRow, nodeRow}
 use Rattle.logic.specs.Witness.{on, witness}
+use Rattle.meaning.specs.Description.{atomOf, linksTo}
 
 -- a row of a specimen as an entry: "has property", or "group of items by link" with the number "count - 1"
 abbrev pub rowEntry : Row ℕ Group → Entry

@@ -8,10 +8,10 @@ use mathlib.Core.List.{List}
 use Rattle.base.specs.Search.{firstFrom}
 use Rattle.blocks.specs.Entries.{nth}
 use Rattle.blocks.specs.declared.Entry.{Entry}
-use Rattle.fit.specs.Description.{atomOf, linksTo}
 use Rattle.logic.specs.Background.{Background}
 use Rattle.logic.specs.Holds.{holds}
 use Rattle.logic.specs.Place.{Place}
+use Rattle.meaning.specs.Description.{atomOf, linksTo}
 
 -- "An entry e of D stands at the place reached by its owners' links, W. It holds if N is kind 6; or if N has at most 0 of the next
 -- link at a place passed on W; or if N's place W (empty if N has none) supports it. .. kind 5 always holds": entry n of D

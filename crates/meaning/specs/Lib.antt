@@ -1,0 +1,12 @@
+pub mod Description
+pub mod Owned
+pub mod Specimen
+pub mod Rows
+pub mod NormalEntries
+pub mod Rules
+pub mod First
+pub mod SpecimenFor
+pub mod Failing
+pub mod FitCases
+pub mod NormalCases
+pub mod CompareCases

@@ -1,0 +1,13 @@
+-- The entries of a description's normal form.
+-- Assumes nothing.
+use mathlib.Core.List.{List, map}
+use Rattle.blocks.specs.declared.Entry.{Entry}
+use Rattle.logic.specs.Background.{unrestricted}
+use Rattle.logic.specs.Layout.{write}
+use Rattle.logic.specs.Normal.{nf}
+use Rattle.meaning.specs.Description.{placeOf}
+use Rattle.meaning.specs.Rows.{rowEntry}
+
+-- the normal form's entries: "entries ascend by owner, then kind, then name"
+unfoldable pub normalEntries : List Entry → List Entry
+normalEntries es = map rowEntry (write (nf unrestricted (placeOf es 0)))
