@@ -21,7 +21,7 @@ use Rattle.logic.specs.Place.{Kind, has, kindOf, lacks, least, most, nothing}
 use Rattle.logic.specs.Tree.{Early, end, tree}
 use Rattle.meaning.proofs.Places.{early-rows, tree-skip}
 use Rattle.meaning.specs.Description.{placeOf, rowOf}
-use Rattle.normal.proofs.HoldingLaws.{form-kind}
+use Rattle.slots.proofs.HoldingLaws.{form-kind}
 
 -- ---- the first entry that matches
 

@@ -53,11 +53,11 @@ use Rattle.meaning.specs.Owned.{Owned}
 use Rattle.meaning.specs.SpecimenFor.{specimenFor}
 use Rattle.normal.proofs.Answer.{normalised-means}
 use Rattle.normal.proofs.AnswerLaws.{normalised, normalised-ready}
-use Rattle.normal.proofs.UnheldLaws.{BothRead, all-held, one-fails, refused-by}
 use Rattle.normal.specs.Answer.{normaliseOf, normalisedOf}
-use Rattle.normal.specs.Holding.{holdingOf, unheld}
-use Rattle.normal.specs.declared.Holding.the-variants as holding
 use Rattle.normal.specs.declared.NormalAnswer.the-variants as normal
+use Rattle.slots.proofs.UnheldLaws.{BothRead, all-held, one-fails, refused-by}
+use Rattle.slots.specs.Holding.{holdingOf, unheld}
+use Rattle.slots.specs.declared.Holding.the-variants as holding
 
 -- an accepted description is short
 pub accepted-short : (i : ℕ) (c : List ℕ) {n : ℕ} → readingOf Description i c ≡ reading.Accepted n → length c ≤ 8192

@@ -6,8 +6,8 @@ ghost use Prim.Native.Nat.{_+_, _≤_};
 ghost use lib.Dec.{ltb};
 ghost use lib.ListN.{length};
 ghost use Rattle.blocks.specs.Entries.{entriesOf};
-ghost use Rattle.normal.specs.Holding.{holdingOf};
-ghost use Rattle.normal.specs.declared.Holding.{Holding};
+ghost use Rattle.slots.specs.Holding.{holdingOf};
+ghost use Rattle.slots.specs.declared.Holding.{Holding};
 ghost use Rattle.compare.specs.Answer.{compareOf, outputOf};
 ghost use Rattle.meaning.specs.Failing.{failing};
 ghost use Rattle.compare.specs.Prepared.{Denied, Prepared};
@@ -16,8 +16,8 @@ use crate::path::links_up;
 use crate::specimen::specimen_rows;
 use crate::table::unpack;
 use blocks::Schema;
-use normal::Holding;
 use normal::NormalAnswer;
+use slots::Holding;
 
 // Writes the specimen of a normal form of k entries for entry n of a description with `total` entries, the first that fails.
 fn write_specimen(
@@ -96,7 +96,7 @@ fn deny(c: &[u8], d: &[u8], n: usize, out: &mut [u8]) -> Comparison
 pub fn compare(c: &[u8], d: &[u8], out: &mut [u8]) -> Comparison
     ensures { λ r. ⌜ (r ≡ compareOf (now (c .entry)) (now (d .entry)) (now (out .entry))) × (now (out .exit) ≡ outputOf (now (c .entry)) (now (d .entry)) (now (out .entry))) ⌝ }
 {
-    let holding = normal::first_unheld(c, d);
+    let holding = slots::first_unheld(c, d);
     match holding {
         Holding::Refused(number, input, place) => Comparison::Refused(number, input, place),
         Holding::All => agree(c, d, out),

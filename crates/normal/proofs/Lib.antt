@@ -1,10 +1,4 @@
 pub mod FillLaws
-pub mod ChainLaws
-pub mod SearchLaws
-pub mod TableLaws
-pub mod EnterLaws
-pub mod BuildLaws
-pub mod SettleLaws
 pub mod EmitLaws
 pub mod OrderingLaws
 pub mod PushLaws
@@ -19,11 +13,5 @@ pub mod AnswerLaws
 pub mod Answer
 pub mod ReadingNumbers
 pub mod Cases
-pub mod PassLaws
-pub mod SlotSearch
-pub mod BoundLaws
-pub mod HoldingLaws
-pub mod SlotStates
-pub mod UnheldLaws
 pub mod PassOrder
 pub mod NormalWritten

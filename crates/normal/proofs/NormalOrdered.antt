@@ -15,10 +15,10 @@ use Rattle.normal.proofs.RunLaws.{run-part}
 use Rattle.normal.proofs.TagLaws.{tags-table}
 use Rattle.normal.proofs.TagOrder.{numbers-many, places-rise, tags-same, tags-same-back, tags-sorted}
 use Rattle.normal.specs.Ordered.{firstOfPlace, runFrom, runOf, tagIn, tagNumbers}
-use Rattle.normal.specs.Tables.{keyIn, slotsFrom}
 use Rattle.passes.proofs.Parts.{normal-sorted}
 use Rattle.passes.specs.Pipeline.{enoughFor, part, rowsFrom}
 use Rattle.passes.specs.Slots.{settled, slots}
+use Rattle.slots.specs.Tables.{keyIn, slotsFrom}
 use Rattle.sorting.specs.Sorted.{sorted}
 
 -- the cells of each place are those of the sorted tags

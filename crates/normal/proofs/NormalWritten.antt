@@ -10,7 +10,6 @@ use Rattle.base.proofs.Tests.{le-leb, leb-self}
 use Rattle.blocks.proofs.Accepting.{sound-of-accepted, written-encodes}
 use Rattle.blocks.proofs.Bounds.{AllBounded}
 use Rattle.blocks.proofs.Faithful.{entries-limit}
-use Rattle.blocks.proofs.Legal.{owner-earlier, owner-kind}
 use Rattle.blocks.specs.Encoding.{bytesWritten, written}
 use Rattle.blocks.specs.Entries.{entriesOf, packed}
 use Rattle.blocks.specs.Reading.{readingOf}
@@ -26,16 +25,16 @@ use Rattle.meaning.proofs.NormalEntries.{normal-fewer}
 use Rattle.meaning.proofs.NormalLegal.{normal-bounded}
 use Rattle.meaning.specs.Description.{placeOf}
 use Rattle.meaning.specs.NormalEntries.{normalEntries}
-use Rattle.meaning.specs.Owned.{Owned}
 use Rattle.meaning.specs.Rows.{rowEntry}
 use Rattle.normal.proofs.Answer.{normalised-means}
 use Rattle.normal.proofs.AnswerLaws.{Ready, normalised}
-use Rattle.normal.proofs.PassLaws.{all-bounded}
 use Rattle.normal.proofs.PassOrder.{rows-few}
 use Rattle.normal.proofs.PushLaws.{pushed-total}
 use Rattle.normal.specs.Answer.{normaliseOf, normalisedOf, outputAfter}
 use Rattle.normal.specs.Emitted.{NormalRows, rowNumber}
 use Rattle.normal.specs.declared.NormalAnswer.the-variants.{Normalised}
+use Rattle.slots.proofs.PassLaws.{all-bounded}
+use Rattle.slots.specs.Standing.{Standing}
 
 rows-packed : (rs : List (Row Atom ℕ)) → map rowNumber rs ≡ map packed (map rowEntry rs)
 rows-packed [] = refl
@@ -72,10 +71,9 @@ module _ (d out : List ℕ) (r : Ready d out) (b : AllBounded (entriesOf d)) whe
 
 -- ---- an accepted description
 
-pub accepted-owned : (d : List ℕ) {n : ℕ} → readingOf Description 1 d ≡ reading.Accepted n → Owned (entriesOf d)
-accepted-owned d e =
-    let L = sound-of-accepted Description 1 d e .entries in
-    record { earlier = owner-earlier L; every = owner-kind L }
+-- its entries are few
+pub standing-few : {d : List ℕ} {used : ℕ} {t bad full : List ℕ} → Standing d used t bad full → length (entriesOf d) ≤ 1008
+standing-few {d} s = omega (arith, entries-limit (sound-of-accepted Description 1 d (s .read) .blocks))
 
 -- the packed entries are as many as the table can hold
 pub rows-most : (d rows : List ℕ) (r : ℕ) → length (entriesOf d) ≤ 1008 → NormalRows d rows r → r ≤ 1008

@@ -11,7 +11,7 @@ use native.Mathlib.Omega.{arith}
 use Rattle.base.proofs.Tests.{eq-cases, eq-eqb, ne-eqb}
 use Rattle.base.specs.Search.{firstFrom}
 use Rattle.normal.specs.Ordered.{firstOfPlace, tagNumber, tagNumbers, tagPlace}
-use Rattle.normal.specs.Tables.{keyIn}
+use Rattle.slots.specs.Tables.{keyIn}
 
 tag-last : (t : List ℕ) (i n : ℕ) → tagNumbers t i (suc n) ≡ tagNumbers t i n ++ (tagNumber (keyIn (getD t (i + n) 0)) (i + n) ∷ [])
 unfolding tagNumbers

@@ -16,8 +16,8 @@ use Rattle.normal.proofs.FillLaws.{joined-none, joined-one, noted-appen
 use Rattle.normal.proofs.PushLaws.{Pushing, part-room, pushed-more, pushed-total, pushing-done, pushing-more, pushing-room, pushing-start}
 use Rattle.normal.specs.Emitted.{Placing, Pushed, atomRows, cellName, cellSlot, everyRows, everySlots, keepCell, kindRows, packedOf, placeRows}
 use Rattle.normal.specs.Filling.{noted}
-use Rattle.normal.specs.Tables.{highIn}
 use Rattle.passes.specs.Slots.{Cell, cell}
+use Rattle.slots.specs.Tables.{highIn}
 
 -- ---- the 'every' rows of one cell and of the others
 

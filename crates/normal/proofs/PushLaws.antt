@@ -16,8 +16,8 @@ use Rattle.logic.specs.Tree.{Row, leafRow}
 use Rattle.normal.proofs.FillLaws.{filled-more, filled-none, filled-one}
 use Rattle.normal.specs.Emitted.{Pushed, cellName, cellValue, kindRows, packedOf, rowNumber, rowsIf, valueNumber}
 use Rattle.normal.specs.Ordered.{runFrom, tagCell, tagPlace, tagSlot}
-use Rattle.normal.specs.Tables.{highIn, highPart, lowPart}
 use Rattle.passes.specs.Slots.{Cell, cell, isLink, sameClass, value}
+use Rattle.slots.specs.Tables.{highIn, highPart, lowPart}
 
 -- ---- rows after rows
 

@@ -14,9 +14,9 @@ use Rattle.base.specs.Sorted.{Sorted}
 use Rattle.normal.proofs.Rising.{Different, sorted-map, sorted-rising, within-map}
 use Rattle.normal.proofs.TagLaws.{length-numbers, number-key, number-slot}
 use Rattle.normal.specs.Ordered.{tagCell, tagIn, tagNumber, tagNumbers, tagPlace, tagSlot}
-use Rattle.normal.specs.Tables.{keyIn}
 use Rattle.passes.proofs.KeyLaws.{key-below, key-parts}
 use Rattle.passes.specs.Pipeline.{beforeTag}
+use Rattle.slots.specs.Tables.{keyIn}
 use Rattle.sorting.proofs.Elements.{member-of-sorted, member-sorted}
 use Rattle.sorting.proofs.Sorted.{length-sorted, sorted-ascending}
 use Rattle.sorting.specs.Sorted.{sorted}

@@ -18,9 +18,9 @@ use Rattle.meaning.specs.Description.{placeOf}
 use Rattle.meaning.specs.Rows.{rowEntry}
 use Rattle.normal.specs.Filling.{Filled, Joined}
 use Rattle.normal.specs.Ordered.{tagNumbers, tagPlace, tagSlot}
-use Rattle.normal.specs.Tables.{lowPart}
 use Rattle.passes.specs.Pipeline.{walk}
 use Rattle.passes.specs.Slots.{Cell, cell, isLink, sameClass, value}
+use Rattle.slots.specs.Tables.{lowPart}
 use Rattle.sorting.specs.Sorted.{sorted}
 
 -- ---- rows as entries

@@ -6,15 +6,15 @@ ghost use Prim.Native.Nat.{_+_, _*_, _-_, _≤_, _<_};
 ghost use lib.ListN.{length, getD};
 ghost use Rattle.logic.specs.Place.{kindOf};
 ghost use Rattle.passes.specs.Slots.{value};
-ghost use Rattle.normal.specs.Tables.{highIn, lowPart};
+ghost use Rattle.slots.specs.Tables.{highIn, lowPart};
 ghost use Rattle.normal.specs.Ordered.{tagSlot, tagCell, runFrom};
 ghost use Rattle.normal.specs.Emitted.{cellValue, cellName, valueNumber, rowsIf, kindRows, atomRows, everyRows, everySlots, keepIn, keepCell, placeRows, Pushed, Placing, Walkable, packedOf};
 use crate::ordering::tag_link;
 use crate::ordering::tag_name;
 use crate::ordering::tag_place;
 use crate::ordering::tag_slot;
-use crate::slots::high_in;
-use crate::slots::low_in;
+use slots::high_in;
+use slots::low_in;
 
 // The number that a slot of these bounds lists with a kind from 1 to 4; 131,072 where it lists none.
 fn value_of(kind: u8, lo: u64, hi: u64) -> u64

@@ -4,9 +4,9 @@ ghost use Prim.Native.Nat.{_+_, _*_, _/_, _%_, _≤_, _<_, ℕ};
 ghost use lib.Dec.{eqb};
 ghost use lib.ListN.{length, getD, replicate};
 ghost use Rattle.sorting.specs.Sorted.{sorted};
-ghost use Rattle.normal.specs.Tables.{keyIn};
+ghost use Rattle.slots.specs.Tables.{keyIn};
 ghost use Rattle.normal.specs.Ordered.{tagNumber, tagNumbers, tagSlot, tagPlace, firstOfPlace};
-use crate::slots::key_in;
+use slots::key_in;
 
 // The number of slot j.
 fn tag_of(x: u64, j: usize) -> u64

@@ -1,54 +1,15 @@
-// All passes over an accepted description, in tables of their own.
+// The last two passes over settled slots, in tables of their own.
 ghost use mathlib.Core.Path.{_≡_};
 ghost use mathlib.Core.List.{[]};
 ghost use Prim.Native.Nat.{_≤_};
-ghost use lib.ListN.{length, replicate};
-ghost use Rattle.blocks.specs.Entries.{entriesOf};
+ghost use lib.ListN.{length};
 ghost use Rattle.sorting.specs.Sorted.{sorted};
 ghost use Rattle.normal.specs.Ordered.{runOf, tagNumbers};
-ghost use Rattle.normal.specs.Tables.{Chained, Settled};
-ghost use Rattle.meaning.specs.Owned.{Owned};
+ghost use Rattle.slots.specs.Standing.{Standing};
 ghost use Rattle.normal.specs.Emitted.{NormalRows, Orderable, Pushed, allRows, keepIn};
-use crate::build::build;
 use crate::ordering::first_places;
 use crate::ordering::order_slots;
-use crate::settle::settle;
 use crate::walk::write_rows;
-
-// The slots of a description with `total` entries, settled, with the chains that find them; returns their number.
-pub(crate) fn chained_slots(
-    d: &[u8],
-    total: usize,
-    table: &mut [u64; 1009],
-    next: &mut [u16; 1009],
-    head: &mut [u16; 1021],
-    bad: &mut [u8; 1009],
-    full: &mut [u8; 1009],
-) -> usize
-    requires { ⌜ (total ≡ length (entriesOf (now d))) × (total ≤ 1008) × Owned (entriesOf (now d)) × (now table ≡ replicate 1009 0) × (now next ≡ replicate 1009 0) × (now head ≡ replicate 1021 0) × (now bad ≡ replicate 1009 0) × (now full ≡ replicate 1009 0) ⌝ }
-    ensures { λ r. ⌜ Chained (now (d .entry)) r (now (table .exit)) (now (next .exit)) (now (head .exit)) (now (bad .exit)) (now (full .exit)) ⌝ }
-{
-    let mut node = [0u16; 1009];
-    let used = build(d, total, table, next, head, &mut node);
-    settle(table, bad, full, used);
-    used
-}
-
-// The slots of a description with `total` entries, settled; returns their number.
-fn settled_slots(
-    d: &[u8],
-    total: usize,
-    table: &mut [u64; 1009],
-    bad: &mut [u8; 1009],
-    full: &mut [u8; 1009],
-) -> usize
-    requires { ⌜ (total ≡ length (entriesOf (now d))) × (total ≤ 1008) × Owned (entriesOf (now d)) × (now table ≡ replicate 1009 0) × (now bad ≡ replicate 1009 0) × (now full ≡ replicate 1009 0) ⌝ }
-    ensures { λ r. ⌜ Settled (now (d .entry)) r (now (table .exit)) (now (bad .exit)) (now (full .exit)) ⌝ }
-{
-    let mut next = [0u16; 1009];
-    let mut head = [0u16; 1021];
-    chained_slots(d, total, table, &mut next, &mut head, bad, full)
-}
 
 // Orders settled slots and writes the rows of all places; returns their number.
 fn ordered_rows(
@@ -69,18 +30,22 @@ fn ordered_rows(
     write_rows(&order, used, table, full, &start, rows, &mut below)
 }
 
-// The packed entries of the normal form of a description with `total` entries; returns their number.
-pub(crate) fn normal_rows(d: &[u8], total: usize, rows: &mut [u64; 1008]) -> usize
-    requires { ⌜ (total ≡ length (entriesOf (now d))) × (total ≤ 1008) × Owned (entriesOf (now d)) × (length (now rows) ≡ 1008) ⌝ }
+// The packed entries of the normal form of a description whose slots stand in the tables; returns their number. The description itself is
+// not looked at: it is what the contract speaks of.
+pub(crate) fn normal_rows(
+    d: &[u8],
+    used: usize,
+    table: &[u64; 1009],
+    bad: &[u8; 1009],
+    full: &[u8; 1009],
+    rows: &mut [u64; 1008],
+) -> usize
+    requires { ⌜ Standing (now d) used (now table) (now bad) (now full) × (length (now rows) ≡ 1008) ⌝ }
     ensures { λ r. ⌜ NormalRows (now (d .entry)) (now (rows .exit)) r ⌝ }
 {
-    let mut table = [0u64; 1009];
-    let mut bad = [0u8; 1009];
-    let mut full = [0u8; 1009];
-    let used = settled_slots(d, total, &mut table, &mut bad, &mut full);
     if bad[0] != 0 {
         rows[0] = 6;
         return 1;
     }
-    ordered_rows(&table, used, &full, rows)
+    ordered_rows(table, used, full, rows)
 }

@@ -2,7 +2,7 @@
 use borrow.Author.Needs.{needs}
 use native.Mathlib.Omega.{arith}
 use Rattle.normal.specs.Ordered.{tagNumber}
-use Rattle.normal.specs.Tables.{keyIn}
+use Rattle.slots.specs.Tables.{keyIn}
 use Rattle.normal.proofs.ordering.tag_of.Statement.{statement}
 use Rattle.normal.proofs.ordering.tag_of.Tie as tie
 

@@ -1,17 +1,17 @@
 -- `normalise` meets its contract.
 use borrow.Author.Needs.{needs}
-use mathlib.Core.Path.{_∙_, sym}
+use mathlib.Core.Path.{sym}
 use Rattle.normal.proofs.AnswerLaws.{input-refused, refused-output}
 use Rattle.normal.proofs.output.normalise.Statement.{statement}
 use Rattle.normal.proofs.output.normalise.Tie as tie
 
 write-normal-requires : tie.Need-write-normal-requires
-write-normal-requires c κs = sym (c .before .before .before .before .read .ensures) ∙ c .before .before .reading2 .given .1
+write-normal-requires c κs = rw (c .before .before .before .before .before .slotting2 .given .1) at (c .before .before .before .before .before .before .before .fill .ensures)
 
 returns : tie.Need-returns
 returns c =
-    let a = c .before .before .before .before .before .before in
-    let e = input-refused (a .args .description .now) (a .args .out .now) (sym (c .before .before .before .read .ensures) ∙ c .before .reading .given .1) in
+    let a = c .before .before .before .before .before .before .before .before .before in
+    let e = input-refused (a .args .description .now) (a .args .out .now) (rw (c .before .slotting .given .1) at (c .before .before .before .fill .ensures)) in
     (sym e, sym (refused-output (a .args .description .now) (a .args .out .now) e))
 
 pub normalise-spec : {M : Type 1} → statement M

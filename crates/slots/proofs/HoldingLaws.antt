@@ -1,0 +1,275 @@
+-- What the states of a description's places mean: each stands for the path of links into its place, so the entries that hold by the
+-- slots are those that the normal form holds.
+-- Assumes nothing.
+use Prim.Native.Nat.{_+_, _<_, _≤_, suc, zero, ℕ}
+use lib.Dec.{eqb, leb, ltb}
+use lib.ListN.{length}
+use mathlib.Core.Bool.{Bool, _&&_, _||_, cond, false, not, true}
+use mathlib.Core.List.{List, [], _++_, _∷_, append-assoc, append-nil, map}
+use mathlib.Core.Logic.{_≢_}
+use mathlib.Core.Option.{Option}
+use mathlib.Core.Path.{_∙_, _≡_, refl, sym}
+use native.Mathlib.Omega.{arith}
+use Rattle.base.proofs.Tests.{and-left, and-right, bool-cases, eq-cases, eq-eqb, iff-eq, leb-le, ltb-lt, ne-eqb, or-one, tests}
+use Rattle.base.specs.Search.{firstFrom}
+use Rattle.blocks.proofs.Legal.{Legal, owner-earlier}
+use Rattle.blocks.specs.Entries.{formOk, kindOk, nth}
+use Rattle.blocks.specs.Owners.{ownerOf}
+use Rattle.blocks.specs.declared.Entry.{Entry}
+use Rattle.blocks.specs.declared.Schema.the-variants.{Description}
+use Rattle.logic.proofs.Plain.{supports-plain}
+use Rattle.logic.specs.Background.{unrestricted}
+use Rattle.logic.specs.Holds.{holds, holdsAt}
+use Rattle.logic.specs.Normal.{atMost, enough, find, found, nf, sub, supports}
+use Rattle.logic.specs.Place.{Atom, Kind, atom, has, kindOf, lacks, least, most}
+use Rattle.logic.specs.Tree.{Row, end}
+use Rattle.meaning.proofs.FirstLaws.{first-same, none-failing}
+use Rattle.meaning.proofs.Links.{links-into, linksInto}
+use Rattle.meaning.specs.Description.{atomOf, linksTo, placeOf, rowOf}
+use Rattle.meaning.specs.First.{entryHolds, firstFailing}
+use Rattle.passes.proofs.FormNormal.{form-top, top-bottom}
+use Rattle.passes.proofs.Forms.{form, formed}
+use Rattle.passes.proofs.SlotLaws.{position-from}
+use Rattle.passes.proofs.SlotNumbers.{no-link-slot, no-slot, position-range, slot-lists, slot-owns}
+use Rattle.passes.proofs.WrittenLists.{value-none}
+use Rattle.passes.specs.Slots.{Slot, inconsistent, isLink, position, slots, taken, value}
+use Rattle.slots.specs.States.{entrySlot, heldAt, heldIn, highAt, linkName, lowAt, slotFor, stateBelow, stateOf, supportedBy}
+
+-- ---- the states
+
+module _ (ss : List Slot) (d : List Entry) (early : (k : ℕ) → 1 ≤ k → k ≤ length d → ownerOf d k < k) where
+  -- a state does not depend on the steps, if they reach the top
+  pub state-steps : (f g o : ℕ) → o ≤ length d → o ≤ f → o ≤ g → stateOf ss d f o ≡ stateOf ss d g o
+  unfolding stateOf
+  state-steps zero zero o hi a b = refl
+  state-steps zero (suc g) o hi a b = let z : o ≡ 0 = omega arith in rw (eq-eqb z)
+  state-steps (suc f) zero o hi a b = let z : o ≡ 0 = omega arith in rw (eq-eqb z)
+  state-steps (suc f) (suc g) o hi a b =
+      eq-cases o 0
+      (λ z. rw (eq-eqb z))
+      (λ z.
+      let e = early o (omega arith) hi in
+      rw (ne-eqb z, state-steps f g (ownerOf d o) (omega arith) (omega arith) (omega arith)))
+
+  -- the state of what an entry owns, from the state of the entry's place
+  pub state-every : (n : ℕ) → 1 ≤ n → n ≤ length d
+      → stateOf ss d n n ≡ stateBelow ss (stateOf ss d (ownerOf d n) (ownerOf d n)) (nth d n .name)
+  unfolding stateOf
+  state-every zero lo hi = absurd (omega arith)
+  state-every (suc n) lo hi =
+      let e = early (suc n) lo hi in
+      let z : eqb (suc n) 0 ≡ false = omega tests in
+      rw (z, state-steps n (ownerOf d (suc n)) (ownerOf d (suc n)) (omega arith) (omega arith) (omega arith))
+
+-- ---- the slot of a key
+
+-- it is among the slots
+pub slot-small : (ss : List Slot) (v : ℕ) (b : Bool) (n : ℕ) → slotFor ss v b n ≤ length ss
+unfolding slotFor
+slot-small ss v b n =
+    bool-cases (taken ss v b n) (λ q. rw q (omega (arith, position-range 1 ss v b n q))) (λ q. rw q (omega arith))
+
+-- where there is none, there is no upper bound
+no-bound : (ss : List Slot) (j : ℕ) → eqb j 0 ≡ true → atMost 0 (highAt ss j) ≡ false
+unfolding highAt
+no-bound ss j q = rw q
+
+-- no slot stands past the last one
+formed-end : (k : ℕ) (ss : List Slot) (v : ℕ) → k + length ss ≤ v → formed k ss v ≡ end
+unfolding formed
+formed-end k [] v l = refl
+formed-end k (s ∷ ss) v l = let z : eqb v k ≡ false = omega tests in rw z (formed-end (suc k) ss v (omega arith))
+
+-- so the place there is empty
+form-end : (ss : List Slot) (v : ℕ) → length ss < v → form ss v ≡ end
+unfolding form
+form-end ss v l = let z : eqb v 0 ≡ false = omega tests in rw z (formed-end 1 ss v (omega arith))
+
+module _ (rs : List (Row Atom ℕ)) where
+  -- what a place lists of a name, by the bounds of its slot
+  place-lists : (v : ℕ) (a : Kind) (n : ℕ) → find a n (form (slots rs) v)
+      ≡ value a (lowAt (slots rs) (slotFor (slots rs) v (isLink a) n)) (highAt (slots rs) (slotFor (slots rs) v (isLink a) n))
+  unfolding slotFor lowAt highAt
+  place-lists v a n =
+      bool-cases (taken (slots rs) v (isLink a) n)
+      (λ q.
+      let z : eqb (position 1 (slots rs) v (isLink a) n) 0 ≡ false = omega (tests, position-from 1 (slots rs) v (isLink a) n) in
+      rw (q, z) (slot-lists rs v a n q))
+      (λ q. rw q (no-slot rs v a n q ∙ sym (value-none a)))
+
+  -- what a link owns there, if it is not at most 0
+  place-owns : length (slots rs) ≤ 1008 → (v l : ℕ) → atMost 0 (highAt (slots rs) (slotFor (slots rs) v true l)) ≡ false
+      → sub l (form (slots rs) v) ≡ form (slots rs) (cond (eqb (slotFor (slots rs) v true l) 0) 1023 (slotFor (slots rs) v true l))
+  unfolding slotFor highAt
+  place-owns few v l h =
+      bool-cases (taken (slots rs) v true l)
+      (λ q.
+      let z : eqb (position 1 (slots rs) v true l) 0 ≡ false = omega (tests, position-from 1 (slots rs) v true l) in
+      rw (q, z) (slot-owns rs v l q ∙ rw (rw (q, z) at h)))
+      (λ q. rw q (no-link-slot rs v l q ∙ sym (form-end (slots rs) 1023 (omega arith))))
+
+-- ---- support
+
+module _ (rs : List (Row Atom ℕ)) where
+  -- what is listed, by the bounds of its slot
+  has-said : (v n : ℕ) → not (eqb (lowAt (slots rs) (slotFor (slots rs) v false n)) 0) ≡ found (find has n (form (slots rs) v))
+  has-said v n =
+      let lo : ℕ = lowAt (slots rs) (slotFor (slots rs) v false n) in
+      rw (place-lists rs v has n) (bool-cases (eqb lo 0) (λ q. rw q) (λ q. rw q))
+
+  lacks-said : (v n : ℕ) → found (highAt (slots rs) (slotFor (slots rs) v false n)) ≡ found (find lacks n (form (slots rs) v))
+  lacks-said v n =
+      let hi : Option ℕ = highAt (slots rs) (slotFor (slots rs) v false n) in
+      rw (place-lists rs v lacks n) (bool-cases (found hi) (λ q. rw q) (λ q. rw q))
+
+  -- "n = 0 or at least m with m ≥ n"
+  least-said : (v l m : ℕ) → leb m (lowAt (slots rs) (slotFor (slots rs) v true l)) ≡ enough m (find least l (form (slots rs) v))
+  least-said v l m =
+      let lo : ℕ = lowAt (slots rs) (slotFor (slots rs) v true l) in
+      let none : lo ≡ 0 → leb m lo ≡ eqb m 0 = λ q. iff-eq (λ h. omega tests) (λ h. omega tests) in
+      rw (place-lists rs v least l) (eq-cases lo 0 (λ q. rw (eq-eqb q) (none q)) (λ q. rw (ne-eqb q)))
+
+  -- "at most m with m ≤ n"
+  most-said : (v l m : ℕ) → atMost m (highAt (slots rs) (slotFor (slots rs) v true l)) ≡ atMost m (find most l (form (slots rs) v))
+  most-said v l m = rw (place-lists rs v most l)
+
+  -- the place supports what an entry says that is no 'every'
+  pub support-slots : (v : ℕ) (e : Entry) → 1 ≤ e .kind → e .kind ≤ 6 → e .kind ≢ 5
+      → supportedBy (e .kind) (e .number) (lowAt (slots rs) (entrySlot (slots rs) v e)) (highAt (slots rs) (entrySlot (slots rs) v e))
+      ≡ supports unrestricted (form (slots rs) v) (atomOf e)
+  unfolding supportedBy linkName kindOf
+  support-slots v e lo hi z =
+      rw supports-plain
+      (eq-cases (e .kind) 1 (λ q. rw q (has-said v (e .name)))
+      (λ z₁. eq-cases (e .kind) 2 (λ q. rw q (lacks-said v (e .name)))
+      (λ z₂. eq-cases (e .kind) 3 (λ q. rw q (least-said v (e .name) (e .number)))
+      (λ z₃. eq-cases (e .kind) 4 (λ q. rw q (most-said v (e .name) (e .number)))
+      (λ z₄. let q : e .kind ≡ 6 = omega arith in rw q)))))
+
+  -- "N has at most 0 of the next link"
+  none-said : (v l : ℕ) → atMost 0 (highAt (slots rs) (slotFor (slots rs) v true l)) ≡ supports unrestricted (form (slots rs) v) (atom most l 0)
+  none-said v l = rw supports-plain (most-said v l 0)
+
+-- ---- paths
+
+-- The state s stands for the path w: beyond w the place of that number holds what the top holds; the top holds all if the state is
+-- 1,024.
+pub record StandsFor (ss : List Slot) (w : List ℕ) (s : ℕ) : Type 0 where
+  pub passed : s ≡ 1024 → (w′ : List ℕ) (a : Atom) → holdsAt unrestricted (form ss 0) (w ++ w′) a ≡ true
+  pub at : s ≢ 1024 → (w′ : List ℕ) (a : Atom) → holdsAt unrestricted (form ss 0) (w ++ w′) a ≡ holdsAt unrestricted (form ss s) w′ a
+
+-- the top's state stands for the empty path, and no link leads into the top
+pub start-stands : (ss : List Slot) → StandsFor ss [] 0
+start-stands ss = record { passed = λ z w′ a. absurd (omega arith); at = λ z w′ a. refl }
+
+top-stands : (ss : List Slot) (d : List Entry) → StandsFor ss (linksInto d 0) (stateOf ss d 0 0)
+unfolding linksInto stateOf
+top-stands ss d = start-stands ss
+
+module _ (rs : List (Row Atom ℕ)) (few : length (slots rs) ≤ 1008) where
+  -- a step from a place that has at most 0 of the link, and from one that has not
+  none-step : (s l : ℕ) → atMost 0 (highAt (slots rs) (slotFor (slots rs) s true l)) ≡ true → (w : List ℕ) (a : Atom)
+      → holdsAt unrestricted (form (slots rs) s) (l ∷ w) a ≡ true
+  unfolding holdsAt
+  none-step s l q w a = rw (sym (none-said rs s l) ∙ q)
+
+  some-step : (s l : ℕ) → atMost 0 (highAt (slots rs) (slotFor (slots rs) s true l)) ≡ false → (w : List ℕ) (a : Atom)
+      → holdsAt unrestricted (form (slots rs) s) (l ∷ w) a
+      ≡ holdsAt unrestricted (form (slots rs) (cond (eqb (slotFor (slots rs) s true l) 0) 1023 (slotFor (slots rs) s true l))) w a
+  unfolding holdsAt
+  some-step s l q w a = rw (sym (none-said rs s l) ∙ q, place-owns rs few s l q)
+
+  -- a link leads to the state below
+  pub step-stands : {w : List ℕ} {s : ℕ} (l : ℕ) → StandsFor (slots rs) w s → StandsFor (slots rs) (w ++ (l ∷ [])) (stateBelow (slots rs) s l)
+  unfolding stateBelow
+  step-stands {w} {s} l h =
+      let j : ℕ = slotFor (slots rs) s true l in
+      let small : j ≤ length (slots rs) = slot-small (slots rs) s true l in
+      eq-cases s 1024
+      (λ e. rw (eq-eqb e)
+      (record { passed = λ y w′ a. rw append-assoc (h .passed e (l ∷ w′) a); at = λ y w′ a. absurd (y refl) }))
+      (λ z. rw (ne-eqb z)
+      (bool-cases (eqb j 0)
+      (λ q. rw q
+      (record {
+        passed = λ y w′ a. absurd (omega arith);
+        at = λ y w′ a. rw append-assoc (h .at z (l ∷ w′) a ∙ some-step s l (no-bound (slots rs) j q) w′ a ∙ rw q);
+      }))
+      (λ q. rw q
+      (bool-cases (atMost 0 (highAt (slots rs) j))
+      (λ x. rw x
+      (record {
+        passed = λ y w′ a. rw append-assoc (h .at z (l ∷ w′) a ∙ none-step s l x w′ a);
+        at = λ y w′ a. absurd (y refl);
+      }))
+      (λ x. rw x
+      (record {
+        passed = λ y w′ a. absurd (omega arith);
+        at = λ y w′ a. rw append-assoc (h .at z (l ∷ w′) a ∙ some-step s l x w′ a ∙ rw q);
+      }))))))
+
+-- ---- the entries that hold
+
+-- a kind that is allowed is a number of the table
+pub form-kind : (e : Entry) → formOk Description e ≡ true → (1 ≤ e .kind) × (e .kind ≤ 6)
+unfolding formOk
+form-kind e h =
+    let k : (ltb 0 (e .kind) && leb (e .kind) 6) ≡ true = and-left (kindOk Description (e .kind)) _ h in
+    (ltb-lt (and-left (ltb 0 (e .kind)) (leb (e .kind) 6) k), leb-le (and-right (ltb 0 (e .kind)) (leb (e .kind) 6) k))
+
+module _ (rs : List (Row Atom ℕ)) (few : length (slots rs) ≤ 1008) (d : List Entry) (lawful : Legal Description d) where
+  -- the state of the place that an entry owns stands for the links into it: first for entries below a bound
+  stands-below : (b o : ℕ) → o < b → o ≤ length d → StandsFor (slots rs) (linksInto d o) (stateOf (slots rs) d o o)
+  unfolding linksInto
+  stands-below zero o l hi = absurd (omega arith)
+  stands-below (suc b) o l hi =
+      eq-cases o 0
+      (λ z. rw z (top-stands (slots rs) d))
+      (λ z.
+      let u : ℕ = ownerOf d o in
+      let e = owner-earlier lawful o (omega arith) hi in
+      rw (ne-eqb z, links-into d (owner-earlier lawful) o (omega arith) hi, state-every (slots rs) d (owner-earlier lawful) o (omega arith) hi)
+      (step-stands rs few (nth d o .name) (stands-below b u (omega arith) (omega arith))))
+
+  -- and so for all
+  pub state-stands : (o : ℕ) → o ≤ length d → StandsFor (slots rs) (linksInto d o) (stateOf (slots rs) d o o)
+  state-stands o hi = stands-below (suc o) o (omega arith) hi
+
+  -- an entry holds by the slots exactly if their places hold it
+  pub slots-hold : (n : ℕ) → 1 ≤ n → n ≤ length d
+      → heldIn (slots rs) d n ≡ (eqb (nth d n .kind) 5 || holdsAt unrestricted (form (slots rs) 0) (linksTo d n) (atomOf (nth d n)))
+  unfolding heldIn heldAt holdsAt
+  slots-hold n lo hi =
+      let o : ℕ = ownerOf d n in
+      let s : ℕ = stateOf (slots rs) d o o in
+      let e : Entry = nth d n in
+      let early = owner-earlier lawful n lo hi in
+      let there : StandsFor (slots rs) (linksTo d n) s = rw (links-into d (owner-earlier lawful) n lo hi) (state-stands o (omega arith)) in
+      let range = form-kind e (lawful .form n lo hi) in
+      eq-cases (e .kind) 5
+      (λ q. rw (eq-eqb q))
+      (λ y. rw (ne-eqb y)
+      (eq-cases s 1024
+      (λ q.
+      let all : holdsAt unrestricted (form (slots rs) 0) (linksTo d n) (atomOf e) ≡ true = rw append-nil at (there .passed q [] (atomOf e)) in
+      rw (eq-eqb q) (sym all))
+      (λ z.
+      let here : holdsAt unrestricted (form (slots rs) 0) (linksTo d n) (atomOf e) ≡ supports unrestricted (form (slots rs) s) (atomOf e)
+      = rw append-nil at (there .at z [] (atomOf e)) in
+      rw (ne-eqb z) (support-slots rs s e (range .0) (range .1) y ∙ sym here))))
+
+-- ---- the first that fails
+
+module _ (c d : List Entry) where
+  -- where the top is possible, the first entry that fails by the slots is the first that the normal form does not hold
+  pub slots-first : length (slots (map rowOf c)) ≤ 1008 → Legal Description d → inconsistent 1 (slots (map rowOf c)) 0 ≡ false
+      → firstFrom (heldIn (slots (map rowOf c)) d) 1 (length d) ≡ firstFailing unrestricted (nf unrestricted (placeOf c 0)) d
+  unfolding firstFailing entryHolds holds placeOf
+  slots-first few lawful z =
+      first-same _ _ 1 (length d) (λ j lo hi.
+      slots-hold (map rowOf c) few d lawful j lo (omega arith) ∙ rw (top-bottom (map rowOf c), z, ← (form-top (map rowOf c) z)))
+
+  -- where it is impossible, the normal form holds all
+  pub bottom-first : inconsistent 1 (slots (map rowOf c)) 0 ≡ true → firstFailing unrestricted (nf unrestricted (placeOf c 0)) d ≡ 0
+  unfolding entryHolds holds placeOf
+  bottom-first z = none-failing unrestricted _ d (λ n lo hi. rw (top-bottom (map rowOf c), z) (or-one (eqb (nth d n .kind) 5)))

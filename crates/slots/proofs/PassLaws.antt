@@ -1,0 +1,84 @@
+-- What each pass hands to the next, and what all of them give.
+-- Assumes nothing.
+use Prim.Native.Nat.{_+_, _-_, _/_, _<_, _≤_, suc, zero, ℕ}
+use lib.Dec.{eqb}
+use lib.ListN.{getD, length}
+use mathlib.Core.Bool.{Bool, _&&_, false, true}
+use mathlib.Core.List.{List, [], _∷_, map}
+use mathlib.Core.Logic.{_≢_}
+use mathlib.Core.Option.{Option}
+use mathlib.Core.Path.{_≡_, refl}
+use native.Mathlib.Omega.{arith}
+use Rattle.base.proofs.Tests.{bool-cases, eq-cases, ne-eqb}
+use Rattle.blocks.proofs.Bounds.{AllBounded}
+use Rattle.blocks.specs.Entries.{Bounded, entriesOf, nth, zeroEntry}
+use Rattle.blocks.specs.declared.Entry.{Entry}
+use Rattle.meaning.specs.Description.{rowOf}
+use Rattle.passes.proofs.SlotLaws.{slots-early}
+use Rattle.passes.specs.Keys.{SmallRows, SmallSlots, SmallTop}
+use Rattle.passes.specs.Slots.{EarlySlots, Slot, closed, inconsistent, nonempty, settled, slot}
+use Rattle.slots.specs.Tables.{Built, Placed, Settled, Settling, keyIn, lowPart, slotIn, slotsFrom}
+
+-- ---- slots of a table
+
+pub early-at : (t : List ℕ) (k n : ℕ) → EarlySlots k (slotsFrom t k n) → (j : ℕ) → k ≤ j → j < k + n → keyIn (getD t j 0) / 131072 < j
+unfolding slotsFrom slotIn
+early-at t k zero h j lo hi = absurd (omega arith)
+early-at t k (suc n) h j lo hi = eq-cases j k (λ e. rw e (h .0)) (λ e. early-at t (suc k) n (h .1) j (omega arith) (omega arith))
+
+pub low-at : (t : List ℕ) (k n : ℕ) → SmallSlots (slotsFrom t k n) → (j : ℕ) → k ≤ j → j < k + n → lowPart (getD t j 0) < 65536
+unfolding slotsFrom slotIn
+low-at t k zero h j lo hi = absurd (omega arith)
+low-at t k (suc n) h j lo hi = eq-cases j k (λ e. rw e (h .0 .1)) (λ e. low-at t (suc k) n (h .1) j (omega arith) (omega arith))
+
+small-closed : (b : Bool) (hi : Option ℕ) → SmallTop hi → SmallTop (closed b hi)
+small-closed true hi s = omega arith
+small-closed false hi s = s
+
+pub small-settled : (k : ℕ) (ss : List Slot) → SmallSlots ss → SmallSlots (settled k ss)
+unfolding settled
+small-settled k [] s = tt
+small-settled k (slot u b n lo hi ∷ ss) s = ((s .0 .0, s .0 .1, small-closed (b && inconsistent (suc k) ss k) hi (s .0 .2)), small-settled (suc k) ss (s .1))
+
+-- no slot stands beyond the table
+pub nonempty-far : (k : ℕ) (ss : List Slot) (v : ℕ) → EarlySlots k ss → k + length ss ≤ v → nonempty k (settled k ss) v ≡ false
+unfolding nonempty settled
+nonempty-far k [] v h l = refl
+nonempty-far k (slot u b n lo hi ∷ ss) v h l =
+    let e : v ≢ u = λ q. omega (arith, h .0, q) in
+    rw (settled, nonempty, ne-eqb e) (nonempty-far (suc k) ss v (h .1) (omega arith))
+
+-- ---- the entries
+
+pub rows-small : (es : List Entry) → ((k : ℕ) → k < length es → Bounded (getD es k zeroEntry)) → SmallRows (map rowOf es)
+unfolding rowOf
+rows-small [] h = tt
+rows-small (e ∷ es) h =
+    let b = h 0 (omega arith) in
+    let r = rows-small es (λ k l. h (suc k) (omega arith)) in
+    bool-cases (eqb (e .kind) 5) (λ z. rw (rowOf, z) (b .name, r)) (λ z. rw (rowOf, z) ((b .name, b .number), r))
+
+pub all-bounded : (d : List ℕ) → ((n : ℕ) → 1 ≤ n → n ≤ length (entriesOf d) → Bounded (nth (entriesOf d) n)) → AllBounded (entriesOf d)
+unfolding nth
+all-bounded d h = record { each = λ k l. h (suc k) (omega arith) (omega arith) }
+
+-- ---- the first pass and the second
+
+pub built-placed : {d : List ℕ} {used : ℕ} {t next head : List ℕ} → Built d used t next head → Placed t used
+built-placed {d} {used} {t} b =
+    record { lower = λ j lo hi. early-at t 1 used (rw (b .slotted) at (slots-early (map rowOf (entriesOf d)))) j lo (omega arith) }
+
+pub settled-from : {d : List ℕ} {used : ℕ} {origin next head t bad full : List ℕ} → Built d used origin next head → Settling origin used 0 t bad full → Settled d used t bad full
+settled-from {d} {used} {origin} {t = t} b s =
+    let z : used - 0 ≡ used = omega arith in
+    let e = b .slotted in
+    record {
+      few = b .few;
+      slotted = rw (z, ← e) at (s .above);
+      bads = rw (z, ← e) at (s .bads 0 (omega arith));
+      full-size = s .full-size;
+      fulls = λ v l. rw (z, ← e) at (s .fulls v l);
+      apart = λ i j lo l hi. rw (s .keys i, s .keys j) (b .kept .apart i j lo l hi);
+      lower = λ j lo hi. rw (s .keys j) (built-placed b .lower j lo hi);
+      bounded = b .bounded;
+    }

@@ -1,0 +1,174 @@
+-- The ways to the first entry that a normal form does not hold: refused, nothing fits the first, or found by the slots.
+-- Assumes nothing.
+use Prim.Native.Nat.{_≤_, suc, ℕ}
+use lib.ListN.{getD, length}
+use mathlib.Core.Bool.{Bool, false, true}
+use mathlib.Core.List.{List, [], _∷_, map}
+use mathlib.Core.Logic.{_≢_}
+use mathlib.Core.Path.{_∙_, _≡_, ap, refl, sym}
+use native.Mathlib.Omega.{arith}
+use Rattle.base.proofs.Tests.{eq-cases, eq-eqb, ne-eqb}
+use Rattle.base.specs.Range.{all}
+use Rattle.base.specs.Search.{firstFrom}
+use Rattle.blocks.proofs.Accepting.{accepted-by-none, none-of-accepted, refused-by-first, sound-of-accepted}
+use Rattle.blocks.proofs.Faithful.{entries-limit}
+use Rattle.blocks.proofs.FirstFault.{FirstOf, None}
+use Rattle.blocks.proofs.Legal.{owner-earlier, owner-kind}
+use Rattle.blocks.specs.Entries.{entriesOf}
+use Rattle.blocks.specs.Faults.{faults}
+use Rattle.blocks.specs.Reading.{readingOf}
+use Rattle.blocks.specs.declared.Reading.{Reading}
+use Rattle.blocks.specs.declared.Reading.the-variants as reading
+use Rattle.blocks.specs.declared.Schema.the-variants.{Description}
+use Rattle.logic.specs.Record.{bit, every}
+use Rattle.meaning.specs.Description.{rowOf}
+use Rattle.meaning.specs.Owned.{Owned}
+use Rattle.passes.proofs.Written.{kept}
+use Rattle.passes.specs.Slots.{Slot, inconsistent, settled, slot, slots}
+use Rattle.slots.proofs.HoldingLaws.{bottom-first, slots-first}
+use Rattle.slots.proofs.TableLaws.{length-slots}
+use Rattle.slots.specs.Holding.{heldBy, holdingOf, holdingReturned, unheld}
+use Rattle.slots.specs.States.{Indexed, heldIn}
+use Rattle.slots.specs.Tables.{Chained}
+use Rattle.slots.specs.declared.Holding.the-variants.{All, Fails, Refused}
+
+-- ---- two inputs
+
+module _ (c d : List ℕ) where
+  -- "input 1 in full"
+  pub first-refused : {k i p : ℕ} → readingOf Description 1 c ≡ reading.Refused k i p → holdingOf c d ≡ Refused k i p
+  unfolding holdingOf
+  first-refused e = rw (holdingOf, e)
+
+  module _ {n : ℕ} (e : readingOf Description 1 c ≡ reading.Accepted n) where
+    -- "input 2 in full"
+    pub second-refused : {k i p : ℕ} → readingOf Description 2 d ≡ reading.Refused k i p → holdingOf c d ≡ Refused k i p
+    unfolding holdingOf
+    second-refused f = rw (holdingOf, e, f)
+
+    -- both are accepted
+    pub both-read : {m : ℕ} → readingOf Description 2 d ≡ reading.Accepted m → holdingOf c d ≡ heldBy (unheld c d)
+    unfolding holdingOf
+    both-read f = rw (holdingOf, e, f)
+
+-- both inputs are accepted
+pub record BothRead (c d : List ℕ) : Type 0 where
+  pub first : ℕ
+  pub second : ℕ
+  pub first-read : readingOf Description 1 c ≡ reading.Accepted first
+  pub second-read : readingOf Description 2 d ≡ reading.Accepted second
+
+module _ (c d : List ℕ) where
+  -- the first is refused, or the second, or neither
+  holding-cases : {X : Type 0} → ((k i p : ℕ) → readingOf Description 1 c ≡ reading.Refused k i p → X)
+      → ((n k i p : ℕ) → readingOf Description 1 c ≡ reading.Accepted n → readingOf Description 2 d ≡ reading.Refused k i p → X) → (BothRead c d → X) → X
+  holding-cases {X} f g h = by-first (readingOf Description 1 c) refl
+    where
+      by-second : (n : ℕ) → readingOf Description 1 c ≡ reading.Accepted n → (r : Reading) → readingOf Description 2 d ≡ r → X
+      by-second n e (reading.Refused k i p) q = g n k i p e q
+      by-second n e (reading.Accepted m) q = h (record { first = n; second = m; first-read = e; second-read = q })
+
+      by-first : (r : Reading) → readingOf Description 1 c ≡ r → X
+      by-first (reading.Refused k i p) q = f k i p q
+      by-first (reading.Accepted n) q = by-second n q (readingOf Description 2 d) refl
+
+  held-all : BothRead c d → unheld c d ≡ 0 → holdingOf c d ≡ All
+  held-all r z = both-read c d (r .first-read) (r .second-read) ∙ rw (eq-eqb z)
+
+  held-fails : BothRead c d → unheld c d ≢ 0 → holdingOf c d ≡ Fails (unheld c d)
+  held-fails r z = both-read c d (r .first-read) (r .second-read) ∙ rw (ne-eqb z)
+
+  -- what each answer says
+  pub refused-by : {X : Type 0} {k i p : ℕ} → holdingOf c d ≡ Refused k i p → (readingOf Description 1 c ≡ reading.Refused k i p → X)
+      → ((n : ℕ) → readingOf Description 1 c ≡ reading.Accepted n → readingOf Description 2 d ≡ reading.Refused k i p → X) → X
+  refused-by {X} {k} {i} {p} e f g =
+      holding-cases
+      (λ k′ i′ p′ q. let y = first-refused c d q in let a : k′ ≡ k = cc in let b : i′ ≡ i = cc in let z : p′ ≡ p = cc in f (q ∙ rw (a, b, z)))
+      (λ n k′ i′ p′ r q. let y = second-refused c d r q in let a : k′ ≡ k = cc in let b : i′ ≡ i = cc in let z : p′ ≡ p = cc in g n r (q ∙ rw (a, b, z)))
+      (λ r. eq-cases (unheld c d) 0
+      (λ z. let y = held-all r z in let w : _≡_ {A = ℕ} 0 1 = cc in absurd (omega arith))
+      (λ z. let y = held-fails r z in let w : _≡_ {A = ℕ} 0 1 = cc in absurd (omega arith)))
+
+  pub all-held : holdingOf c d ≡ All → BothRead c d × (unheld c d ≡ 0)
+  all-held e =
+      holding-cases
+      (λ k i p q. let y = first-refused c d q in let w : _≡_ {A = ℕ} 0 1 = cc in absurd (omega arith))
+      (λ n k i p r q. let y = second-refused c d r q in let w : _≡_ {A = ℕ} 0 1 = cc in absurd (omega arith))
+      (λ r. eq-cases (unheld c d) 0
+      (λ z. (r, z))
+      (λ z. let y = held-fails r z in let w : _≡_ {A = ℕ} 0 1 = cc in absurd (omega arith)))
+
+  pub one-fails : {n : ℕ} → holdingOf c d ≡ Fails n → BothRead c d × (unheld c d ≡ n) × (n ≢ 0)
+  one-fails {n} e =
+      holding-cases
+      (λ k i p q. let y = first-refused c d q in let w : _≡_ {A = ℕ} 0 1 = cc in absurd (omega arith))
+      (λ m k i p r q. let y = second-refused c d r q in let w : _≡_ {A = ℕ} 0 1 = cc in absurd (omega arith))
+      (λ r. eq-cases (unheld c d) 0
+      (λ z. let y = held-all r z in let w : _≡_ {A = ℕ} 0 1 = cc in absurd (omega arith))
+      (λ z. let y = held-fails r z in let f : unheld c d ≡ n = cc in (r, f, λ q. z (f ∙ q))))
+
+-- ---- the paper's numbers
+
+module _ (c d : List ℕ) where
+  -- "In one input: .." of input 1
+  pub returned-first : {k p : ℕ} → FirstOf (faults Description c) k p
+      → holdingReturned (holdingOf c d) ≡ record { all = false; entry = 0; number = k; input = 1; place = p }
+  returned-first f = ap holdingReturned (first-refused c d (refused-by-first Description 1 c f))
+
+  -- of input 2, where input 1 is accepted
+  pub returned-second : {k p : ℕ} → None (faults Description c) → FirstOf (faults Description d) k p
+      → holdingReturned (holdingOf c d) ≡ record { all = false; entry = 0; number = k; input = 2; place = p }
+  returned-second n f = ap holdingReturned (second-refused c d (accepted-by-none Description 1 c n) (refused-by-first Description 2 d f))
+
+  -- otherwise the number of the first that fails
+  pub returned-unheld : None (faults Description c) → None (faults Description d) → holdingReturned (holdingOf c d) .entry ≡ unheld c d
+  returned-unheld n m =
+      rw (both-read c d (accepted-by-none Description 1 c n) (accepted-by-none Description 2 d m))
+      (eq-cases (unheld c d) 0 (λ z. rw (eq-eqb z, z)) (λ z. rw (ne-eqb z)))
+
+-- ---- two descriptions
+
+-- an accepted description: its entries, few and owned
+pub accepted-few : (i : ℕ) (d : List ℕ) {n : ℕ} → readingOf Description i d ≡ reading.Accepted n → (n ≡ length (entriesOf d)) × (n ≤ 1008) × Owned (entriesOf d)
+accepted-few i d e =
+    let s = sound-of-accepted Description i d e in
+    let t = none-of-accepted Description i d e .1 in
+    (t, omega (arith, t, entries-limit (s .blocks)), record { earlier = owner-earlier (s .entries); every = owner-kind (s .entries) })
+
+bit-true : (b : Bool) → bit b ≢ 0 → b ≡ true
+bit-true true z = refl
+bit-true false z = absurd (z refl)
+
+bit-false : (b : Bool) → bit b ≡ 0 → b ≡ false
+bit-false true e = absurd (omega arith)
+bit-false false e = refl
+
+length-settled : (k : ℕ) (ss : List Slot) → length (settled k ss) ≡ length ss
+unfolding settled
+length-settled k [] = refl
+length-settled k (slot u b n lo hi ∷ ss) = omega (arith, length-settled (suc k) ss)
+
+-- the slots of the first are in the table
+pub chained-indexed : {c t next head bad full : List ℕ} {used : ℕ} → Chained c used t next head bad full → Indexed (slots (map rowOf (entriesOf c))) t next head used
+chained-indexed s = record { kept = s .kept; slotted = s .settled′ .slotted }
+
+module _ {c t next head bad full : List ℕ} {used : ℕ} (s : Chained c used t next head bad full) (d : List ℕ) where
+  abbrev ss : List Slot
+  ss = slots (map rowOf (entriesOf c))
+
+  -- nothing fits the first
+  pub unheld-none : {b : ℕ} → b ≡ getD bad 0 0 → b ≢ 0 → 0 ≡ unheld c d
+  unfolding unheld
+  unheld-none e z = sym (bottom-first (entriesOf c) (entriesOf d) (bit-true (inconsistent 1 ss 0) (λ q. z (e ∙ s .settled′ .bads ∙ q))))
+
+  few-slots : length ss ≤ used
+  few-slots = omega (arith, length-settled 1 ss, ap length (s .settled′ .slotted), length-slots t 1 used)
+
+  -- what is found by them is the first that is not held
+  pub unheld-found : {b m r : ℕ} → b ≡ getD bad 0 0 → b ≡ 0 → readingOf Description 2 d ≡ reading.Accepted m
+      → r ≡ firstFrom (heldIn (slots (map rowOf (entriesOf c))) (entriesOf d)) 1 m → r ≡ unheld c d
+  unfolding unheld
+  unheld-found {m = m} e z f h =
+      h ∙ ap (firstFrom (heldIn ss (entriesOf d)) 1) (accepted-few 2 d f .0)
+      ∙ slots-first (entriesOf c) (entriesOf d) (omega (arith, few-slots, s .settled′ .few)) (sound-of-accepted Description 2 d f .entries)
+      (bit-false (inconsistent 1 ss 0) (sym (s .settled′ .bads) ∙ sym e ∙ z))

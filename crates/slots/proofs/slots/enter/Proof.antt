@@ -1,0 +1,32 @@
+-- `enter` meets its contract: the slot is found, or made.
+use borrow.Author.Needs.{needs}
+use native.Mathlib.Omega.{arith}
+use Rattle.slots.proofs.EnterLaws.{enter-found, enter-new, scan-some}
+use Rattle.slots.proofs.SearchLaws.{keysOf}
+use Rattle.slots.proofs.slots.enter.Statement.{statement}
+use Rattle.slots.proofs.slots.enter.Tie as tie
+
+tighten-requires : tie.Need-tighten-requires
+tighten-requires c κs =
+    let a = c .before .before .before .before .before .before .before in
+    let f = scan-some (keysOf (a .args .table .now)) _ _ (c .before .before .search .ensures) (c .before .if1 .taken) in
+    (omega (arith, f .0), a .pre .4, a .pre .5, omega (arith, f .1, c .before .before .before .before .before .before .key-of .ensures .1))
+
+returns : tie.Need-returns
+returns c =
+    let a = c .before .before .before .before .before .before .before .before in
+    enter-found (a .pre .0) _ _ _ _ _ (a .pre .1) (a .pre .3) (a .pre .4) (a .pre .5) (c .before .before .before .before .before .before .before .key-of .ensures .0)
+    (c .before .before .before .search .ensures) (c .before .before .if1 .taken) (c .tighten .ensures)
+
+returns-2 : tie.Need-returns-2
+returns-2 c =
+    let a = c .before .before .before .before .before .before .before .before .before .before in
+    enter-new (a .pre .0) _ _ _ _ _ (a .pre .1) (a .pre .3) (a .pre .4) (a .pre .5) (c .before .before .before .before .before .before .before .before .before .key-of .ensures .0)
+    (c .before .before .before .before .before .search .ensures) (c .before .before .before .before .if1 .left)
+    (c .append .ensures .0) (c .append .ensures .1) (c .append .ensures .2)
+
+pub enter-spec : {M : Type 1} → statement M
+enter-spec =
+    tie.close
+    (tie.spec (λ c κs. search needs) (λ c κs. search needs) tighten-requires returns (λ c κs. search needs)
+    (λ c. search needs) returns-2)

@@ -1,0 +1,30 @@
+-- `supported` meets its contract, kind by kind.
+use native.Mathlib.Omega.{arith}
+use Rattle.base.proofs.Tests.{ne-eqb}
+use Rattle.slots.proofs.BoundLaws.{high-most, high-there}
+use Rattle.slots.specs.States.{supportedBy}
+use Rattle.slots.proofs.states.supported.Statement.{statement}
+use Rattle.slots.proofs.states.supported.Tie as tie
+
+returns : tie.Need-returns
+unfolding supportedBy
+returns c = rw (supportedBy, c .match .keys1)
+
+returns-2 : tie.Need-returns-2
+unfolding supportedBy
+returns-2 c = rw (supportedBy, c .match .keys2) (high-there (c .before .args .hi))
+
+returns-3 : tie.Need-returns-3
+unfolding supportedBy
+returns-3 c = rw (supportedBy, c .match .keys3)
+
+returns-4 : tie.Need-returns-4
+unfolding supportedBy
+returns-4 c = rw (supportedBy, c .match .keys4) (high-most (c .before .args .hi) (c .before .args .number) (omega arith))
+
+returns-5 : tie.Need-returns-5
+unfolding supportedBy
+returns-5 c = let z = c .match .rest in rw (supportedBy, ne-eqb (z .0 .0 .0 .1), ne-eqb (z .0 .0 .1), ne-eqb (z .0 .1), ne-eqb (z .1))
+
+pub supported-spec : {M : Type 1} → statement M
+supported-spec = tie.close (tie.spec returns returns-2 returns-3 returns-4 returns-5)

@@ -1,0 +1,51 @@
+-- Which entries of a second description a normal form holds: the answer.
+-- Assumes nothing.
+use Prim.Native.Nat.{ℕ}
+use lib.Dec.{eqb}
+use mathlib.Core.Bool.{Bool, cond, false, true}
+use mathlib.Core.List.{List}
+use Rattle.blocks.specs.Entries.{entriesOf}
+use Rattle.blocks.specs.Reading.{readingOf}
+use Rattle.blocks.specs.declared.Reading.{Reading}
+use Rattle.blocks.specs.declared.Reading.the-variants as reading
+use Rattle.blocks.specs.declared.Schema.the-variants.{Description}
+use Rattle.logic.specs.Background.{unrestricted}
+use Rattle.logic.specs.Normal.{nf}
+use Rattle.meaning.specs.Description.{placeOf}
+use Rattle.meaning.specs.First.{firstFailing}
+use Rattle.slots.specs.declared.Holding.{Holding}
+use Rattle.slots.specs.declared.Holding.the-variants.{All, Fails, Refused}
+
+-- the number of the first entry of d that the normal form of c does not hold, 0 where it holds all
+unfoldable pub unheld : List ℕ → List ℕ → ℕ
+unheld c d = firstFailing unrestricted (nf unrestricted (placeOf (entriesOf c) 0)) (entriesOf d)
+
+-- the answer where both are accepted, by that number
+abbrev pub heldBy : ℕ → Holding
+heldBy n = cond (eqb n 0) All (Fails n)
+
+-- "input 1 in full, input 2 in full"
+abbrev pub secondHeld : List ℕ → List ℕ → Reading → Holding
+secondHeld c d (reading.Refused k i p) = Refused k i p
+secondHeld c d (reading.Accepted m) = heldBy (unheld c d)
+
+abbrev pub firstHeld : List ℕ → List ℕ → Reading → Holding
+firstHeld c d (reading.Refused k i p) = Refused k i p
+firstHeld c d (reading.Accepted n) = secondHeld c d (readingOf Description 2 d)
+
+unfoldable pub holdingOf : List ℕ → List ℕ → Holding
+holdingOf c d = firstHeld c d (readingOf Description 1 c)
+
+-- The paper's numbers for each case: whether all hold, the number of the first that fails; the number returned, the input and the
+-- place. 0 where a case has none.
+pub record HoldingReturned : Type 0 where
+  pub all : Bool
+  pub entry : ℕ
+  pub number : ℕ
+  pub input : ℕ
+  pub place : ℕ
+
+abbrev pub holdingReturned : Holding → HoldingReturned
+holdingReturned All = record { all = true; entry = 0; number = 0; input = 0; place = 0 }
+holdingReturned (Fails n) = record { all = false; entry = n; number = 0; input = 0; place = 0 }
+holdingReturned (Refused k i p) = record { all = false; entry = 0; number = k; input = i; place = p }

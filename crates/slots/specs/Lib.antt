@@ -1,0 +1,5 @@
+pub mod Chain
+pub mod Tables
+pub mod States
+pub mod Holding
+pub mod Standing

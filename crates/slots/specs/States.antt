@@ -1,0 +1,74 @@
+-- Which entries hold, by the slots of a normal form. No public promise names these.
+-- Assumes nothing.
+use Prim.Native.Nat.{suc, zero, ℕ}
+use lib.Dec.{eqb, leb}
+use mathlib.Core.Bool.{Bool, cond, false, not, true}
+use mathlib.Core.List.{List}
+use mathlib.Core.Option.{Option, none}
+use mathlib.Core.Path.{_≡_}
+use Rattle.blocks.specs.Entries.{nth}
+use Rattle.blocks.specs.Owners.{ownerOf}
+use Rattle.blocks.specs.declared.Entry.{Entry}
+use Rattle.logic.specs.Normal.{atMost, found}
+use Rattle.passes.specs.Slots.{Slot, position, settled, slotAt, slotHigh, slotLow, taken}
+use Rattle.slots.specs.Tables.{Kept, slotsFrom}
+
+-- ---- slots by key
+
+-- the number of the slot of place v, class b and name n; 0 if there is none
+unfoldable pub slotFor : List Slot → ℕ → Bool → ℕ → ℕ
+slotFor ss v b n = cond (taken ss v b n) (position 1 ss v b n) 0
+
+-- its settled bounds; 0 and none where there is no slot
+unfoldable pub lowAt : List Slot → ℕ → ℕ
+lowAt ss j = cond (eqb j 0) 0 (slotLow (slotAt 1 (settled 1 ss) j))
+
+unfoldable pub highAt : List Slot → ℕ → Option ℕ
+highAt ss j = cond (eqb j 0) none (slotHigh (slotAt 1 (settled 1 ss) j))
+
+-- ---- where owners lead
+
+-- The state of a place of D: the slot of N that it stands below, 0 for the top; 1,023, below which nothing stands, where N has no such
+-- place; or 1,024 where an at most 0 was passed. The link l leads from state s to this one.
+unfoldable pub stateBelow : List Slot → ℕ → ℕ → ℕ
+stateBelow ss s l =
+    cond (eqb s 1024) 1024
+    (cond (eqb (slotFor ss s true l) 0) 1023 (cond (atMost 0 (highAt ss (slotFor ss s true l))) 1024 (slotFor ss s true l)))
+
+-- the state of the place that entry o of D owns, the owners followed for at most so many steps
+unfoldable pub stateOf : List Slot → List Entry → ℕ → ℕ → ℕ
+stateOf ss d zero o = 0
+stateOf ss d (suc steps) o = cond (eqb o 0) 0 (stateBelow ss (stateOf ss d steps (ownerOf d o)) (nth d o .name))
+
+-- ---- support
+
+-- "Kinds 1 and 2 need the same entry; kind 3 needs n = 0 or at least m with m ≥ n; kind 4 needs at most m with m ≤ n; .. kind 6 never
+-- does", by a slot's bounds: kind k and number n, for the kinds that are no 'every'
+unfoldable pub supportedBy : ℕ → ℕ → ℕ → Option ℕ → Bool
+supportedBy k n lo hi =
+    cond (eqb k 1) (not (eqb lo 0)) (cond (eqb k 2) (found hi) (cond (eqb k 3) (leb n lo) (cond (eqb k 4) (atMost n hi) false)))
+
+-- the name of a kind is a link's, for the kinds that are no 'every'
+unfoldable pub linkName : ℕ → Bool
+linkName k = cond (eqb k 3) true (eqb k 4)
+
+-- the slot of an entry at place v
+abbrev pub entrySlot : List Slot → ℕ → Entry → ℕ
+entrySlot ss v e = slotFor ss v (linkName (e .kind)) (e .name)
+
+-- the entry holds in a place of that state: "kind 5 always holds"
+unfoldable pub heldAt : List Slot → ℕ → Entry → Bool
+heldAt ss s e =
+    cond (eqb (e .kind) 5) true
+    (cond (eqb s 1024) true (supportedBy (e .kind) (e .number) (lowAt ss (entrySlot ss s e)) (highAt ss (entrySlot ss s e))))
+
+-- entry n of D holds
+unfoldable pub heldIn : List Slot → List Entry → ℕ → Bool
+heldIn ss d n = heldAt ss (stateOf ss d (ownerOf d n) (ownerOf d n)) (nth d n)
+
+-- ---- the table
+
+-- the settled slots ss stand in the table, on their chains
+pub record Indexed (ss : List Slot) (t next head : List ℕ) (used : ℕ) : Type 0 where
+  pub kept : Kept t next head used
+  pub slotted : slotsFrom t 1 used ≡ settled 1 ss

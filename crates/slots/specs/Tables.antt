@@ -1,0 +1,148 @@
+-- Slots as numbers of 64 bits in a table, as the code keeps them. No public promise names these.
+-- Assumes nothing.
+use Prim.Native.Nat.{_%_, _*_, _+_, _-_, _/_, _<_, _≤_, max, suc, zero, ℕ}
+use lib.Dec.{eqb, ltb}
+use lib.ListN.{getD, length, set}
+use mathlib.Core.Bool.{Bool, _&&_, _||_, cond, false, not, true}
+use mathlib.Core.List.{List, [], _∷_, map}
+use mathlib.Core.Option.{Option, none, some}
+use mathlib.Core.Path.{_≡_}
+use Rattle.blocks.specs.Entries.{Bounded, entriesOf, nth}
+use Rattle.blocks.specs.declared.Entry.{Entry}
+use Rattle.logic.specs.Normal.{found}
+use Rattle.logic.specs.Record.{bit}
+use Rattle.meaning.specs.Description.{rowOf}
+use Rattle.passes.specs.Slots.{Slot, broken, inconsistent, nonempty, position, settled, slot, slots, tighten}
+use Rattle.slots.specs.Chain.{Chains}
+
+-- an upper bound as a number; 65,536 for none
+abbrev pub highNumber : Option ℕ → ℕ
+highNumber none = 65536
+highNumber (some h) = h
+
+abbrev pub highIn : ℕ → Option ℕ
+highIn h = cond (ltb h 65536) (some h) none
+
+-- a slot as a number: its key, then its two bounds
+unfoldable pub slotNumber : ℕ → ℕ → ℕ → ℕ
+slotNumber key lo hi = 17179869184 * key + (131072 * lo + hi)
+
+unfoldable pub keyIn : ℕ → ℕ
+keyIn x = x / 17179869184
+
+unfoldable pub lowPart : ℕ → ℕ
+lowPart x = x / 131072 % 131072
+
+unfoldable pub highPart : ℕ → ℕ
+highPart x = x % 131072
+
+unfoldable pub slotIn : ℕ → Slot
+slotIn x = slot (keyIn x / 131072) (eqb (keyIn x / 65536 % 2) 1) (keyIn x % 65536) (lowPart x) (highIn (highPart x))
+
+-- n slots of a table, from slot i on; slots count from 1
+unfoldable pub slotsFrom : List ℕ → ℕ → ℕ → List Slot
+slotsFrom t i zero = []
+slotsFrom t i (suc n) = slotIn (getD t i 0) ∷ slotsFrom t (suc i) n
+
+abbrev pub slotsIn : List ℕ → ℕ → List Slot
+slotsIn t used = slotsFrom t 1 used
+
+-- the bucket of a key
+unfoldable pub hashOf : ℕ → ℕ
+hashOf key = key % 1021
+
+-- the chains of a table: each slot points to the one before it in its bucket
+abbrev pub ChainsIn : List ℕ → List ℕ → List ℕ → ℕ → Type 0
+ChainsIn t next head used = Chains hashOf (λ j. keyIn (getD t j 0)) (λ j. getD next j 0) (λ h. getD head h 0) used
+
+-- a table of so many slots, no two of one key, on their chains
+pub record Kept (t next head : List ℕ) (used : ℕ) : Type 0 where
+  pub size : length t ≡ 1009
+  pub nexts : length next ≡ 1009
+  pub heads : length head ≡ 1021
+  pub chains : ChainsIn t next head used
+  pub apart : (i j : ℕ) → 1 ≤ i → i < j → j ≤ used → eqb (keyIn (getD t i 0)) (keyIn (getD t j 0)) ≡ false
+
+-- ---- the slot of an entry, by its kind number
+
+-- its name is a link's
+unfoldable pub linkKind : ℕ → Bool
+linkKind k = cond (eqb k 3) true (cond (eqb k 4) true (eqb k 5))
+
+-- at least so many
+unfoldable pub lowKind : ℕ → ℕ → ℕ
+lowKind k m = cond (eqb k 1) 1 (cond (eqb k 2) 0 (cond (eqb k 3) m (cond (eqb k 4) 0 (cond (eqb k 5) 0 1))))
+
+-- at most so many; 65,536 for no bound
+unfoldable pub highKind : ℕ → ℕ → ℕ
+highKind k m = cond (eqb k 1) 65536 (cond (eqb k 2) 0 (cond (eqb k 3) 65536 (cond (eqb k 4) m (cond (eqb k 5) 65536 0))))
+
+-- where the entries before entry n lead: the top to 0, an 'every' to its slot
+unfoldable pub leadsTo : List Entry → List ℕ → ℕ → ℕ → Option ℕ
+leadsTo es node n j = cond (eqb j 0 || (ltb j n && eqb (nth es j .kind) 5)) (some (getD node j 0)) none
+
+-- what entering a place, class and name with two bounds does: slot r has them now
+pub record Entered (t next head : List ℕ) (used v : ℕ) (b : Bool) (n lo hi r : ℕ) (t′ next′ head′ : List ℕ) : Type 0 where
+  pub at : r ≡ position 1 (slotsIn t used) v b n
+  pub from : 1 ≤ r
+  pub to : r ≤ used + 1
+  pub tightened : slotsIn t′ (max used r) ≡ tighten (slotsIn t used) v b n lo (highIn hi)
+  pub kept : Kept t′ next′ head′ (max used r)
+
+-- where entries lead to, as far as `used` slots
+pub record Nodes (node : List ℕ) (used : ℕ) : Type 0 where
+  pub size : length node ≡ 1009
+  pub top : getD node 0 0 ≡ 0
+  pub small : (j : ℕ) → getD node j 0 ≤ used
+
+-- the slots of a description stand in the table
+pub record Built (d : List ℕ) (used : ℕ) (t next head : List ℕ) : Type 0 where
+  pub slotted : slots (map rowOf (entriesOf d)) ≡ slotsIn t used
+  pub kept : Kept t next head used
+  pub few : used ≤ 1008
+  pub bounded : (n : ℕ) → 1 ≤ n → n ≤ length (entriesOf d) → Bounded (nth (entriesOf d) n)
+
+-- ---- the second pass
+
+-- each slot stands at a place of a lower number
+pub record Placed (t : List ℕ) (used : ℕ) : Type 0 where
+  pub lower : (j : ℕ) → 1 ≤ j → j ≤ used → keyIn (getD t j 0) / 131072 < j
+
+-- the slots above slot s are settled, and `bad` and `full` are what they say of each place; `origin` is the table before the pass
+pub record Settling (origin : List ℕ) (used s : ℕ) (t bad full : List ℕ) : Type 0 where
+  pub size : length t ≡ 1009
+  pub bad-size : length bad ≡ 1009
+  pub full-size : length full ≡ 1009
+  pub below : (j : ℕ) → j ≤ s → getD t j 0 ≡ getD origin j 0
+  pub keys : (j : ℕ) → keyIn (getD t j 0) ≡ keyIn (getD origin j 0)
+  pub above : slotsFrom t (suc s) (used - s) ≡ settled (suc s) (slotsFrom origin (suc s) (used - s))
+  pub bads : (v : ℕ) → v < 1009 → getD bad v 0 ≡ bit (inconsistent (suc s) (slotsFrom origin (suc s) (used - s)) v)
+  pub fulls : (v : ℕ) → v < 1009 → getD full v 0 ≡ bit (nonempty (suc s) (settled (suc s) (slotsFrom origin (suc s) (used - s))) v)
+
+-- what settling slot s does to the tables
+abbrev pub closedBound : List ℕ → List ℕ → ℕ → ℕ
+closedBound t bad s = cond (eqb (keyIn (getD t s 0) / 65536 % 2) 1 && not (eqb (getD bad s 0) 0)) 0 (highPart (getD t s 0))
+
+pub record Slotted (t bad full : List ℕ) (s : ℕ) (t′ bad′ full′ : List ℕ) : Type 0 where
+  pub table : t′ ≡ set t s (slotNumber (keyIn (getD t s 0)) (lowPart (getD t s 0)) (closedBound t bad s))
+  pub badly : bad′ ≡ cond (broken (eqb (keyIn (getD t s 0) / 65536 % 2) 1) (lowPart (getD t s 0)) (highIn (closedBound t bad s))) (set bad (keyIn (getD t s 0) / 131072) 1) bad
+  pub fully : full′
+      ≡ cond (not (eqb (lowPart (getD t s 0)) 0) || (found (highIn (closedBound t bad s)) || (eqb (keyIn (getD t s 0) / 65536 % 2) 1 && not (eqb (getD full s 0) 0))))
+      (set full (keyIn (getD t s 0) / 131072) 1) full
+
+-- The slots of a description stand in the table, settled, each at a place of a lower number and with a key of its own; `bad` and
+-- `full` are what they say of the top and of each place.
+pub record Settled (d : List ℕ) (used : ℕ) (t bad full : List ℕ) : Type 0 where
+  pub few : used ≤ 1008
+  pub slotted : slotsFrom t 1 used ≡ settled 1 (slots (map rowOf (entriesOf d)))
+  pub bads : getD bad 0 0 ≡ bit (inconsistent 1 (slots (map rowOf (entriesOf d))) 0)
+  pub full-size : length full ≡ 1009
+  pub fulls : (v : ℕ) → v < 1009 → getD full v 0 ≡ bit (nonempty 1 (settled 1 (slots (map rowOf (entriesOf d)))) v)
+  pub apart : (i j : ℕ) → 1 ≤ i → i < j → j ≤ used → eqb (keyIn (getD t i 0)) (keyIn (getD t j 0)) ≡ false
+  pub lower : (j : ℕ) → 1 ≤ j → j ≤ used → keyIn (getD t j 0) / 131072 < j
+  pub bounded : (n : ℕ) → 1 ≤ n → n ≤ length (entriesOf d) → Bounded (nth (entriesOf d) n)
+
+-- the same, with the chains that find them
+pub record Chained (d : List ℕ) (used : ℕ) (t next head bad full : List ℕ) : Type 0 where
+  pub settled′ : Settled d used t bad full
+  pub kept : Kept t next head used

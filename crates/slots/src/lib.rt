@@ -1,0 +1,32 @@
+// The slots of a description: one for each place, class and name, with the bounds that all entries give together. They are built from the
+// entries, in the order in which they stand, and settled from the last to the first, so that what is below a place is known before the
+// place. A second call asks which entries of another description they hold; it orders nothing.
+//
+// The contracts cite specs/: Holding says what is answered; the others mirror the code. What slots are, on lists, is said in `passes`.
+mod build;
+mod filling;
+mod settle;
+mod slots;
+mod states;
+mod unheld;
+
+pub use filling::fill;
+pub use slots::high_in;
+pub use slots::key_in;
+pub use slots::low_in;
+pub use slots::wide;
+pub use unheld::first_unheld;
+
+// What filling tables with the slots of an input answers: how many there are; or the refusal's number, the input and the place.
+pub enum Slotting {
+    Filled(u16),
+    Refused(u8, u16, u16),
+}
+
+// Which entries of a second description the normal form of a first holds: all; all before this one; or the refusal's number, the input
+// and the place.
+pub enum Holding {
+    All,
+    Fails(u16),
+    Refused(u8, u16, u16),
+}

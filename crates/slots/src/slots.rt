@@ -1,0 +1,162 @@
+// Slots: one for each place, class and name of a description, with the bounds that all its entries give together. A slot is one number
+// of 64 bits, its key above its two bounds, in a table; chains by a hash of the key find it again.
+ghost use mathlib.Core.Path.{_≡_};
+ghost use Prim.Native.Nat.{_+_, _*_, _≤_, _<_, min, max};
+ghost use lib.ListN.{getD, set};
+ghost use Rattle.slots.specs.Chain.{scan};
+ghost use Rattle.passes.specs.Keys.{keyNumber};
+ghost use Rattle.slots.specs.Tables.{keyIn, lowPart, highPart, slotNumber, hashOf, Kept, Entered};
+
+// An entry or slot number as an index.
+pub fn wide(x: u16) -> usize
+    ensures { λ r. ⌜ (r ≡ x) × (r < 65536) ⌝ }
+{
+    x as usize
+}
+
+// A place as a part of a key.
+pub(crate) fn long(x: u16) -> u64
+    ensures { λ r. ⌜ (r ≡ x) × (r < 65536) ⌝ }
+{
+    x as u64
+}
+
+// The key of a slot.
+pub fn key_in(x: u64) -> u64
+    ensures { λ r. ⌜ r ≡ keyIn x ⌝ }
+{
+    x / 17179869184
+}
+
+// At least so many.
+pub fn low_in(x: u64) -> u64
+    ensures { λ r. ⌜ (r ≡ lowPart x) × (r < 131072) ⌝ }
+{
+    x / 131072 % 131072
+}
+
+// At most so many; 65,536 where there is no such bound.
+pub fn high_in(x: u64) -> u64
+    ensures { λ r. ⌜ (r ≡ highPart x) × (r < 131072) ⌝ }
+{
+    x % 131072
+}
+
+// A slot of this key and these bounds.
+pub(crate) fn make_slot(key: u64, lo: u64, hi: u64) -> u64
+    requires { ⌜ (key < 1073741824) × (lo < 131072) × (hi < 131072) ⌝ }
+    ensures { λ r. ⌜ r ≡ slotNumber key lo hi ⌝ }
+{
+    17179869184 * key + (131072 * lo + hi)
+}
+
+fn larger(a: u64, b: u64) -> u64
+    ensures { λ r. ⌜ r ≡ max a b ⌝ }
+{
+    if a < b { b } else { a }
+}
+
+fn smaller(a: u64, b: u64) -> u64
+    ensures { λ r. ⌜ r ≡ min a b ⌝ }
+{
+    if a < b { a } else { b }
+}
+
+// The bucket of a key.
+fn bucket(key: u64) -> usize
+    ensures { λ r. ⌜ (r ≡ hashOf key) × (r < 1021) ⌝ }
+{
+    (key % 1021) as usize
+}
+
+// The slot of a key, or 0. A chain that holds all 1,008 slots costs some microseconds a look, which only keys chosen for it reach.
+pub(crate) fn search(
+    table: &[u64; 1009],
+    next: &[u16; 1009],
+    head: &[u16; 1021],
+    used: usize,
+    key: u64,
+) -> usize
+    requires { ⌜ Kept (now table) (now next) (now head) used × (used ≤ 1008) ⌝ }
+    ensures { λ r. ⌜ r ≡ scan (λ j. keyIn (getD (now (table .entry)) j 0)) key used ⌝ }
+{
+    let b = bucket(key);
+    let mut s = wide(head[b]);
+    loop {
+        if s == 0 {
+            break 0;
+        }
+        if key_in(table[s]) == key {
+            break s;
+        }
+        s = wide(next[s]);
+    }
+}
+
+// Tightens the bounds of slot s.
+fn tighten(table: &mut [u64; 1009], s: usize, lo: u64, hi: u64)
+    requires { ⌜ (s < 1009) × (lo < 131072) × (hi < 131072) × (keyIn (getD (now table) s 0) < 1073741824) ⌝ }
+    ensures { λ _. ⌜ now (table .exit) ≡ set (now (table .entry)) s (slotNumber (keyIn (getD (now (table .entry)) s 0)) (max (lowPart (getD (now (table .entry)) s 0)) lo) (min (highPart (getD (now (table .entry)) s 0)) hi)) ⌝ }
+{
+    let x = table[s];
+    table[s] = make_slot(key_in(x), larger(low_in(x), lo), smaller(high_in(x), hi));
+}
+
+// Puts a new slot in front of its chain.
+fn append(
+    table: &mut [u64; 1009],
+    next: &mut [u16; 1009],
+    head: &mut [u16; 1021],
+    used: usize,
+    key: u64,
+    lo: u64,
+    hi: u64,
+)
+    requires { ⌜ (used < 1008) × (key < 1073741824) × (lo < 131072) × (hi < 131072) ⌝ }
+    ensures { λ _. ⌜ (now (table .exit) ≡ set (now (table .entry)) (used + 1) (slotNumber key lo hi))
+        × (now (next .exit) ≡ set (now (next .entry)) (used + 1) (getD (now (head .entry)) (hashOf key) 0))
+        × (now (head .exit) ≡ set (now (head .entry)) (hashOf key) (used + 1)) ⌝ }
+{
+    let new = used + 1;
+    let b = bucket(key);
+    table[new] = make_slot(key, lo, hi);
+    next[new] = head[b];
+    head[b] = new as u16;
+}
+
+// The key of a place, a class and a name.
+pub(crate) fn key_of(place: u64, link: bool, name: u64) -> u64
+    requires { ⌜ (place < 1024) × (name < 65536) ⌝ }
+    ensures { λ r. ⌜ (r ≡ keyNumber place link name) × (r < 1073741824) ⌝ }
+{
+    if link {
+        131072 * place + (65536 + name)
+    } else {
+        131072 * place + name
+    }
+}
+
+// Enters an entry: its slot, found or made, gets the entry's bounds too. Returns the slot's number.
+pub(crate) fn enter(
+    table: &mut [u64; 1009],
+    next: &mut [u16; 1009],
+    head: &mut [u16; 1021],
+    used: usize,
+    place: u64,
+    link: bool,
+    name: u64,
+    lo: u64,
+    hi: u64,
+) -> usize
+    requires { ⌜ Kept (now table) (now next) (now head) used × (used < 1008) × (place < 1024) × (name < 65536) × (lo < 131072) × (hi < 131072) ⌝ }
+    ensures { λ r. ⌜ Entered (now (table .entry)) (now (next .entry)) (now (head .entry)) used place link name lo hi r (now (table .exit)) (now (next .exit)) (now (head .exit)) ⌝ }
+{
+    let key = key_of(place, link, name);
+    let s = search(table, next, head, used, key);
+    if s != 0 {
+        tighten(table, s, lo, hi);
+        return s;
+    }
+    append(table, next, head, used, key, lo, hi);
+    used + 1
+}

@@ -1,0 +1,190 @@
+// Which entries of a second description hold: one pass over them, with the state of each 'every' in a table, and one look at the slots for
+// an entry. The slots are not sorted.
+ghost use mathlib.Core.Path.{_≡_};
+ghost use mathlib.Core.Bool.{cond, false, true};
+ghost use mathlib.Core.List.{List};
+ghost use Prim.Native.Nat.{_≤_, _<_};
+ghost use lib.Dec.{eqb};
+ghost use lib.ListN.{getD, length};
+ghost use Rattle.blocks.specs.Entries.{entriesOf};
+ghost use Rattle.base.specs.Search.{firstFrom};
+ghost use Rattle.passes.specs.Slots.{Slot};
+ghost use Rattle.slots.specs.States.{Indexed, entrySlot, heldAt, heldIn, slotFor, stateBelow, supportedBy};
+ghost use Rattle.slots.specs.Tables.{Kept, highIn};
+ghost use Rattle.meaning.specs.Owned.{Owned};
+use crate::slots::high_in;
+use crate::slots::key_of;
+use crate::slots::long;
+use crate::slots::low_in;
+use crate::slots::search;
+use crate::slots::wide;
+use blocks::Entry;
+use blocks::Link;
+use blocks::Property;
+
+// The slot of a property at a place, or 0.
+fn property_slot(
+    table: &[u64; 1009],
+    next: &[u16; 1009],
+    head: &[u16; 1021],
+    used: usize,
+    place: u64,
+    p: Property,
+) -> usize
+    requires { ⌜ Kept (now table) (now next) (now head) used × (used ≤ 1008) × (place < 1024) ⌝ }
+    ensures { λ r. ⌜ (r ≤ used) × ((ss : List Slot) → Indexed ss (now (table .entry)) (now (next .entry)) (now (head .entry)) used → r ≡ slotFor ss place false (p .0)) ⌝ }
+{
+    search(table, next, head, used, key_of(place, false, long(p.0)))
+}
+
+// The slot of a link at a place, or 0.
+fn link_slot(
+    table: &[u64; 1009],
+    next: &[u16; 1009],
+    head: &[u16; 1021],
+    used: usize,
+    place: u64,
+    l: Link,
+) -> usize
+    requires { ⌜ Kept (now table) (now next) (now head) used × (used ≤ 1008) × (place < 1024) ⌝ }
+    ensures { λ r. ⌜ (r ≤ used) × ((ss : List Slot) → Indexed ss (now (table .entry)) (now (next .entry)) (now (head .entry)) used → r ≡ slotFor ss place true (l .0)) ⌝ }
+{
+    search(table, next, head, used, key_of(place, true, long(l.0)))
+}
+
+// The slot of an entry that is no 'every', or 0.
+fn entry_slot(
+    table: &[u64; 1009],
+    next: &[u16; 1009],
+    head: &[u16; 1021],
+    used: usize,
+    place: u64,
+    e: Entry,
+) -> usize
+    requires { ⌜ Kept (now table) (now next) (now head) used × (used ≤ 1008) × (place < 1024) ⌝ }
+    ensures { λ r. ⌜ (r ≤ used) × ((ss : List Slot) → Indexed ss (now (table .entry)) (now (next .entry)) (now (head .entry)) used → r ≡ entrySlot ss place e) ⌝ }
+{
+    let kind = e.kind;
+    match kind {
+        3 => link_slot(table, next, head, used, place, e.link()),
+        4 => link_slot(table, next, head, used, place, e.link()),
+        _ => property_slot(table, next, head, used, place, e.property()),
+    }
+}
+
+// The bounds of a slot, as a slot; none where there is no slot.
+fn bounds(table: &[u64; 1009], s: usize) -> u64
+    requires { ⌜ s < 1009 ⌝ }
+    ensures { λ r. ⌜ r ≡ cond (eqb s 0) 65536 (getD (now (table .entry)) s 0) ⌝ }
+{
+    if s == 0 {
+        return 65536;
+    }
+    table[s]
+}
+
+// Whether bounds support an entry of this kind and number that is no 'every', kind by kind.
+fn supported(kind: u8, number: u16, lo: u64, hi: u64) -> bool
+    ensures { λ r. ⌜ r ≡ supportedBy kind number lo (highIn hi) ⌝ }
+{
+    match kind {
+        1 => lo != 0,
+        2 => hi < 65536,
+        3 => number as u64 <= lo,
+        4 => hi <= number as u64,
+        _ => false,
+    }
+}
+
+// Whether an entry holds in a place of this state.
+fn held(
+    table: &[u64; 1009],
+    next: &[u16; 1009],
+    head: &[u16; 1021],
+    used: usize,
+    state: u64,
+    e: Entry,
+) -> bool
+    requires { ⌜ Kept (now table) (now next) (now head) used × (used ≤ 1008) × (state ≤ 1024) ⌝ }
+    ensures { λ r. ⌜ ((ss : List Slot) → Indexed ss (now (table .entry)) (now (next .entry)) (now (head .entry)) used → r ≡ heldAt ss state e) ⌝ }
+{
+    if e.kind == 5 {
+        return true;
+    }
+    if state == 1024 {
+        return true;
+    }
+    let x = bounds(table, entry_slot(table, next, head, used, state, e));
+    supported(e.kind, e.number, low_in(x), high_in(x))
+}
+
+// The state that a link leads to from a place of this state.
+fn state_below(
+    table: &[u64; 1009],
+    next: &[u16; 1009],
+    head: &[u16; 1021],
+    used: usize,
+    state: u64,
+    l: Link,
+) -> usize
+    requires { ⌜ Kept (now table) (now next) (now head) used × (used ≤ 1008) × (state ≤ 1024) ⌝ }
+    ensures { λ r. ⌜ (r ≤ 1024) × ((ss : List Slot) → Indexed ss (now (table .entry)) (now (next .entry)) (now (head .entry)) used → r ≡ stateBelow ss state (l .0)) ⌝ }
+{
+    if state == 1024 {
+        return 1024;
+    }
+    let s = link_slot(table, next, head, used, state, l);
+    if s == 0 {
+        return 1023;
+    }
+    if high_in(table[s]) == 0 {
+        return 1024;
+    }
+    s
+}
+
+// The state that an 'every' leads to; 0 for any other entry.
+fn leads_to(
+    table: &[u64; 1009],
+    next: &[u16; 1009],
+    head: &[u16; 1021],
+    used: usize,
+    state: u64,
+    e: Entry,
+) -> usize
+    requires { ⌜ Kept (now table) (now next) (now head) used × (used ≤ 1008) × (state ≤ 1024) ⌝ }
+    ensures { λ r. ⌜ (r ≤ 1024) × (e .kind ≡ 5 → (ss : List Slot) → Indexed ss (now (table .entry)) (now (next .entry)) (now (head .entry)) used → r ≡ stateBelow ss state (e .name)) ⌝ }
+{
+    if e.kind != 5 {
+        return 0;
+    }
+    state_below(table, next, head, used, state, e.link())
+}
+
+// The number of the first entry of a description with `total` entries that fails; 0 where all hold.
+pub(crate) fn first_failing(
+    table: &[u64; 1009],
+    next: &[u16; 1009],
+    head: &[u16; 1021],
+    used: usize,
+    d: &[u8],
+    total: usize,
+) -> usize
+    requires { ⌜ Kept (now table) (now next) (now head) used × (used ≤ 1008) × (total ≡ length (entriesOf (now d))) × (total ≤ 1008) × Owned (entriesOf (now d)) ⌝ }
+    ensures { λ r. ⌜ (r ≤ total) × ((ss : List Slot) → Indexed ss (now (table .entry)) (now (next .entry)) (now (head .entry)) used → r ≡ firstFrom (heldIn ss (entriesOf (now (d .entry)))) 1 total) ⌝ }
+{
+    let mut states = [0u16; 1009];
+    let mut n: usize = 1;
+    loop {
+        if total < n {
+            break 0;
+        }
+        let e = blocks::nth_entry(d, total, n);
+        let s = long(states[wide(e.owner)]);
+        if !held(table, next, head, used, s, e) {
+            break n;
+        }
+        states[n] = leads_to(table, next, head, used, s, e) as u16;
+        n += 1;
+    }
+}
