@@ -1,20 +1,18 @@
 // The library's calls for C and Rust: five functions under their plain names, each slice a pointer and a length. Each answers what the
 // call that it wraps answers, as one number of 64 bits; include/goltximen.h states the terms for a C program.
 //
-// The contracts cite specs/Packing, which has the table of these numbers, and the specs of the calls.
+// The contracts cite Packing of `packing`, which has the table of these numbers, and the specs of the calls.
 ghost use mathlib.Core.Path.{_≡_};
 ghost use Rattle.blocks.specs.Reading.{readingOf};
 ghost use Rattle.blocks.specs.declared.Schema.{Schema};
-ghost use Rattle.capi.specs.Packing.{packComparison, packFit, packNormal, packReading};
+ghost use Rattle.packing.specs.Packing.{packComparison, packFit, packNormal, packReading};
 ghost use Rattle.compare.specs.Answer.{compareOf, outputOf};
 ghost use Rattle.fit.specs.Answer.{fitOf};
 ghost use Rattle.normal.specs.Answer.{normaliseOf, normalisedOf};
-use crate::packing::pack_comparison;
-use crate::packing::pack_fit;
-use crate::packing::pack_normal;
-use crate::packing::pack_reading;
-
-mod packing;
+use packing::pack_comparison;
+use packing::pack_fit;
+use packing::pack_normal;
+use packing::pack_reading;
 
 // Reads a description as input 1: its number of entries, or the refusal.
 #[no_mangle]

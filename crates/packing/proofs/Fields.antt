@@ -3,7 +3,7 @@
 use Prim.Native.Nat.{_%_, _/_, _<_, ℕ}
 use mathlib.Core.Path.{_≡_}
 use native.Mathlib.Omega.{arith}
-use Rattle.capi.specs.Packing.{packed}
+use Rattle.packing.specs.Packing.{packed}
 
 -- "answer (bits 0-7) | number (8-15) | first (16-31) | second (32-63)"
 pub record Fields (r answer number first second : ℕ) : Type 0 where

@@ -1,7 +1,7 @@
 -- `pack_fit` meets its contract, by the answer.
 use borrow.Author.Needs.{needs}
-use Rattle.capi.proofs.packing.pack_fit.Statement.{statement}
-use Rattle.capi.proofs.packing.pack_fit.Tie as tie
+use Rattle.packing.proofs.packing.pack_fit.Statement.{statement}
+use Rattle.packing.proofs.packing.pack_fit.Tie as tie
 
 returns-3 : tie.Need-returns-3
 returns-3 c = rw (c .before .before .answer .given .1) (c .pack3 .ensures)

@@ -1,6 +1,6 @@
 // The number of 64 bits that stands for an answer.
 ghost use mathlib.Core.Path.{_≡_};
-ghost use Rattle.capi.specs.Packing.{packComparison, packFit, packNormal, packReading, packed};
+ghost use Rattle.packing.specs.Packing.{packComparison, packFit, packNormal, packReading, packed};
 use blocks::Reading;
 use compare::Comparison;
 use fit::FitAnswer;
@@ -14,7 +14,7 @@ fn pack(answer: u8, number: u8, first: u16, second: u16) -> u64
 }
 
 // What reading answers: the entries read, or the refusal.
-pub(crate) fn pack_reading(answer: Reading) -> u64
+pub fn pack_reading(answer: Reading) -> u64
     ensures { λ r. ⌜ r ≡ packReading answer ⌝ }
 {
     match answer {
@@ -24,7 +24,7 @@ pub(crate) fn pack_reading(answer: Reading) -> u64
 }
 
 // The fit answer: yes, no, or the refusal.
-pub(crate) fn pack_fit(answer: FitAnswer) -> u64
+pub fn pack_fit(answer: FitAnswer) -> u64
     ensures { λ r. ⌜ r ≡ packFit answer ⌝ }
 {
     match answer {
@@ -35,7 +35,7 @@ pub(crate) fn pack_fit(answer: FitAnswer) -> u64
 }
 
 // What normalising answers: the entries written, or the refusal.
-pub(crate) fn pack_normal(answer: NormalAnswer) -> u64
+pub fn pack_normal(answer: NormalAnswer) -> u64
     ensures { λ r. ⌜ r ≡ packNormal answer ⌝ }
 {
     match answer {
@@ -45,7 +45,7 @@ pub(crate) fn pack_normal(answer: NormalAnswer) -> u64
 }
 
 // What comparing answers: contained; not contained, with the entry that fails and the entries of the specimen; or the refusal.
-pub(crate) fn pack_comparison(answer: Comparison) -> u64
+pub fn pack_comparison(answer: Comparison) -> u64
     ensures { λ r. ⌜ r ≡ packComparison answer ⌝ }
 {
     match answer {

@@ -1,7 +1,7 @@
 -- `pack_comparison` meets its contract, by the answer.
 use borrow.Author.Needs.{needs}
-use Rattle.capi.proofs.packing.pack_comparison.Statement.{statement}
-use Rattle.capi.proofs.packing.pack_comparison.Tie as tie
+use Rattle.packing.proofs.packing.pack_comparison.Statement.{statement}
+use Rattle.packing.proofs.packing.pack_comparison.Tie as tie
 
 returns-2 : tie.Need-returns-2
 returns-2 c = rw (c .before .before .answer .given .1) (c .pack2 .ensures)
