@@ -17,7 +17,6 @@ pub mod FirstFault
 pub mod BlockLaws
 pub mod LevelLaws
 pub mod Legal
-pub mod ReadingLaws
 pub mod Accepting
 pub mod ByNumber
 pub mod Examples

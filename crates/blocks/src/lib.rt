@@ -1,19 +1,13 @@
-// Blocks: the laboratory's own format. Bytes are read as entries, by number and straight from the lent blocks, or refused by
-// the first row of the table of refusals that applies. Nothing here knows what an entry says of an item.
+// Blocks: the laboratory's own format. Words and entries are read by number, straight from the lent blocks. Nothing here
+// knows what an entry says of an item.
 //
 // The contracts cite specs/: Words, Frame, Entries, Owners, Faults, Reading and Encoding. What those definitions mean together,
 // as that reading undoes writing, is proved in proofs/.
 mod entries;
-mod frame;
-mod reader;
-mod rules;
 mod words;
 
 pub use entries::nth_entry;
 pub use entries::pack;
-pub use reader::read;
-pub use reader::read_description;
-pub use reader::read_specimen;
 pub use words::byte;
 pub use words::check_at;
 pub use words::word;

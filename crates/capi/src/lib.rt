@@ -19,7 +19,7 @@ use packing::pack_reading;
 pub extern "C" fn gx_read_description(d: &[u8]) -> u64
     ensures { λ r. ⌜ r ≡ packReading (readingOf Schema.Description 1 (now (d .entry))) ⌝ }
 {
-    pack_reading(blocks::read_description(d))
+    pack_reading(reading::read_description(d))
 }
 
 // Reads a specimen as input 1: its number of entries, or the refusal.
@@ -27,7 +27,7 @@ pub extern "C" fn gx_read_description(d: &[u8]) -> u64
 pub extern "C" fn gx_read_specimen(s: &[u8]) -> u64
     ensures { λ r. ⌜ r ≡ packReading (readingOf Schema.Specimen 1 (now (s .entry))) ⌝ }
 {
-    pack_reading(blocks::read_specimen(s))
+    pack_reading(reading::read_specimen(s))
 }
 
 // Whether the top item of a specimen, input 1, fits a description, input 2; or the refusal.

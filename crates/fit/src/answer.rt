@@ -32,7 +32,7 @@ fn fit_accepted(s: &[u8], n: usize, d: &[u8]) -> FitAnswer
     requires { ⌜ readingOf Schema.Specimen 1 (now s) ≡ Reading.Accepted n ⌝ }
     ensures { λ r. ⌜ r ≡ secondOf (now (s .entry)) (now (d .entry)) (readingOf Schema.Description 2 (now (d .entry))) ⌝ }
 {
-    let second = blocks::read(d, Schema::Description, 2);
+    let second = reading::read(d, Schema::Description, 2);
     match second {
         Reading::Refused(number, input, place) => FitAnswer::Refused(number, input, place),
         Reading::Accepted(m) => {
@@ -49,7 +49,7 @@ fn fit_accepted(s: &[u8], n: usize, d: &[u8]) -> FitAnswer
 pub fn fit(specimen: &[u8], description: &[u8]) -> FitAnswer
     ensures { λ r. ⌜ r ≡ fitOf (now (specimen .entry)) (now (description .entry)) ⌝ }
 {
-    let first = blocks::read(specimen, Schema::Specimen, 1);
+    let first = reading::read(specimen, Schema::Specimen, 1);
     match first {
         Reading::Refused(number, input, place) => FitAnswer::Refused(number, input, place),
         Reading::Accepted(n) => fit_accepted(specimen, n as usize, description),

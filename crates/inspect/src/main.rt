@@ -28,5 +28,5 @@ fn print_reading(reading: Reading) {
 fn main() {
     let mut input = [0u8; 16385];
     let length = io::read_full(STDIN_FILENO, &mut input);
-    print_reading(blocks::read_description(&input[0..length]));
+    print_reading(reading::read_description(&input[0..length]));
 }

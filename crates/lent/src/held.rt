@@ -9,7 +9,7 @@ use blocks::Entry;
 use blocks::Reading;
 use blocks::Schema;
 use blocks::nth_entry;
-use blocks::read;
+use reading::read;
 
 // An input, lent, and how many entries it has. Only `entries_of` makes one.
 pub struct Entries<'a> {

@@ -73,7 +73,7 @@ pub fn fill(
 ) -> Slotting
     ensures { λ r. ⌜ FilledBy (now (d .entry)) (now (table .exit)) (now (bad .exit)) (now (full .exit)) r ⌝ }
 {
-    let reading = blocks::read(d, Schema::Description, 1);
+    let reading = reading::read(d, Schema::Description, 1);
     match reading {
         Reading::Refused(number, input, place) => Slotting::Refused(number, input, place),
         Reading::Accepted(n) => Slotting::Filled(

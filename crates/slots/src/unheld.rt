@@ -44,7 +44,7 @@ fn second_unheld(c: &[u8], n: usize, d: &[u8]) -> Holding
     requires { ⌜ readingOf Schema.Description 1 (now c) ≡ Reading.Accepted n ⌝ }
     ensures { λ r. ⌜ r ≡ holdingOf (now (c .entry)) (now (d .entry)) ⌝ }
 {
-    let reading = blocks::read(d, Schema::Description, 2);
+    let reading = reading::read(d, Schema::Description, 2);
     match reading {
         Reading::Refused(number, input, place) => Holding::Refused(number, input, place),
         Reading::Accepted(m) => answer_of(unheld_number(c, n, d, m as usize)),
@@ -56,7 +56,7 @@ fn second_unheld(c: &[u8], n: usize, d: &[u8]) -> Holding
 pub fn first_unheld(c: &[u8], d: &[u8]) -> Holding
     ensures { λ r. ⌜ r ≡ holdingOf (now (c .entry)) (now (d .entry)) ⌝ }
 {
-    let reading = blocks::read(c, Schema::Description, 1);
+    let reading = reading::read(c, Schema::Description, 1);
     match reading {
         Reading::Refused(number, input, place) => Holding::Refused(number, input, place),
         Reading::Accepted(n) => second_unheld(c, n as usize, d),

@@ -100,8 +100,8 @@ fn run_compare(c: &[u8], d: &[u8], out: &mut [u8]) {
 // Makes a call and prints its answer.
 fn run_call(call: u16, first: &[u8], second: &[u8], out: &mut [u8]) {
     match call {
-        1 => print_reading(b" description", blocks::read_description(first)),
-        2 => print_reading(b" specimen", blocks::read_specimen(first)),
+        1 => print_reading(b" description", reading::read_description(first)),
+        2 => print_reading(b" specimen", reading::read_specimen(first)),
         3 => print_fit(fit::fit(first, second)),
         4 => run_normal(first, out),
         _ => run_compare(first, second, out),

@@ -1,0 +1,25 @@
+-- `block_row` meets its contract: 2 before 3.
+use borrow.Author.Needs.{needs}
+use native.Mathlib.Omega.{arith}
+use Rattle.blocks.proofs.BlockLaws.{block-sound, check-fails, frame-fails}
+use Rattle.reading.proofs.frame.block_row.Statement.{statement}
+use Rattle.reading.proofs.frame.block_row.Tie as tie
+
+returns : tie.Need-returns
+returns c = check-fails _ _ _ (c .before .before .word-at .ensures) (c .before .check-at .ensures (omega arith)) (c .if1 .taken)
+
+returns-2 : tie.Need-returns-2
+returns-2 c =
+    frame-fails _ _ _ (c .before .before .before .before .word-at .ensures) (c .before .before .before .check-at .ensures (omega arith)) (c .before .before .if1 .left)
+    (c .before .frame-wrong .ensures) (c .if2 .taken)
+
+returns-3 : tie.Need-returns-3
+returns-3 c =
+    block-sound _ _ _ (c .before .before .before .before .word-at .ensures) (c .before .before .before .check-at .ensures (omega arith)) (c .before .before .if1 .left)
+    (c .before .frame-wrong .ensures) (c .if2 .left)
+
+pub block-row-spec : {M : Type 1} → statement M
+block-row-spec =
+    tie.close
+    (tie.spec (λ c. search needs) (λ c. search needs) (λ c κs. search needs) (λ c κs. search needs) returns
+    (λ c κs. search needs) returns-2 returns-3)

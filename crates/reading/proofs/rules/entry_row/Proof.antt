@@ -1,0 +1,29 @@
+-- `entry_row` meets its contract, row by row.
+use borrow.Author.Needs.{needs}
+use Rattle.base.proofs.Tests.{confirmed, eq-eqb, ge-ltb, lt-ltb, ne-eqb, refuted}
+use Rattle.blocks.specs.Steps.{entryRow}
+use Rattle.reading.proofs.rules.entry_row.Statement.{statement}
+use Rattle.reading.proofs.rules.entry_row.Tie as tie
+
+returns : tie.Need-returns
+unfolding entryRow
+returns c = simp (entryRow, refuted (c .before .form-ok .ensures) (c .if1 .taken))
+
+returns-2 : tie.Need-returns-2
+unfolding entryRow
+returns-2 c = simp (entryRow, confirmed (c .before .before .form-ok .ensures) (c .before .if1 .left), eq-eqb (c .if2 .taken))
+
+returns-3 : tie.Need-returns-3
+unfolding entryRow
+returns-3 c =
+    simp (entryRow, confirmed (c .before .before .before .form-ok .ensures) (c .before .before .if1 .left), ne-eqb (c .before .if2 .left), lt-ltb (c .if3 .taken))
+
+returns-4 : tie.Need-returns-4
+unfolding entryRow
+returns-4 c =
+    simp (entryRow, confirmed (c .before .before .before .form-ok .ensures) (c .before .before .if1 .left), ne-eqb (c .before .if2 .left), ge-ltb (c .if3 .left))
+
+pub entry-row-spec : {M : Type 1} → statement M
+entry-row-spec =
+    tie.close
+    (tie.spec (λ c κs. search needs) returns returns-2 returns-3 returns-4)
