@@ -10,15 +10,15 @@ use mathlib.Core.Logic.{_≢_, _↔_}
 use mathlib.Core.Path.{_∙_, _≡_, ap, refl, sym}
 use native.Mathlib.Omega.{arith}
 use Rattle.base.proofs.Tests.{eq-cases}
-use Rattle.blocks.proofs.Accepting.{Sound, accepted-of-sound, encoded-accepted, sound-of-accepted}
-use Rattle.blocks.proofs.Bounds.{AllBounded, encode-bytes, entries-bounded}
-use Rattle.blocks.proofs.Counts.{blocks-limit}
-use Rattle.blocks.proofs.Decoding.{decode-encode, length-encode}
-use Rattle.blocks.proofs.EntryBytes.{length-entries}
-use Rattle.blocks.proofs.Faithful.{entries-limit, total-bound}
-use Rattle.blocks.proofs.Lawful.{plain-lawful}
-use Rattle.blocks.proofs.Lengths.{some-block, whole-blocks}
-use Rattle.blocks.proofs.WordBytes.{Bytes}
+use Rattle.blocks.proofs.Faults.Bounds.{AllBounded, encode-bytes, entries-bounded}
+use Rattle.blocks.proofs.Format.Counts.{blocks-limit}
+use Rattle.blocks.proofs.Format.EntryBytes.{length-entries}
+use Rattle.blocks.proofs.Format.Lawful.{plain-lawful}
+use Rattle.blocks.proofs.Format.Lengths.{some-block, whole-blocks}
+use Rattle.blocks.proofs.Format.WordBytes.{Bytes}
+use Rattle.blocks.proofs.RoundTrip.Accepting.{Sound, accepted-of-sound, encoded-accepted, sound-of-accepted}
+use Rattle.blocks.proofs.RoundTrip.Decoding.{decode-encode, length-encode}
+use Rattle.blocks.proofs.RoundTrip.Faithful.{entries-limit, total-bound}
 use Rattle.blocks.specs.Encoding.{blocksFor, encode}
 use Rattle.blocks.specs.Entries.{entriesOf}
 use Rattle.blocks.specs.Frame.{blocksIn, plain}
@@ -34,8 +34,8 @@ use Rattle.fit.specs.Answer.{fitOf, topFits}
 use Rattle.fit.specs.declared.FitAnswer.the-variants.{No, Yes}
 use Rattle.logic.specs.Background.{unrestricted}
 use Rattle.logic.specs.Record.{Record, fits}
-use Rattle.meaning.proofs.Contained.{FirstUnsaid, contained-all, failing-first}
-use Rattle.meaning.proofs.NotContained.{Shown, not-contained-bounded, not-contained-shown}
+use Rattle.meaning.proofs.Verdicts.Contained.{FirstUnsaid, contained-all, failing-first}
+use Rattle.meaning.proofs.Verdicts.NotContained.{Shown, not-contained-bounded, not-contained-shown}
 use Rattle.meaning.specs.Description.{placeOf}
 use Rattle.meaning.specs.Failing.{failing, specimenOf}
 

@@ -8,8 +8,8 @@ use mathlib.Core.Logic.{_≢_}
 use mathlib.Core.Path.{_≡_, ap, refl}
 use native.Mathlib.Omega.{arith}
 use Rattle.base.proofs.Tests.{eq-cases, eq-eqb, ge-ltb, lt-cases, lt-ltb, ne-eqb}
-use Rattle.blocks.proofs.Accepting.{accepted-by-none, refused-by-first}
-use Rattle.blocks.proofs.FirstFault.{FirstOf, None}
+use Rattle.blocks.proofs.Faults.FirstFault.{FirstOf, None}
+use Rattle.blocks.proofs.RoundTrip.Accepting.{accepted-by-none, refused-by-first}
 use Rattle.blocks.specs.Entries.{entriesOf}
 use Rattle.blocks.specs.Faults.{faults}
 use Rattle.blocks.specs.Reading.{readingOf}

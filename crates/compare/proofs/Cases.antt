@@ -10,10 +10,10 @@ use mathlib.Core.Path.{_∙_, _≡_, ap, refl}
 use native.Mathlib.Omega.{arith}
 use Rattle.base.proofs.Tests.{leb-le, or-right}
 use Rattle.base.specs.Search.{firstFrom}
-use Rattle.blocks.proofs.Accepting.{encoded-accepted}
-use Rattle.blocks.proofs.Decoding.{decode-encode}
-use Rattle.blocks.proofs.FirstFault.{clean-none}
-use Rattle.blocks.proofs.Legal.{Legal, none-legal}
+use Rattle.blocks.proofs.Faults.FirstFault.{clean-none}
+use Rattle.blocks.proofs.Faults.Legal.{Legal, none-legal}
+use Rattle.blocks.proofs.RoundTrip.Accepting.{encoded-accepted}
+use Rattle.blocks.proofs.RoundTrip.Decoding.{decode-encode}
 use Rattle.blocks.specs.Encoding.{blocksFor, encode}
 use Rattle.blocks.specs.Entries.{entriesOf, formOk, nameOk, nth, numberOk}
 use Rattle.blocks.specs.Faults.{entryFaults, first}
@@ -33,7 +33,7 @@ use Rattle.logic.specs.Normal.{add, bottom, excluded, fill, find, insert, isBot
 use Rattle.logic.specs.Place.{kindOf}
 use Rattle.logic.specs.Tree.{tree}
 use Rattle.logic.specs.Witness.{below, build, groupsBy, member, names, once, path, putAscending, withProperties, witness}
-use Rattle.meaning.proofs.FirstLaws.{none-failing}
+use Rattle.meaning.proofs.Verdicts.FirstLaws.{none-failing}
 use Rattle.meaning.specs.CompareCases.{Line, Outcome, compares, impossible, inside, lines, normalises, outside}
 use Rattle.meaning.specs.Description.{linksTo, linksUp, placeOf, rowOf}
 use Rattle.meaning.specs.Failing.{failing, normalOf, specimenOf}

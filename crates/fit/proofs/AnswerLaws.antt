@@ -6,9 +6,9 @@ use mathlib.Core.Bool.{Bool, false, true}
 use mathlib.Core.List.{List}
 use mathlib.Core.Path.{_∙_, _≡_, sym}
 use native.Mathlib.Omega.{arith}
-use Rattle.blocks.proofs.Accepting.{none-of-accepted, sound-of-accepted}
-use Rattle.blocks.proofs.Faithful.{entries-limit}
-use Rattle.blocks.proofs.Legal.{owner-earlier}
+use Rattle.blocks.proofs.Faults.Legal.{owner-earlier}
+use Rattle.blocks.proofs.RoundTrip.Accepting.{none-of-accepted, sound-of-accepted}
+use Rattle.blocks.proofs.RoundTrip.Faithful.{entries-limit}
 use Rattle.blocks.specs.Entries.{entriesOf, limitOf}
 use Rattle.blocks.specs.Reading.{readingOf}
 use Rattle.blocks.specs.declared.Reading.{Reading}

@@ -8,20 +8,20 @@ use mathlib.Core.List.{List, [], _∷_}
 use mathlib.Core.Path.{_∙_, _≡_, ap, fun-ext, refl, sym}
 use native.Mathlib.Omega.{arith}
 use Rattle.base.proofs.Tests.{and-swap, bool-cases, eq-cases, eqb-sym, leb-le, ne-eqb}
-use Rattle.blocks.proofs.Legal.{Legal, owner-earlier}
-use Rattle.blocks.proofs.LevelLaws.{depth-under}
+use Rattle.blocks.proofs.Faults.Legal.{Legal, owner-earlier}
+use Rattle.blocks.proofs.Faults.LevelLaws.{depth-under}
 use Rattle.blocks.specs.Entries.{nth}
 use Rattle.blocks.specs.Owners.{depthOf, depthOk, ownerOf}
 use Rattle.blocks.specs.declared.Entry.{Entry}
 use Rattle.blocks.specs.declared.Schema.the-variants.{Description}
 use Rattle.fit.specs.Groups.{fitsPlace, groupsBy, hasProperty, meetsEntry, totalBy}
-use Rattle.logic.proofs.Counting.{every-from-ext, everyFrom, sumIn}
+use Rattle.logic.proofs.Records.Counting.{every-from-ext, everyFrom, sumIn}
 use Rattle.logic.specs.Place.{Place, kindOf}
 use Rattle.logic.specs.Record.{fits}
 use Rattle.logic.specs.Tree.{end, leaf, node}
-use Rattle.meaning.proofs.Items.{eachGroup, fits-groups, fitsBy, groupUnder, linkedItems, meetsBy}
-use Rattle.meaning.proofs.Owned.{owned-ext, owned-from, sum-from}
-use Rattle.meaning.proofs.Places.{allHere, asks, place-owned}
+use Rattle.meaning.proofs.Descriptions.Owned.{owned-ext, owned-from, sum-from}
+use Rattle.meaning.proofs.Descriptions.Places.{allHere, asks, place-owned}
+use Rattle.meaning.proofs.Specimens.Items.{eachGroup, fits-groups, fitsBy, groupUnder, linkedItems, meetsBy}
 use Rattle.meaning.specs.Description.{placeOf}
 use Rattle.meaning.specs.Owned.{allOwned}
 use Rattle.meaning.specs.Specimen.{owns, recordOf}

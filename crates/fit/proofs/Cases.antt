@@ -6,8 +6,8 @@ use mathlib.Core.List.{List, List·Memᴰ, List·Memᴰ·cases-cons, List·Mem�
 use mathlib.Core.Logic.{⊎-elim}
 use mathlib.Core.Path.{_∙_, _≡_, refl}
 use Rattle.base.proofs.Tests.{and-left, and-right, false-of-not}
-use Rattle.blocks.proofs.FirstFault.{clean-none}
-use Rattle.blocks.proofs.Legal.{Legal, none-legal}
+use Rattle.blocks.proofs.Faults.FirstFault.{clean-none}
+use Rattle.blocks.proofs.Faults.Legal.{Legal, none-legal}
 use Rattle.blocks.specs.Entries.{formOk, nameOk, nth, numberOk}
 use Rattle.blocks.specs.Faults.{entryFaults, first}
 use Rattle.blocks.specs.Owners.{chain, depthOf, depthOk, ownerOf, ownerOk}
@@ -18,7 +18,7 @@ use Rattle.blocks.specs.declared.Schema.{Schema}
 use Rattle.blocks.specs.declared.Schema.the-variants.{Description, Specimen}
 use Rattle.fit.proofs.ByNumber.{fit-by-groups}
 use Rattle.fit.specs.Groups.{fitsPlace, groupsBy, hasProperty, meetsEntry, totalBy}
-use Rattle.logic.proofs.Counting.{everyIn}
+use Rattle.logic.proofs.Records.Counting.{everyIn}
 use Rattle.logic.specs.Record.{fits}
 use Rattle.meaning.specs.Description.{placeOf}
 use Rattle.meaning.specs.FitCases.{Case, cases}

@@ -8,15 +8,15 @@ use mathlib.Core.List.{List, _++_}
 use mathlib.Core.Path.{_∙_, _≡_, ap, sym}
 use native.Mathlib.Omega.{arith}
 use Rattle.base.specs.Sorted.{Sorted}
-use Rattle.blocks.proofs.Accepting.{Sound, encoded-accepted, sound-of-accepted}
-use Rattle.blocks.proofs.Bounds.{AllBounded, encode-bytes, entries-bounded}
-use Rattle.blocks.proofs.Counts.{blocks-limit}
-use Rattle.blocks.proofs.Decoding.{decode-encode, length-encode}
-use Rattle.blocks.proofs.EntryBytes.{length-entries}
-use Rattle.blocks.proofs.Faithful.{entries-limit, total-bound}
-use Rattle.blocks.proofs.Lawful.{plain-lawful}
-use Rattle.blocks.proofs.Lengths.{some-block, whole-blocks}
-use Rattle.blocks.proofs.WordBytes.{Bytes}
+use Rattle.blocks.proofs.Faults.Bounds.{AllBounded, encode-bytes, entries-bounded}
+use Rattle.blocks.proofs.Format.Counts.{blocks-limit}
+use Rattle.blocks.proofs.Format.EntryBytes.{length-entries}
+use Rattle.blocks.proofs.Format.Lawful.{plain-lawful}
+use Rattle.blocks.proofs.Format.Lengths.{some-block, whole-blocks}
+use Rattle.blocks.proofs.Format.WordBytes.{Bytes}
+use Rattle.blocks.proofs.RoundTrip.Accepting.{Sound, encoded-accepted, sound-of-accepted}
+use Rattle.blocks.proofs.RoundTrip.Decoding.{decode-encode, length-encode}
+use Rattle.blocks.proofs.RoundTrip.Faithful.{entries-limit, total-bound}
 use Rattle.blocks.specs.Encoding.{blocksFor, encode}
 use Rattle.blocks.specs.Entries.{entriesOf}
 use Rattle.blocks.specs.Frame.{blocksIn, plain}
@@ -26,9 +26,9 @@ use Rattle.blocks.specs.declared.Reading.the-variants as reading
 use Rattle.blocks.specs.declared.Schema.the-variants.{Description}
 use Rattle.logic.specs.Record.{Record, fits}
 use Rattle.logic.specs.SpecimenTree.{total}
-use Rattle.meaning.proofs.NormalAscends.{normal-ascends}
-use Rattle.meaning.proofs.NormalEntries.{normal-again, normal-fewer, same-items}
-use Rattle.meaning.proofs.NormalLegal.{normal-bounded, normal-legal}
+use Rattle.meaning.proofs.NormalForms.NormalAscends.{normal-ascends}
+use Rattle.meaning.proofs.NormalForms.NormalEntries.{normal-again, normal-fewer, same-items}
+use Rattle.meaning.proofs.NormalForms.NormalLegal.{normal-bounded, normal-legal}
 use Rattle.meaning.specs.Description.{placeOf}
 use Rattle.meaning.specs.NormalEntries.{normalEntries}
 use Rattle.meaning.specs.Rows.{entryBefore}

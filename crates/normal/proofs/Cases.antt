@@ -9,10 +9,10 @@ use mathlib.Core.Logic.{⊎-elim}
 use mathlib.Core.Path.{_∙_, _≡_, ap, refl}
 use native.Mathlib.Omega.{arith}
 use Rattle.base.proofs.Tests.{leb-le}
-use Rattle.blocks.proofs.Accepting.{encoded-accepted}
-use Rattle.blocks.proofs.Decoding.{decode-encode}
-use Rattle.blocks.proofs.FirstFault.{clean-none}
-use Rattle.blocks.proofs.Legal.{none-legal}
+use Rattle.blocks.proofs.Faults.FirstFault.{clean-none}
+use Rattle.blocks.proofs.Faults.Legal.{none-legal}
+use Rattle.blocks.proofs.RoundTrip.Accepting.{encoded-accepted}
+use Rattle.blocks.proofs.RoundTrip.Decoding.{decode-encode}
 use Rattle.blocks.specs.Encoding.{blocksFor, encode}
 use Rattle.blocks.specs.Entries.{entriesOf, formOk, nameOk, nth, numberOk}
 use Rattle.blocks.specs.Faults.{entryFaults, first}
@@ -32,7 +32,7 @@ use Rattle.meaning.specs.NormalEntries.{normalEntries}
 use Rattle.normal.proofs.AnswerLaws.{normalised}
 use Rattle.normal.specs.Answer.{normaliseOf, normalisedOf, outputAfter}
 use Rattle.normal.specs.declared.NormalAnswer.the-variants.{Normalised}
-use Rattle.passes.proofs.Forms.{form}
+use Rattle.passes.proofs.Places.Forms.{form}
 
 -- what a line says: the entries as blocks give the number of entries, and their blocks at the start of each output that is long enough
 abbrev pub Right : Line → Type 0

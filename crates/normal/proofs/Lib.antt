@@ -1,17 +1,6 @@
 pub mod FillLaws
-pub mod EmitLaws
-pub mod OrderingLaws
-pub mod PushLaws
-pub mod PlacingLaws
-pub mod TagLaws
-pub mod Rising
-pub mod RunLaws
-pub mod TagOrder
-pub mod NormalOrdered
-pub mod WalkingLaws
 pub mod AnswerLaws
 pub mod Answer
 pub mod ReadingNumbers
 pub mod Cases
-pub mod PassOrder
 pub mod NormalWritten

@@ -7,8 +7,8 @@ use mathlib.Core.List.{List, [], _++_, _∷_}
 use mathlib.Core.Logic.{_↔_, ⊎-elim}
 use mathlib.Core.Path.{_≡_}
 use native.Mathlib.Omega.{arith}
-use Rattle.blocks.proofs.Accepting.{accepted-by-none, first-of-refused}
-use Rattle.blocks.proofs.FirstFault.{None}
+use Rattle.blocks.proofs.Faults.FirstFault.{None}
+use Rattle.blocks.proofs.RoundTrip.Accepting.{accepted-by-none, first-of-refused}
 use Rattle.blocks.specs.Entries.{entriesOf}
 use Rattle.blocks.specs.Faults.{Fault, blockFaults, entryFaults, fault, faults}
 use Rattle.blocks.specs.Frame.{blocksIn, plain}

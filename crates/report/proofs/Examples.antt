@@ -5,7 +5,7 @@ use lib.ListN.{length}
 use mathlib.Core.List.{List, List·Memᴰ·head, List·Memᴰ·tail, [], _++_, _∷_, map}
 use mathlib.Core.Path.{_∙_, _≡_, ap, refl}
 use native.Mathlib.Omega.{arith}
-use Rattle.blocks.proofs.Decoding.{length-encode}
+use Rattle.blocks.proofs.RoundTrip.Decoding.{length-encode}
 use Rattle.blocks.specs.Encoding.{blocksFor, encode}
 use Rattle.blocks.specs.declared.Entry.{Entry}
 use Rattle.compare.proofs.AnswerLaws.{not-contained-ready}

@@ -10,9 +10,9 @@ use mathlib.Core.Logic.{_≢_}
 use mathlib.Core.Path.{_∙_, _≡_, ap, sym}
 use native.Mathlib.Omega.{arith}
 use Rattle.base.proofs.Tests.{eqb-ne, eqb-eq, neither-left, neither-right, true-of-not}
-use Rattle.blocks.proofs.Accepting.{sound-of-accepted}
-use Rattle.blocks.proofs.Lawful.{plain-lawful}
-use Rattle.blocks.proofs.Unbroken.{passing}
+use Rattle.blocks.proofs.Format.Lawful.{plain-lawful}
+use Rattle.blocks.proofs.RoundTrip.Accepting.{sound-of-accepted}
+use Rattle.blocks.proofs.RoundTrip.Unbroken.{passing}
 use Rattle.blocks.specs.Faults.{lengthWrong}
 use Rattle.blocks.specs.Frame.{blocksIn}
 use Rattle.blocks.specs.Reading.{readingOf}

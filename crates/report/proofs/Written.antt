@@ -5,8 +5,8 @@ use lib.ListN.{List·getD-append, getD, length}
 use mathlib.Core.List.{List, [], _++_, _∷_}
 use mathlib.Core.Path.{_∙_, _≡_, ap, refl, sym}
 use native.Mathlib.Omega.{arith}
-use Rattle.blocks.proofs.Decoding.{decode-encode, length-encode}
-use Rattle.blocks.proofs.EntryLaws.{of-nth, of-within}
+use Rattle.blocks.proofs.Faults.EntryLaws.{of-nth, of-within}
+use Rattle.blocks.proofs.RoundTrip.Decoding.{decode-encode, length-encode}
 use Rattle.blocks.specs.Encoding.{blocksFor, encode}
 use Rattle.blocks.specs.Entries.{entryAt, entryFrom, entryOf, nth, zeroEntry}
 use Rattle.blocks.specs.Frame.{entryPos, plain}

@@ -1,12 +1,3 @@
-pub mod ChainLaws
-pub mod SearchLaws
-pub mod TableLaws
-pub mod EnterLaws
-pub mod BuildLaws
-pub mod SettleLaws
 pub mod PassLaws
-pub mod SlotSearch
-pub mod BoundLaws
 pub mod HoldingLaws
-pub mod SlotStates
 pub mod UnheldLaws

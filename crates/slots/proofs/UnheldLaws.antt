@@ -10,10 +10,10 @@ use native.Mathlib.Omega.{arith}
 use Rattle.base.proofs.Tests.{eq-cases, eq-eqb, ne-eqb}
 use Rattle.base.specs.Range.{all}
 use Rattle.base.specs.Search.{firstFrom}
-use Rattle.blocks.proofs.Accepting.{accepted-by-none, none-of-accepted, refused-by-first, sound-of-accepted}
-use Rattle.blocks.proofs.Faithful.{entries-limit}
-use Rattle.blocks.proofs.FirstFault.{FirstOf, None}
-use Rattle.blocks.proofs.Legal.{owner-earlier, owner-kind}
+use Rattle.blocks.proofs.Faults.FirstFault.{FirstOf, None}
+use Rattle.blocks.proofs.Faults.Legal.{owner-earlier, owner-kind}
+use Rattle.blocks.proofs.RoundTrip.Accepting.{accepted-by-none, none-of-accepted, refused-by-first, sound-of-accepted}
+use Rattle.blocks.proofs.RoundTrip.Faithful.{entries-limit}
 use Rattle.blocks.specs.Entries.{entriesOf}
 use Rattle.blocks.specs.Faults.{faults}
 use Rattle.blocks.specs.Reading.{readingOf}
@@ -23,10 +23,10 @@ use Rattle.blocks.specs.declared.Schema.the-variants.{Description}
 use Rattle.logic.specs.Record.{bit, every}
 use Rattle.meaning.specs.Description.{rowOf}
 use Rattle.meaning.specs.Owned.{Owned}
-use Rattle.passes.proofs.Written.{kept}
+use Rattle.passes.proofs.Cells.Written.{kept}
 use Rattle.passes.specs.Slots.{Slot, inconsistent, settled, slot, slots}
 use Rattle.slots.proofs.HoldingLaws.{bottom-first, slots-first}
-use Rattle.slots.proofs.TableLaws.{length-slots}
+use Rattle.slots.proofs.slots.TableLaws.{length-slots}
 use Rattle.slots.specs.Holding.{heldBy, holdingOf, holdingReturned, unheld}
 use Rattle.slots.specs.States.{Indexed, heldIn}
 use Rattle.slots.specs.Tables.{Chained}

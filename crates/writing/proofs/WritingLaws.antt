@@ -15,11 +15,11 @@ use Rattle.base.proofs.Stores.{holds-stored, stored-front, stored-none, stored-
 use Rattle.base.proofs.Tests.{gt-leb, le-leb, tests}
 use Rattle.base.specs.Range.{all}
 use Rattle.base.specs.Stores.{stored}
-use Rattle.blocks.proofs.Blocks.{length-front}
-use Rattle.blocks.proofs.Lawful.{plain-lawful}
-use Rattle.blocks.proofs.Rows.{Rows, length-joined, more, none}
-use Rattle.blocks.proofs.Sequence.{all-joined, blockOf, length-blocks, row-in, rowsIn}
-use Rattle.blocks.proofs.WordBytes.{check-within, length-word}
+use Rattle.blocks.proofs.Format.Blocks.{length-front}
+use Rattle.blocks.proofs.Format.Lawful.{plain-lawful}
+use Rattle.blocks.proofs.Format.Rows.{Rows, length-joined, more, none}
+use Rattle.blocks.proofs.Format.Sequence.{all-joined, blockOf, length-blocks, row-in, rowsIn}
+use Rattle.blocks.proofs.Format.WordBytes.{check-within, length-word}
 use Rattle.blocks.specs.Encoding.{blockBody, blockBytes, blockFront, blocksFor, bytesWritten, encodeFrom, encodeRows, joined, rowBytes, written}
 use Rattle.blocks.specs.Frame.{plain}
 use Rattle.blocks.specs.Words.{checkOf, wordBytes}

@@ -2,7 +2,7 @@
 use Prim.Native.Nat.{_%_, _-_, _≤_}
 use borrow.Author.Needs.{needs}
 use mathlib.Core.Path.{_≡_}
-use Rattle.blocks.proofs.WordLaws.{sum-done, sum-more}
+use Rattle.blocks.proofs.words.WordLaws.{sum-done, sum-more}
 use Rattle.blocks.specs.Words.{wordSum}
 use Rattle.blocks.proofs.words.block_check.Statement.{statement}
 use Rattle.blocks.proofs.words.block_check.Tie as tie

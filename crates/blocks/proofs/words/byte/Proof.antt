@@ -1,6 +1,6 @@
 -- `byte` meets its contract.
 use borrow.Author.Needs.{needs}
-use Rattle.blocks.proofs.WordLaws.{byte-past}
+use Rattle.blocks.proofs.words.WordLaws.{byte-past}
 use Rattle.blocks.proofs.words.byte.Statement.{statement}
 use Rattle.blocks.proofs.words.byte.Tie as tie
 

@@ -1,7 +1,7 @@
 -- `word` meets its contract: both bytes, or 0 past the end.
 use borrow.Author.Needs.{needs}
 use mathlib.Core.Path.{sym}
-use Rattle.blocks.proofs.WordLaws.{word-past}
+use Rattle.blocks.proofs.words.WordLaws.{word-past}
 use Rattle.blocks.specs.Words.{wordAt}
 use Rattle.blocks.proofs.words.word.Statement.{statement}
 use Rattle.blocks.proofs.words.word.Tie as tie

@@ -1,7 +1,7 @@
 -- `asked_count` meets its contract.
 use borrow.Author.Needs.{needs}
 use native.Mathlib.Omega.{arith}
-use Rattle.compare.proofs.TargetLaws.{count-before, count-end}
+use Rattle.compare.proofs.asked.TargetLaws.{count-before, count-end}
 use Rattle.compare.proofs.asked.asked_count.Statement.{statement}
 use Rattle.compare.proofs.asked.asked_count.Tie as tie
 

@@ -1,7 +1,7 @@
 -- `asked_link` meets its contract, by where the target stands and by the entry's kind.
 use borrow.Author.Needs.{needs}
 use native.Mathlib.Omega.{arith}
-use Rattle.compare.proofs.TargetLaws.{link-most, link-next, link-none, link-other}
+use Rattle.compare.proofs.asked.TargetLaws.{link-most, link-next, link-none, link-other}
 use Rattle.compare.proofs.asked.asked_link.Statement.{statement}
 use Rattle.compare.proofs.asked.asked_link.Tie as tie
 

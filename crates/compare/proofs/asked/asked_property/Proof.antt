@@ -1,7 +1,7 @@
 -- `asked_property` meets its contract, by where the target stands and by the entry's kind.
 use borrow.Author.Needs.{needs}
 use native.Mathlib.Omega.{arith}
-use Rattle.compare.proofs.TargetLaws.{property-before, property-lacked, property-none}
+use Rattle.compare.proofs.asked.TargetLaws.{property-before, property-lacked, property-none}
 use Rattle.compare.proofs.asked.asked_property.Statement.{statement}
 use Rattle.compare.proofs.asked.asked_property.Tie as tie
 

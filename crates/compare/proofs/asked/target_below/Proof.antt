@@ -1,7 +1,7 @@
 -- `target_below` meets its contract.
 use borrow.Author.Needs.{needs}
 use native.Mathlib.Omega.{arith}
-use Rattle.compare.proofs.TargetLaws.{below-before, below-end}
+use Rattle.compare.proofs.asked.TargetLaws.{below-before, below-end}
 use Rattle.compare.proofs.asked.target_below.Statement.{statement}
 use Rattle.compare.proofs.asked.target_below.Tie as tie
 

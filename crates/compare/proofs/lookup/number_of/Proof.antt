@@ -3,7 +3,7 @@ use Prim.Native.Nat.{_-_, suc}
 use borrow.Author.Needs.{needs}
 use mathlib.Core.Path.{_∙_, _≡_}
 use native.Mathlib.Omega.{arith}
-use Rattle.compare.proofs.NameSpans.{number-at}
+use Rattle.compare.proofs.lookup.NameSpans.{number-at}
 use Rattle.compare.proofs.lookup.number_of.Statement.{statement}
 use Rattle.compare.proofs.lookup.number_of.Tie as tie
 

@@ -4,11 +4,11 @@ use borrow.Author.Needs.{needs}
 use lib.ListN.{getD, length, length-replicate, length-set}
 use mathlib.Core.Path.{_∙_, _≡_, ap}
 use native.Mathlib.Omega.{arith}
-use Rattle.blocks.proofs.EntryLaws.{of-nth}
+use Rattle.blocks.proofs.Faults.EntryLaws.{of-nth}
 use Rattle.blocks.specs.Entries.{entriesOf, nth}
 use Rattle.blocks.specs.Owners.{ownerOf}
 use Rattle.blocks.specs.declared.Entry.{Entry}
-use Rattle.compare.proofs.PathLaws.{Climbed, climbed-more, climbed-room, climbed-start, climbed-top, names-more, names-start}
+use Rattle.compare.proofs.path.PathLaws.{Climbed, climbed-more, climbed-room, climbed-start, climbed-top, names-more, names-start}
 use Rattle.compare.proofs.path.links_up.Statement.{statement}
 use Rattle.compare.proofs.path.links_up.Tie as tie
 

@@ -2,7 +2,7 @@
 use Prim.Native.Nat.{_%_}
 use mathlib.Core.Path.{_≡_, refl}
 use native.Mathlib.Omega.{arith}
-use Rattle.compare.proofs.PlaceLaws.{asked-joints, first-room, place-done, second-room}
+use Rattle.compare.proofs.places.PlaceLaws.{asked-joints, first-room, place-done, second-room}
 use Rattle.compare.specs.Codes.{groupsWith, jointsBy, propertiesBy}
 use Rattle.compare.specs.Laying.{joint}
 use Rattle.compare.specs.Table.{namesWith}

@@ -1,7 +1,7 @@
 -- `span_from` meets its contract.
 use borrow.Author.Needs.{needs}
 use native.Mathlib.Omega.{arith}
-use Rattle.compare.proofs.SpanLaws.{ranked-is}
+use Rattle.compare.proofs.places.SpanLaws.{ranked-is}
 use Rattle.compare.proofs.places.span_from.Statement.{statement}
 use Rattle.compare.proofs.places.span_from.Tie as tie
 

@@ -3,7 +3,7 @@ use Prim.Native.Nat.{_-_}
 use borrow.Author.Needs.{needs}
 use mathlib.Core.Path.{refl}
 use native.Mathlib.Omega.{arith}
-use Rattle.compare.proofs.SpecimenWalk.{Walk, walk-done, walk-room, walk-start, walk-step, walk-top}
+use Rattle.compare.proofs.specimen.SpecimenWalk.{Walk, walk-done, walk-room, walk-start, walk-step, walk-top}
 use Rattle.compare.proofs.specimen.specimen_rows.Statement.{statement}
 use Rattle.compare.proofs.specimen.specimen_rows.Tie as tie
 

@@ -1,7 +1,7 @@
 -- `agree` meets its contract.
 use mathlib.Core.Path.{_∙_, sym}
 use Rattle.base.proofs.Tests.{ltb-ge, ltb-lt}
-use Rattle.compare.proofs.VerdictLaws.{all-contained, all-lengths, all-short}
+use Rattle.compare.proofs.verdict.VerdictLaws.{all-contained, all-lengths, all-short}
 use Rattle.compare.proofs.verdict.agree.Statement.{statement}
 use Rattle.compare.proofs.verdict.agree.Tie as tie
 

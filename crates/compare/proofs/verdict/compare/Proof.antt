@@ -1,7 +1,7 @@
 -- `compare` meets its contract.
 use borrow.Author.Needs.{needs}
 use mathlib.Core.Path.{_∙_, sym}
-use Rattle.compare.proofs.VerdictLaws.{holding-refused}
+use Rattle.compare.proofs.verdict.VerdictLaws.{holding-refused}
 use Rattle.compare.proofs.verdict.compare.Statement.{statement}
 use Rattle.compare.proofs.verdict.compare.Tie as tie
 

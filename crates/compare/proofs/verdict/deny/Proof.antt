@@ -2,7 +2,7 @@
 use borrow.Author.Needs.{needs}
 use mathlib.Core.Path.{_∙_, sym}
 use Rattle.base.proofs.Tests.{ltb-ge, ltb-lt}
-use Rattle.compare.proofs.VerdictLaws.{fails-denied, fails-lengths, fails-short}
+use Rattle.compare.proofs.verdict.VerdictLaws.{fails-denied, fails-lengths, fails-short}
 use Rattle.compare.proofs.verdict.deny.Statement.{statement}
 use Rattle.compare.proofs.verdict.deny.Tie as tie
 

@@ -4,9 +4,9 @@ use borrow.Author.Needs.{needs}
 use lib.ListN.{length-replicate, replicate, take}
 use mathlib.Core.Path.{_∙_, _≡_, sym}
 use native.Mathlib.Omega.{arith}
-use Rattle.blocks.proofs.ByNumber.{total-accepted}
+use Rattle.blocks.proofs.RoundTrip.ByNumber.{total-accepted}
 use Rattle.blocks.specs.declared.Schema.the-variants.{Description}
-use Rattle.compare.proofs.VerdictLaws.{buffer-normal, buffer-taken, denied-fails, denied-prepared, denied-same}
+use Rattle.compare.proofs.verdict.VerdictLaws.{buffer-normal, buffer-taken, denied-fails, denied-prepared, denied-same}
 use Rattle.compare.specs.Prepared.{NormalOf}
 use Rattle.normal.proofs.Answer.{normalised-means}
 use Rattle.normal.specs.Answer.{normaliseOf}

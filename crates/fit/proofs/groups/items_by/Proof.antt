@@ -5,7 +5,7 @@ use mathlib.Core.Bool.{_&&_}
 use mathlib.Core.Path.{_∙_, sym}
 use native.Mathlib.Omega.{arith}
 use Rattle.base.proofs.Tests.{and-cases, and-left, and-right}
-use Rattle.fit.proofs.GroupLaws.{cond-none}
+use Rattle.fit.proofs.groups.GroupLaws.{cond-none}
 use Rattle.fit.proofs.groups.items_by.Statement.{statement}
 use Rattle.fit.proofs.groups.items_by.Tie as tie
 

@@ -5,9 +5,9 @@ use mathlib.Core.Path.{_≡_}
 use native.Mathlib.Omega.{arith}
 use Rattle.blocks.specs.Entries.{entriesOf}
 use Rattle.blocks.specs.declared.Schema.the-variants.{Specimen}
-use Rattle.fit.proofs.BucketLaws.{hash-below}
-use Rattle.fit.proofs.GroupLaws.{items-here, itemsAt, total-bucket}
-use Rattle.fit.proofs.WalkLaws.{Standing, sum-ends, sum-goes, sum-starts, walk-falls, walk-goes, walk-starts}
+use Rattle.fit.proofs.groups.GroupLaws.{items-here, itemsAt, total-bucket}
+use Rattle.fit.proofs.index.BucketLaws.{hash-below}
+use Rattle.fit.proofs.index.WalkLaws.{Standing, sum-ends, sum-goes, sum-starts, walk-falls, walk-goes, walk-starts}
 use Rattle.fit.specs.Groups.{totalBy}
 use Rattle.fit.specs.Index.{bucketOf, hashOf}
 use Rattle.meaning.specs.Owned.{sumWhere}

@@ -1,6 +1,6 @@
 -- `hash` meets its contract.
 use borrow.Author.Needs.{needs}
-use Rattle.fit.proofs.BucketLaws.{hash-is}
+use Rattle.fit.proofs.index.BucketLaws.{hash-is}
 use Rattle.fit.proofs.index.hash.Statement.{statement}
 use Rattle.fit.proofs.index.hash.Tie as tie
 

@@ -5,8 +5,8 @@ use lib.ListN.{getD}
 use mathlib.Core.Logic.{_≢_}
 use mathlib.Core.Path.{_∙_, _≡_, sym}
 use native.Mathlib.Omega.{arith}
-use Rattle.normal.proofs.PlacingLaws.{Linking, linking-done, linking-more, linking-room, linking-start}
-use Rattle.normal.proofs.PushLaws.{run-ends, run-more, run-stops}
+use Rattle.normal.proofs.emit.PlacingLaws.{Linking, linking-done, linking-more, linking-room, linking-start}
+use Rattle.normal.proofs.emit.PushLaws.{run-ends, run-more, run-stops}
 use Rattle.normal.specs.Emitted.{keepIn}
 use Rattle.normal.specs.Ordered.{runFrom, tagPlace}
 use Rattle.normal.proofs.emit.push_every.Statement.{statement}

@@ -2,8 +2,8 @@
 use Prim.Native.Nat.{_-_}
 use native.Mathlib.Omega.{arith}
 use Rattle.logic.specs.Place.{has, kindOf, lacks, least, most}
-use Rattle.normal.proofs.PlacingLaws.{atoms-pushed, place-length, place-pushed}
-use Rattle.normal.proofs.PushLaws.{pushed-total}
+use Rattle.normal.proofs.emit.PlacingLaws.{atoms-pushed, place-length, place-pushed}
+use Rattle.normal.proofs.emit.PushLaws.{pushed-total}
 use Rattle.normal.specs.Emitted.{keepIn, kindRows}
 use Rattle.normal.specs.Ordered.{runFrom}
 use Rattle.normal.proofs.emit.push_place.Statement.{statement}

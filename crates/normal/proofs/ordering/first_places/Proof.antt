@@ -3,7 +3,7 @@ use Prim.Native.Nat.{_-_, _≤_}
 use borrow.Author.Needs.{needs}
 use mathlib.Core.Path.{_≡_}
 use native.Mathlib.Omega.{arith}
-use Rattle.normal.proofs.OrderingLaws.{Firsts, firsts-more, firsts-start}
+use Rattle.normal.proofs.ordering.OrderingLaws.{Firsts, firsts-more, firsts-start}
 use Rattle.normal.proofs.ordering.first_places.Statement.{statement}
 use Rattle.normal.proofs.ordering.first_places.Tie as tie
 

@@ -5,7 +5,7 @@ use lib.ListN.{length, length-set, take}
 use lib.Seq.{take-all}
 use mathlib.Core.Path.{_∙_, _≡_, refl, sym}
 use native.Mathlib.Omega.{arith}
-use Rattle.normal.proofs.OrderingLaws.{tags-more, tags-start}
+use Rattle.normal.proofs.ordering.OrderingLaws.{tags-more, tags-start}
 use Rattle.normal.specs.Ordered.{tagNumbers}
 use Rattle.normal.proofs.ordering.tag_slots.Statement.{statement}
 use Rattle.normal.proofs.ordering.tag_slots.Tie as tie

@@ -6,7 +6,7 @@ use native.Mathlib.Omega.{arith}
 use Rattle.blocks.specs.Entries.{packed}
 use Rattle.normal.proofs.FillLaws.{filled-anew, filled-one}
 use Rattle.normal.proofs.NormalWritten.{standing-few}
-use Rattle.normal.proofs.PassOrder.{rows-alive, rows-bottom, rows-few, settled-walkable}
+use Rattle.normal.proofs.tables.PassOrder.{rows-alive, rows-bottom, rows-few, settled-walkable}
 use Rattle.normal.proofs.tables.normal_rows.Statement.{statement}
 use Rattle.normal.proofs.tables.normal_rows.Tie as tie
 

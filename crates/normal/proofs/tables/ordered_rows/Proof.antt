@@ -1,7 +1,7 @@
 -- `ordered_rows` meets its contract: the slots are ordered, and the rows are those of the ordered slots.
 use borrow.Author.Needs.{needs}
 use mathlib.Core.Path.{refl}
-use Rattle.normal.proofs.PassOrder.{ordered-table, runs-front}
+use Rattle.normal.proofs.tables.PassOrder.{ordered-table, runs-front}
 use Rattle.normal.proofs.tables.ordered_rows.Statement.{statement}
 use Rattle.normal.proofs.tables.ordered_rows.Tie as tie
 

@@ -1,7 +1,7 @@
 -- `blocks_read` meets its contract.
 use borrow.Author.Needs.{needs}
 use native.Mathlib.Omega.{arith}
-use Rattle.reading.proofs.ReadingLaws.{length-allowed, not-multiple, too-long}
+use Rattle.reading.proofs.reader.ReadingLaws.{length-allowed, not-multiple, too-long}
 use Rattle.reading.proofs.reader.blocks_read.Statement.{statement}
 use Rattle.reading.proofs.reader.blocks_read.Tie as tie
 

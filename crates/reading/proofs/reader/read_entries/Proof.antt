@@ -3,9 +3,9 @@ use Prim.Native.Nat.{_*_, _+_, _-_}
 use borrow.Author.Needs.{needs}
 use mathlib.Core.Path.{_∙_, _≡_, sym}
 use native.Mathlib.Omega.{arith}
-use Rattle.blocks.proofs.EntryBytes.{length-entries}
+use Rattle.blocks.proofs.Format.EntryBytes.{length-entries}
 use Rattle.blocks.specs.Frame.{plain, totalIn, usedIn}
-use Rattle.reading.proofs.ReadingLaws.{entries-accepted, entry-refused, total-read}
+use Rattle.reading.proofs.reader.ReadingLaws.{entries-accepted, entry-refused, total-read}
 use Rattle.reading.proofs.reader.read_entries.Statement.{statement}
 use Rattle.reading.proofs.reader.read_entries.Tie as tie
 

@@ -6,15 +6,15 @@ use mathlib.Core.List.{map}
 use mathlib.Core.Path.{_∙_, _≡_, ap}
 use native.Mathlib.Omega.{arith}
 use Rattle.base.proofs.Tests.{eq-cases}
-use Rattle.blocks.proofs.EntryLaws.{of-nth}
+use Rattle.blocks.proofs.Faults.EntryLaws.{of-nth}
 use Rattle.blocks.specs.Entries.{Bounded, entriesOf, nth}
 use Rattle.blocks.specs.Owners.{ownerOf}
 use Rattle.blocks.specs.declared.Entry.{Entry}
 use Rattle.meaning.specs.Description.{rowOf}
-use Rattle.passes.proofs.Written.{kept}
+use Rattle.passes.proofs.Cells.Written.{kept}
 use Rattle.passes.specs.Slots as slot-build
 use Rattle.passes.specs.Slots.{slots}
-use Rattle.slots.proofs.BuildLaws.{build-ends, build-goes, build-starts, kept-starts, nodes-more, nodes-start}
+use Rattle.slots.proofs.build.BuildLaws.{build-ends, build-goes, build-starts, kept-starts, nodes-more, nodes-start}
 use Rattle.slots.specs.Tables.{Entered, Kept, Nodes, highKind, leadsTo, linkKind, lowKind, slotsIn}
 use Rattle.slots.proofs.build.build.Statement.{statement}
 use Rattle.slots.proofs.build.build.Tie as tie

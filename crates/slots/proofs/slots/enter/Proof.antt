@@ -1,8 +1,8 @@
 -- `enter` meets its contract: the slot is found, or made.
 use borrow.Author.Needs.{needs}
 use native.Mathlib.Omega.{arith}
-use Rattle.slots.proofs.EnterLaws.{enter-found, enter-new, scan-some}
-use Rattle.slots.proofs.SearchLaws.{keysOf}
+use Rattle.slots.proofs.slots.EnterLaws.{enter-found, enter-new, scan-some}
+use Rattle.slots.proofs.slots.SearchLaws.{keysOf}
 use Rattle.slots.proofs.slots.enter.Statement.{statement}
 use Rattle.slots.proofs.slots.enter.Tie as tie
 

@@ -7,13 +7,13 @@ use mathlib.Core.Path.{_∙_, _≡_, ap, refl, sym}
 use native.Mathlib.Omega.{arith}
 use Rattle.base.proofs.Tests.{false-of-not, true-of-not}
 use Rattle.base.specs.Search.{firstFrom}
-use Rattle.blocks.proofs.EntryLaws.{of-nth}
+use Rattle.blocks.proofs.Faults.EntryLaws.{of-nth}
 use Rattle.blocks.specs.Entries.{entriesOf, nth}
 use Rattle.blocks.specs.Owners.{ownerOf}
 use Rattle.blocks.specs.declared.Entry.{Entry}
-use Rattle.meaning.proofs.FirstLaws.{first-end, first-goes, first-stops}
+use Rattle.meaning.proofs.Verdicts.FirstLaws.{first-end, first-goes, first-stops}
 use Rattle.passes.specs.Slots.{Slot}
-use Rattle.slots.proofs.SlotStates.{States, held-here, small-more, small-start, states-more, states-owner, states-start}
+use Rattle.slots.proofs.states.SlotStates.{States, held-here, small-more, small-start, states-more, states-owner, states-start}
 use Rattle.slots.specs.States.{Indexed, heldAt, heldIn, stateBelow, stateOf}
 use Rattle.slots.proofs.states.first_failing.Statement.{statement}
 use Rattle.slots.proofs.states.first_failing.Tie as tie

@@ -3,7 +3,7 @@ use borrow.Author.Needs.{needs}
 use mathlib.Core.Path.{_∙_, ap}
 use native.Mathlib.Omega.{arith}
 use Rattle.base.proofs.Tests.{eq-eqb, ne-eqb}
-use Rattle.slots.proofs.BoundLaws.{bounds-high, bounds-low}
+use Rattle.slots.proofs.states.BoundLaws.{bounds-high, bounds-low}
 use Rattle.slots.specs.States.{heldAt}
 use Rattle.slots.specs.Tables.{highIn}
 use Rattle.slots.proofs.states.held.Statement.{statement}

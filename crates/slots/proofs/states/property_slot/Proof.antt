@@ -1,8 +1,8 @@
 -- `property_slot` meets its contract.
 use borrow.Author.Needs.{needs}
 use mathlib.Core.Path.{_∙_}
-use Rattle.slots.proofs.BoundLaws.{scan-most}
-use Rattle.slots.proofs.SlotSearch.{search-slot}
+use Rattle.slots.proofs.states.BoundLaws.{scan-most}
+use Rattle.slots.proofs.states.SlotSearch.{search-slot}
 use Rattle.slots.proofs.states.property_slot.Statement.{statement}
 use Rattle.slots.proofs.states.property_slot.Tie as tie
 

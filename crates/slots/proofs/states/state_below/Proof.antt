@@ -3,8 +3,8 @@ use borrow.Author.Needs.{needs}
 use mathlib.Core.Path.{_∙_, _≡_, ap}
 use native.Mathlib.Omega.{arith}
 use Rattle.base.proofs.Tests.{eq-eqb, ne-eqb}
-use Rattle.slots.proofs.BoundLaws.{high-none, high-some}
-use Rattle.slots.proofs.SlotSearch.{high-slot}
+use Rattle.slots.proofs.states.BoundLaws.{high-none, high-some}
+use Rattle.slots.proofs.states.SlotSearch.{high-slot}
 use Rattle.slots.specs.States.{highAt, stateBelow}
 use Rattle.slots.specs.Tables.{highIn}
 use Rattle.slots.proofs.states.state_below.Statement.{statement}

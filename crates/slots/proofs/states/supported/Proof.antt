@@ -1,7 +1,7 @@
 -- `supported` meets its contract, kind by kind.
 use native.Mathlib.Omega.{arith}
 use Rattle.base.proofs.Tests.{ne-eqb}
-use Rattle.slots.proofs.BoundLaws.{high-most, high-there}
+use Rattle.slots.proofs.states.BoundLaws.{high-most, high-there}
 use Rattle.slots.specs.States.{supportedBy}
 use Rattle.slots.proofs.states.supported.Statement.{statement}
 use Rattle.slots.proofs.states.supported.Tie as tie

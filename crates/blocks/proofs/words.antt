@@ -1,0 +1,3 @@
+-- Laws of the code in src/words.rt.
+
+pub mod WordLaws

@@ -1,0 +1,3 @@
+-- Laws of the code in src/asked.rt.
+
+pub mod TargetLaws

@@ -1,0 +1,4 @@
+-- Laws of the code in src/lookup.rt.
+
+pub mod NameSpans
+pub mod GroupSpans

@@ -1,0 +1,3 @@
+-- Laws of the code in src/path.rt.
+
+pub mod PathLaws

@@ -1,0 +1,4 @@
+-- Laws of the code in src/places.rt.
+
+pub mod SpanLaws
+pub mod PlaceLaws

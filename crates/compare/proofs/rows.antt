@@ -1,0 +1,3 @@
+-- Laws of the code in src/rows.rt.
+
+pub mod RowLaws

@@ -1,0 +1,3 @@
+-- Laws of the code in src/groups.rt.
+
+pub mod GroupLaws

@@ -1,0 +1,3 @@
+-- Laws of the code in src/judge.rt.
+
+pub mod MeetLaws

@@ -1,0 +1,63 @@
+-- Laws of meeting an entry, one for each way through the code.
+-- Assumes nothing.
+use Prim.Native.Nat.{_-_, suc, zero, ℕ}
+use lib.Dec.{eqb}
+use lib.ListN.{length}
+use mathlib.Core.Bool.{Bool, _||_, false, not, true}
+use mathlib.Core.List.{List}
+use mathlib.Core.Logic.{_≢_}
+use mathlib.Core.Path.{_∙_, _≡_, ap, refl, sym}
+use native.Mathlib.Numerals.{sub-one}
+use Rattle.base.proofs.Tests.{ne-eqb, or-one}
+use Rattle.blocks.specs.Entries.{entriesOf, entryOf, nth}
+use Rattle.blocks.specs.Owners.{ownerOf}
+use Rattle.blocks.specs.declared.Entry.{Entry}
+use Rattle.blocks.specs.declared.Schema.the-variants.{Specimen}
+use Rattle.fit.proofs.groups.GroupLaws.{owned-else, owned-here}
+use Rattle.fit.proofs.index.BucketLaws.{all-bucket, elsewhere}
+use Rattle.fit.specs.Groups.{fitsPlace, groupsBy, isGroup, meetsAtom, meetsEntry}
+use Rattle.fit.specs.Index.{Ready, bucketOf, hashOf, isOf}
+use Rattle.meaning.specs.Owned.{allOwned, allWhere}
+
+pub meets-bottom : (left : ℕ) (s d : List Entry) (g e : ℕ) → left ≡ 0 → true ≡ meetsEntry left s d g e
+unfolding meetsEntry
+meets-bottom left s d g e z = rw z
+
+pub meets-atoms : (left : ℕ) (s d : List Entry) (g e : ℕ) {x : Entry} {r : Bool} → left ≢ 0 → x ≡ nth d e → x .kind ≢ 5 → r ≡ meetsAtom s g x
+    → r ≡ meetsEntry left s d g e
+unfolding meetsEntry meetsAtom
+meets-atoms zero s d g e z a k h = absurd (z refl)
+meets-atoms (suc left) s d g e z a k h = h ∙ rw (a, meetsAtom, meetsEntry, ne-eqb (λ q. k (ap (λ (y : Entry). y .kind) a ∙ q)))
+
+-- group k, where it is one by link l, fits the place that entry e owns, followed down for so many levels
+abbrev groupFits : ℕ → List Entry → List Entry → ℕ → ℕ → ℕ → Bool
+groupFits left s d e l k = not (isGroup s l k) || fitsPlace left s d k e
+
+meets-groups : (left : ℕ) (s d : List Entry) (g e : ℕ) {x : Entry} {l : ℕ} → left ≢ 0 → x ≡ nth d e → x .kind ≡ 5 → l ≡ x .name
+    → meetsEntry left s d g e ≡ allOwned (groupFits (left - 1) s d e l) s g (length s)
+unfolding meetsEntry groupsBy
+meets-groups zero s d g e z a k n = absurd (z refl)
+meets-groups (suc left) s d g e z a k n =
+    let kind : nth d e .kind ≡ 5 = sym (ap (λ (y : Entry). y .kind) a) ∙ k in
+    let name : nth d e .name ≡ _ = sym (n ∙ ap (λ (y : Entry). y .name) a) in
+    rw (meetsEntry, kind, name, groupsBy, sub-one)
+
+-- the same for the groups that g owns; others pass
+abbrev pub ownFits : ℕ → List Entry → List Entry → ℕ → ℕ → ℕ → ℕ → Bool
+ownFits left s d e g l k = not (eqb (ownerOf s k) g) || groupFits left s d e l k
+
+pub meets-bucket : (left : ℕ) (s d : List Entry) (g e : ℕ) {x : Entry} {l : ℕ} → left ≢ 0 → x ≡ nth d e → x .kind ≡ 5 → l ≡ x .name
+    → meetsEntry left s d g e ≡ allWhere (bucketOf Specimen s) (ownFits (left - 1) s d e g l) (hashOf g 7 l) (length s)
+meets-bucket left s d g e {x} {l} z a k n =
+    meets-groups left s d g e z a k n
+    ∙ all-bucket (ownerOf s) (bucketOf Specimen s) (groupFits (left - 1) s d e l) g (hashOf g 7 l)
+    (λ k out. elsewhere s g 7 l k out (λ o. rw o) (λ m. rw m (or-one (not (eqb (ownerOf s k) g))))) (length s)
+
+-- what entry k was read to be decides
+module _ {s : List ℕ} {total : ℕ} {t : List ℕ} (R : Ready Specimen s total t) (left : ℕ) (d : List Entry) (e g l k : ℕ) {x : Entry} {r : Bool}
+    (a : x ≡ entryOf s total k) (b : r ≡ isOf x g 7 l) where
+  pub other-passes : r ≡ false → ownFits left (entriesOf s) d e g l k ≡ true
+  other-passes q = owned-else R g 7 l k a b q (λ o. rw o) (λ m. rw m (or-one (not (eqb (ownerOf (entriesOf s) k) g))))
+
+  pub group-decides : {f : Bool} → r ≡ true → f ≡ fitsPlace left (entriesOf s) d k e → ownFits left (entriesOf s) d e g l k ≡ f
+  group-decides q h = let y = owned-here R g 7 l k a b q in rw (y .0, y .1) (sym h)

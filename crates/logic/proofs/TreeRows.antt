@@ -1,0 +1,5 @@
+-- Trees as rows.
+
+pub mod LayoutLaws
+pub mod AllEntries
+pub mod Merged

@@ -1,0 +1,5 @@
+-- The first entry that fails, and what it means.
+
+pub mod FirstLaws
+pub mod Contained
+pub mod NotContained

@@ -1,0 +1,113 @@
+-- What the first failing entry means: none exactly where every item that fits C fits D, and otherwise the first that C does not say.
+-- Assumes nothing.
+use Prim.Native.Nat.{_<_, _≤_, ℕ}
+use lib.Dec.{eqb}
+use lib.ListN.{length}
+use mathlib.Core.Bool.{false, true}
+use mathlib.Core.List.{List}
+use mathlib.Core.Logic.{_≢_, _↔_}
+use mathlib.Core.Path.{_≡_}
+use native.Mathlib.Omega.{arith}
+use Rattle.base.proofs.Cases.{not-true}
+use Rattle.base.proofs.Tests.{both-ways, eq-cases, eq-eqb, eqb-ne, ne-eqb, neither-left}
+use Rattle.blocks.proofs.Faults.Legal.{Legal}
+use Rattle.blocks.specs.Entries.{nth}
+use Rattle.blocks.specs.declared.Entry.{Entry}
+use Rattle.blocks.specs.declared.Schema.the-variants.{Description}
+use Rattle.logic.proofs.OneMeaning.Holds.{nf-holds-says}
+use Rattle.logic.proofs.Records.Kept.{kept-unrestricted, lawful-unrestricted}
+use Rattle.logic.specs.Background.{Background, Keeps, LawfulBackground, unrestricted}
+use Rattle.logic.specs.Holds.{holds}
+use Rattle.logic.specs.Meaning.{Says}
+use Rattle.logic.specs.Normal.{nf}
+use Rattle.logic.specs.Place.{Place}
+use Rattle.logic.specs.Record.{Record, along, fits, meets}
+use Rattle.meaning.proofs.Descriptions.Paths.{fits-paths, paths-fit}
+use Rattle.meaning.proofs.Verdicts.FirstLaws.{failing-least, failing-none, least-failing, none-failing}
+use Rattle.meaning.specs.Description.{atomOf, linksTo, placeOf}
+use Rattle.meaning.specs.Failing.{failing, normalOf}
+use Rattle.meaning.specs.First.{entryHolds, firstFailing}
+
+-- every item that fits t fits u, in the records that keep the background
+abbrev pub Within : Background → Place → Place → Type 0
+Within b t u = (r : Record) → Keeps b r → (x : ℕ) → x < r .size → fits r t x ≡ true → fits r u x ≡ true
+
+-- the place t says entry n of d: each item that the links to the entry lead to, from an item that fits t, meets it
+abbrev pub SaysEntry : Background → Place → List Entry → ℕ → Type 0
+SaysEntry b t d n = Says b t (linksTo d n) (atomOf (nth d n))
+
+-- entry n of d is the first, apart from 'every' entries, that t does not say
+pub record FirstUnsaid (b : Background) (t : Place) (d : List Entry) (n : ℕ) : Type 0 where
+  pub low : 1 ≤ n
+  pub high : n ≤ length d
+  pub kind : nth d n .kind ≢ 5
+  pub unsaid : SaysEntry b t d n → ⊥
+  pub before : (j : ℕ) → 1 ≤ j → j < n → nth d j .kind ≢ 5 → SaysEntry b t d j
+
+module _ {b : Background} (law : LawfulBackground b) (t : Place) (d : List Entry) where
+  -- an entry that is no 'every' holds exactly if the place says it
+  pub entry-said : (n : ℕ) → nth d n .kind ≢ 5 → (entryHolds b (nf b t) d n ≡ true) ↔ SaysEntry b t d n
+  unfolding entryHolds
+  entry-said n z = rw (ne-eqb z) (nf-holds-says law t (linksTo d n) (atomOf (nth d n)))
+
+  -- an entry holds if the place says it or it is an 'every'
+  entry-holds : (n : ℕ) → (nth d n .kind ≢ 5 → SaysEntry b t d n) → entryHolds b (nf b t) d n ≡ true
+  unfolding entryHolds
+  entry-holds n f = eq-cases (nth d n .kind) 5 (λ z. rw (eq-eqb z)) (λ z. entry-said n z .1 (f z))
+
+  -- an entry that fails is no 'every'
+  pub failing-kind : (n : ℕ) → entryHolds b (nf b t) d n ≡ false → nth d n .kind ≢ 5
+  unfolding entryHolds
+  failing-kind n e = eqb-ne (neither-left (eqb (nth d n .kind) 5) (holds b (nf b t) (linksTo d n) (atomOf (nth d n))) e)
+
+  -- the number answered is the first that the place does not say
+  pub failing-unsaid : {n : ℕ} → firstFailing b (nf b t) d ≡ n → n ≢ 0 → FirstUnsaid b t d n
+  failing-unsaid {n} e z =
+      let r = failing-least b (nf b t) d e z in
+      let k = failing-kind n (r .fails) in
+      record {
+        low = r .low;
+        high = omega (arith, r .high);
+        kind = k;
+        unsaid = λ s. both-ways (entry-said n k .1 s) (r .fails);
+        before = λ j lo hi y. entry-said j y .0 (r .before j lo hi);
+      }
+
+  -- and it is the only number of which that holds
+  pub unsaid-failing : (n : ℕ) → FirstUnsaid b t d n → firstFailing b (nf b t) d ≡ n
+  unsaid-failing n u =
+      least-failing b (nf b t) d n
+      (record {
+        low = u .low;
+        high = omega (arith, u .high);
+        fails = not-true (λ e. u .unsaid (entry-said n (u .kind) .0 e));
+        before = λ j lo hi. entry-holds j (u .before j lo hi);
+      })
+
+  -- none fails exactly if every item that fits the place fits the description
+  pub contained-says : Legal Description d → (firstFailing b (nf b t) d ≡ 0) ↔ Within b t (placeOf d 0)
+  contained-says L = (
+    λ e r kept x i h. paths-fit r d L x (λ n lo hi z. entry-said n z .0 (failing-none b (nf b t) d e n lo hi) r kept x i h),
+    λ f. none-failing b (nf b t) d (λ n lo hi. entry-holds n (λ z r kept x i h. fits-paths r d L x (f r kept x i h) n lo hi z)),
+  )
+
+-- ---- in all finite records
+
+module _ (c d : List Entry) where
+  -- no entry of D fails exactly if in every finite record each item that fits C fits D
+  pub contained-all : Legal Description d
+      → (failing c d ≡ 0) ↔ ((r : Record) (x : ℕ) → x < r .size → fits r (placeOf c 0) x ≡ true → fits r (placeOf d 0) x ≡ true)
+  unfolding failing normalOf
+  contained-all L =
+      let e = contained-says lawful-unrestricted (placeOf c 0) d L in
+      (λ z r x i h. e .0 z r (kept-unrestricted r) x i h, λ f. e .1 (λ r kept x i h. f r x i h))
+
+  -- the number answered is that of the first entry of D, apart from 'every' entries, that C does not say
+  pub failing-first : {n : ℕ} → failing c d ≡ n → n ≢ 0 → FirstUnsaid unrestricted (placeOf c 0) d n
+  unfolding failing normalOf
+  failing-first e z = failing-unsaid lawful-unrestricted (placeOf c 0) d e z
+
+  -- each item that fits C meets every entry before it, apart from 'every' entries, along its links
+  pub met-before : {n : ℕ} → failing c d ≡ n → n ≢ 0 → (j : ℕ) → 1 ≤ j → j < n → nth d j .kind ≢ 5
+      → (r : Record) (x : ℕ) → x < r .size → fits r (placeOf c 0) x ≡ true → along r (linksTo d j) x (meets r (atomOf (nth d j))) ≡ true
+  met-before e z j lo hi k r x i h = failing-first e z .before j lo hi k r (kept-unrestricted r) x i h

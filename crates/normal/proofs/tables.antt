@@ -1,0 +1,3 @@
+-- Laws of the code in src/tables.rt.
+
+pub mod PassOrder

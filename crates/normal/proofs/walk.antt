@@ -1,0 +1,3 @@
+-- Laws of the code in src/walk.rt.
+
+pub mod WalkingLaws

@@ -1,0 +1,3 @@
+-- Laws of the code in src/reader.rt.
+
+pub mod ReadingLaws

@@ -1,0 +1,3 @@
+-- Laws of the code in src/build.rt.
+
+pub mod BuildLaws

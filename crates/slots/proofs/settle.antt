@@ -1,0 +1,3 @@
+-- Laws of the code in src/settle.rt.
+
+pub mod SettleLaws

@@ -1,0 +1,5 @@
+-- Laws of the code in src/states.rt.
+
+pub mod SlotSearch
+pub mod BoundLaws
+pub mod SlotStates

@@ -1,0 +1,74 @@
+-- The bounds of a slot that was looked up, and of none.
+-- Assumes nothing.
+use Prim.Native.Nat.{_<_, _≤_, ℕ}
+use lib.Dec.{eqb, leb, ltb}
+use lib.ListN.{getD}
+use mathlib.Core.Bool.{cond, false, true}
+use mathlib.Core.List.{List}
+use mathlib.Core.Logic.{_≢_}
+use mathlib.Core.Path.{_∙_, _≡_, ap, refl}
+use native.Mathlib.Omega.{arith}
+use Rattle.base.proofs.Tests.{eq-cases, ge-ltb, gt-leb, lt-cases, lt-ltb, ne-eqb, tests}
+use Rattle.logic.specs.Normal.{atMost, found}
+use Rattle.passes.specs.Slots.{Slot}
+use Rattle.slots.proofs.slots.EnterLaws.{scan-some}
+use Rattle.slots.proofs.states.SlotSearch.{high-slot, low-slot}
+use Rattle.slots.specs.Chain.{Chains, scan}
+use Rattle.slots.specs.States.{Indexed, highAt, lowAt}
+use Rattle.slots.specs.Tables.{Kept, Settling, highIn, highPart, lowPart}
+
+-- what a search finds is a slot or 0
+pub scan-most : (key : ℕ → ℕ) (k n : ℕ) {s : ℕ} → s ≡ scan key k n → s ≤ n
+scan-most key k n {s} e = eq-cases s 0 (λ z. omega arith) (λ z. scan-some key k n e z .0)
+
+module _ {ss : List Slot} {t next head : List ℕ} {used : ℕ} (i : Indexed ss t next head used) {s x : ℕ} (b : s ≤ used) (e : x ≡ cond (eqb s 0) 65536 (getD t s 0)) where
+  pub bounds-low : lowPart x ≡ lowAt ss s
+  unfolding lowPart
+  bounds-low =
+      eq-cases s 0
+      (λ z. rw (e, z) (unfold lowAt in refl))
+      (λ z. let f : x ≡ getD t s 0 = e ∙ rw (ne-eqb z) in ap lowPart f ∙ low-slot i s (omega arith) b)
+
+  pub bounds-high : highIn (highPart x) ≡ highAt ss s
+  unfolding highPart
+  bounds-high =
+      eq-cases s 0
+      (λ z. rw (e, z) (unfold highAt in refl))
+      (λ z. let f : x ≡ getD t s 0 = e ∙ rw (ne-eqb z) in ap (λ (y : ℕ). highIn (highPart y)) f ∙ high-slot i s (omega arith) b)
+
+-- an upper bound of 0, and another
+pub high-none : {h : ℕ} → h ≡ 0 → atMost 0 (highIn h) ≡ true
+high-none e = rw e
+
+pub high-some : (h : ℕ) → h ≢ 0 → atMost 0 (highIn h) ≡ false
+high-some h z = lt-cases h 65536 (λ l. rw (lt-ltb l) (omega tests)) (λ l. rw (ge-ltb l))
+
+-- an upper bound is there, or is small enough
+pub high-there : (h : ℕ) → ltb h 65536 ≡ found (highIn h)
+high-there h = lt-cases h 65536 (λ l. rw (lt-ltb l)) (λ l. rw (ge-ltb l))
+
+pub high-most : (h n : ℕ) → n < 65536 → leb h n ≡ atMost n (highIn h)
+high-most h n b = lt-cases h 65536 (λ l. rw (lt-ltb l)) (λ l. rw (ge-ltb l, gt-leb {m = h} {n = n} (omega arith)))
+
+-- ---- chains of the settled table
+
+chains-as : {hash key key′ next head : ℕ → ℕ} {used : ℕ} → ((j : ℕ) → key′ j ≡ key j) → Chains hash key next head used → Chains hash key′ next head used
+chains-as {hash} {key} {key′} e c =
+    record {
+      head-low = c .head-low;
+      head-gap = λ h j l m. rw (e j) (c .head-gap h j l m);
+      head-on = λ h l. rw (e _) (c .head-on h l);
+      next-low = c .next-low;
+      next-gap = λ s j lo hi l m. rw (e j, e s) (c .next-gap s j lo hi l m);
+      next-on = λ s lo hi l. rw (e _, e s) (c .next-on s lo hi l);
+    }
+
+pub settled-kept : {origin t next head bad full : List ℕ} {used : ℕ} → Kept origin next head used → Settling origin used 0 t bad full → Kept t next head used
+settled-kept k s =
+    record {
+      size = s .size;
+      nexts = k .nexts;
+      heads = k .heads;
+      chains = chains-as (λ j. s .keys j) (k .chains);
+      apart = λ i j lo l hi. rw (s .keys i, s .keys j) (k .apart i j lo l hi);
+    }
