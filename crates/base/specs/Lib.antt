@@ -1,4 +1,8 @@
+-- Tests over a range of numbers.
 pub mod Range
+-- Stores in a row.
 pub mod Stores
+-- The search for a number that fails a test.
 pub mod Search
+-- Lists in ascending order, where `lt` tells which of two elements stands first.
 pub mod Sorted

@@ -1,8 +1,14 @@
 -- Blocks and entries one by one: the first fault, levels, and legal lists.
 
+-- Laws of entries read by number.
 pub mod EntryLaws
+-- The first fault of a list: what finding it means, and how a search goes on.
 pub mod FirstFault
+-- Laws of the rows that blocks break.
 pub mod BlockLaws
+-- Owners, depths, and the table of levels that stands in for them.
 pub mod LevelLaws
+-- Lists of entries that break none of rows 4 to 6 of the table of refusals.
 pub mod Legal
+-- An encoding is made of bytes, and the fields of entries read from bytes fit theirs.
 pub mod Bounds

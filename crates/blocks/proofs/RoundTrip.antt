@@ -1,9 +1,16 @@
 -- Reading undoes writing, and accepts exactly what is right.
 
+-- Decoding undoes encoding: the blocks, the count and the rows of an encoding, and its entries.
 pub mod Decoding
+-- Inputs that break none of rows 1 to 3 of the table of refusals.
 pub mod Unbroken
+-- An encoding breaks none of rows 1 to 3 of the table of refusals.
 pub mod Sound
+-- An input that breaks none of rows 1 to 3 of the table of refusals is the encoding of its rows.
 pub mod Faithful
+-- What reading means.
 pub mod Accepting
+-- What reading by number gives: the entries of an accepted input, and of a refused one the zero entry at every number.
 pub mod ByNumber
+-- The worked example of the section on blocks.
 pub mod Examples

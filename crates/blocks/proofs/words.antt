@@ -1,3 +1,4 @@
 -- Laws of the code in src/words.rt.
 
+-- Laws of words and of the sum that checks a block.
 pub mod WordLaws

@@ -1,5 +1,8 @@
 -- Finite records: counting, paths of links, and what records keep.
 
+-- Counting and testing the numbers below a size, and the elements of a list.
 pub mod Counting
+-- Passing along a path of links.
 pub mod Along
+-- Where there are no caps and no exclusions, every record keeps them.
 pub mod Kept

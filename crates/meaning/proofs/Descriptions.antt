@@ -1,9 +1,16 @@
 -- A description's entries, owners, places and paths.
 
+-- The entries of one owner, by number: what allOwned and sumOwned say, and the same by the list of entries.
 pub mod Owned
+-- The links that lead to an entry: those into the place of its owner.
 pub mod Links
+-- What the entries of a place ask, one by one: the place that an owner's rows make, and the place of a legal description.
 pub mod Places
+-- The meaning of a description by paths.
 pub mod Paths
+-- Names and numbers of a description's entries, and of its places.
 pub mod EntryFields
+-- A description's tree of places has no more entries than its list of entries, and at most 33 levels.
 pub mod PlaceSize
+-- The links to an entry of a description.
 pub mod LinkPaths

@@ -1,6 +1,10 @@
 -- A specimen's entries and its record.
 
+-- Fitting in the record of a specimen goes by groups: all items of a group fit the same places.
 pub mod Items
+-- The record of a specimen that was written from a tree: its top item fits there what the tree says.
 pub mod SpecimenRecord
+-- The record of a specimen that was written from a tree keeps a background if the tree does.
 pub mod SpecimenKeeps
+-- A comparison's specimen as entries: they are legal, their fields fit their bytes, and they are no more than those of C and D.
 pub mod SpecimenLegal

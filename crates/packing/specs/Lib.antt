@@ -1,1 +1,2 @@
+-- The number that a call hands to C for each answer.
 pub mod Packing

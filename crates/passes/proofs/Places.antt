@@ -1,5 +1,8 @@
 -- The places below the slots: what they mean, and that they are normal.
 
+-- The place below each slot, as it is written from its sorted cells.
 pub mod Forms
+-- The second pass: which places are impossible, which are empty, and what the others mean.
 pub mod FormMeaning
+-- The places of a description's slots are normal, and the top is the normal form of the description.
 pub mod FormNormal

@@ -1,3 +1,4 @@
 -- Laws of the code in src/settle.rt.
 
+-- Laws of the second pass: one slot settled.
 pub mod SettleLaws
