@@ -10,7 +10,7 @@ pub mod Owners
 pub mod Faults
 -- What reading an input answers.
 pub mod Reading
--- The steps of the passes over blocks and entries, as the code takes them.
-pub mod Steps
 -- Entries as blocks.
 pub mod Encoding
+-- Mirrors of the code: the contracts of its functions cite these, and no promise to the customer does.
+pub mod code

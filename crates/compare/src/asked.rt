@@ -6,8 +6,8 @@ ghost use Prim.Native.Nat.{ℕ, _+_, _≤_};
 ghost use Rattle.logic.specs.Place.{Atom};
 ghost use Rattle.meaning.specs.Description.{atomOf};
 ghost use Rattle.logic.specs.Witness.{targetLinks, targetProperties, want};
-ghost use Rattle.compare.specs.Codes.{targetAt, targetBelow, upFrom};
-ghost use Rattle.compare.specs.Table.{nameOr};
+ghost use Rattle.compare.specs.code.Codes.{targetAt, targetBelow, upFrom};
+ghost use Rattle.compare.specs.code.Table.{nameOr};
 use crate::table::long;
 use blocks::Entry;
 

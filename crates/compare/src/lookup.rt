@@ -4,7 +4,7 @@ ghost use mathlib.Core.List.{List};
 ghost use Prim.Native.Nat.{_≤_, _<_};
 ghost use Rattle.blocks.specs.Entries.{nth};
 ghost use Rattle.blocks.specs.declared.Entry.{Entry};
-ghost use Rattle.compare.specs.Table.{Table, entryFor, placeBelow};
+ghost use Rattle.compare.specs.code.Table.{Table, entryFor, placeBelow};
 use crate::table::look_up;
 use crate::table::number_in;
 use blocks::Link;

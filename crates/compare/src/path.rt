@@ -5,7 +5,7 @@ ghost use lib.ListN.{getD, length, replicate};
 ghost use Rattle.blocks.specs.Entries.{entriesOf};
 ghost use Rattle.meaning.specs.Description.{linksTo};
 ghost use Rattle.meaning.specs.Owned.{Owned};
-ghost use Rattle.compare.specs.Codes.{upFrom};
+ghost use Rattle.compare.specs.code.Codes.{upFrom};
 use crate::table::wide;
 
 // Stores the links of the owners of entry n, nearest first, and returns how many there are.

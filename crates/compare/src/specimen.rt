@@ -5,7 +5,7 @@ ghost use mathlib.Core.List.{map};
 ghost use Prim.Native.Nat.{_+_, _≤_};
 ghost use lib.ListN.{getD, length, take};
 ghost use Rattle.logic.specs.Layout.{write};
-ghost use Rattle.compare.specs.Codes.{OnPath, Stepped, Writable, numbersBy, specimenNumber, treeBy};
+ghost use Rattle.compare.specs.code.Codes.{OnPath, Stepped, Writable, numbersBy, specimenNumber, treeBy};
 use crate::places::push_place;
 use crate::table::wide;
 use blocks::Entry;

@@ -10,7 +10,7 @@ ghost use Rattle.slots.specs.Holding.{holdingOf};
 ghost use Rattle.slots.specs.declared.Holding.{Holding};
 ghost use Rattle.compare.specs.Answer.{compareOf, outputOf};
 ghost use Rattle.meaning.specs.Failing.{failing};
-ghost use Rattle.compare.specs.Prepared.{Denied, Prepared};
+ghost use Rattle.compare.specs.code.Prepared.{Denied, Prepared};
 use crate::Comparison;
 use crate::path::links_up;
 use crate::specimen::specimen_rows;

@@ -17,8 +17,8 @@ use Rattle.blocks.specs.declared.Schema.{Schema}
 use Rattle.blocks.specs.declared.Schema.the-variants.{Description, Specimen}
 use Rattle.fit.proofs.ByNumber.{fit-by-groups}
 use Rattle.fit.specs.Answer.{fitOf, secondOf, topFits}
-use Rattle.fit.specs.Groups.{fitsPlace}
-use Rattle.fit.specs.Index.{Ordered}
+use Rattle.fit.specs.code.Groups.{fitsPlace}
+use Rattle.fit.specs.code.Index.{Ordered}
 use Rattle.fit.specs.declared.FitAnswer.{FitAnswer}
 use Rattle.fit.specs.declared.FitAnswer.the-variants.{No, Refused, Yes}
 use Rattle.logic.specs.Record.{count}

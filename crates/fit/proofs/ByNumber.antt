@@ -14,7 +14,7 @@ use Rattle.blocks.specs.Entries.{nth}
 use Rattle.blocks.specs.Owners.{depthOf, depthOk, ownerOf}
 use Rattle.blocks.specs.declared.Entry.{Entry}
 use Rattle.blocks.specs.declared.Schema.the-variants.{Description}
-use Rattle.fit.specs.Groups.{fitsPlace, groupsBy, hasProperty, meetsEntry, totalBy}
+use Rattle.fit.specs.code.Groups.{fitsPlace, groupsBy, hasProperty, meetsEntry, totalBy}
 use Rattle.logic.proofs.Records.Counting.{every-from-ext, everyFrom, sumIn}
 use Rattle.logic.specs.Place.{Place, kindOf}
 use Rattle.logic.specs.Record.{fits}

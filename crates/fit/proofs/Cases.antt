@@ -17,7 +17,7 @@ use Rattle.blocks.specs.declared.Finding.the-variants.{Clean, Faulty}
 use Rattle.blocks.specs.declared.Schema.{Schema}
 use Rattle.blocks.specs.declared.Schema.the-variants.{Description, Specimen}
 use Rattle.fit.proofs.ByNumber.{fit-by-groups}
-use Rattle.fit.specs.Groups.{fitsPlace, groupsBy, hasProperty, meetsEntry, totalBy}
+use Rattle.fit.specs.code.Groups.{fitsPlace, groupsBy, hasProperty, meetsEntry, totalBy}
 use Rattle.logic.proofs.Records.Counting.{everyIn}
 use Rattle.logic.specs.Record.{fits}
 use Rattle.meaning.specs.Description.{placeOf}

@@ -4,7 +4,7 @@ ghost use mathlib.Core.Path.{_≡_};
 ghost use Prim.Native.Nat.{_+_, _≤_, _<_};
 ghost use lib.ListN.{length, getD, replicate};
 ghost use Rattle.blocks.specs.Entries.{entriesOf};
-ghost use Rattle.fit.specs.Index.{Ordered, Ready, bucketIn, hashOf};
+ghost use Rattle.fit.specs.code.Index.{Ordered, Ready, bucketIn, hashOf};
 use blocks::Entry;
 use blocks::Schema;
 

@@ -12,7 +12,7 @@ use native.Mathlib.Numerals.{add-one}
 use native.Mathlib.Omega.{arith}
 use Rattle.base.proofs.Tests.{bool-cases, eq-cases, eq-eqb, ne-eqb}
 use Rattle.logic.specs.Layout.{job, later}
-use Rattle.normal.specs.Filling.{Filled, Joined, laterEach, noted, queueFrom}
+use Rattle.normal.specs.code.Filling.{Filled, Joined, laterEach, noted, queueFrom}
 
 -- ---- numbers after numbers
 

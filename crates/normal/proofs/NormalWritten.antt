@@ -31,10 +31,10 @@ use Rattle.normal.proofs.AnswerLaws.{Ready, normalised}
 use Rattle.normal.proofs.emit.PushLaws.{pushed-total}
 use Rattle.normal.proofs.tables.PassOrder.{rows-few}
 use Rattle.normal.specs.Answer.{normaliseOf, normalisedOf, outputAfter}
-use Rattle.normal.specs.Emitted.{NormalRows, rowNumber}
+use Rattle.normal.specs.code.Emitted.{NormalRows, rowNumber}
 use Rattle.normal.specs.declared.NormalAnswer.the-variants.{Normalised}
 use Rattle.slots.proofs.PassLaws.{all-bounded}
-use Rattle.slots.specs.Standing.{Standing}
+use Rattle.slots.specs.code.Standing.{Standing}
 
 rows-packed : (rs : List (Row Atom ℕ)) → map rowNumber rs ≡ map packed (map rowEntry rs)
 rows-packed [] = refl

@@ -1,8 +1,4 @@
--- Tables that are filled row by row, with a code noted for each row that leads to a place, and the jobs that such a table stands for.
-pub mod Filling
--- The slots in ascending order, as the code keeps them: numbers that hold a slot's key above its own number.
-pub mod Ordered
--- The rows of a place as plain lists, and the tables of the walk, as the code keeps them.
-pub mod Emitted
 -- The normal form's answer, and its output.
 pub mod Answer
+-- Mirrors of the code: the contracts of its functions cite these, and no promise to the customer does.
+pub mod code

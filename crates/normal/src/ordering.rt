@@ -4,8 +4,8 @@ ghost use Prim.Native.Nat.{_+_, _*_, _/_, _%_, _≤_, _<_, ℕ};
 ghost use lib.Dec.{eqb};
 ghost use lib.ListN.{length, getD, replicate};
 ghost use Rattle.sorting.specs.Sorted.{sorted};
-ghost use Rattle.slots.specs.Tables.{keyIn};
-ghost use Rattle.normal.specs.Ordered.{tagNumber, tagNumbers, tagSlot, tagPlace, firstOfPlace};
+ghost use Rattle.slots.specs.code.Tables.{keyIn};
+ghost use Rattle.normal.specs.code.Ordered.{tagNumber, tagNumbers, tagSlot, tagPlace, firstOfPlace};
 use slots::key_in;
 
 // The number of slot j.

@@ -1,7 +1,7 @@
 // The answer, and the blocks that are written.
 ghost use mathlib.Core.Path.{_≡_};
 ghost use Rattle.normal.specs.Answer.{normaliseOf, normalisedOf};
-ghost use Rattle.slots.specs.Standing.{Standing};
+ghost use Rattle.slots.specs.code.Standing.{Standing};
 use crate::NormalAnswer;
 use crate::tables::normal_rows;
 use slots::Slotting;

@@ -4,8 +4,8 @@ ghost use mathlib.Core.Logic.{_≢_};
 ghost use mathlib.Core.List.{[]};
 ghost use Prim.Native.Nat.{_+_, _≤_, _<_, ℕ};
 ghost use lib.ListN.{length, getD, replicate};
-ghost use Rattle.normal.specs.Ordered.{firstOfPlace, runOf};
-ghost use Rattle.normal.specs.Emitted.{Stepped, allRows, keepIn, placeRows, Pushed, Walkable};
+ghost use Rattle.normal.specs.code.Ordered.{firstOfPlace, runOf};
+ghost use Rattle.normal.specs.code.Emitted.{Stepped, allRows, keepIn, placeRows, Pushed, Walkable};
 use crate::emit::push_place;
 use slots::wide;
 

@@ -5,7 +5,7 @@ ghost use lib.ListN.{length};
 ghost use Rattle.base.specs.Range.{all};
 ghost use Rattle.blocks.specs.Frame.{plain, zeroAt, usedOk, frameWrong};
 ghost use Rattle.blocks.specs.Faults.{blockFaults, first};
-ghost use Rattle.blocks.specs.Steps.{blockRow};
+ghost use Rattle.blocks.specs.code.ReadingSteps.{blockRow};
 use crate::bytes::word_at;
 use blocks::Finding;
 use blocks::check_at;

@@ -6,7 +6,7 @@ ghost use Rattle.blocks.specs.Frame.{plain, blocksIn, usedIn, totalIn};
 ghost use Rattle.blocks.specs.Entries.{limitOf, entriesOf};
 ghost use Rattle.blocks.specs.Faults.{entryFaults, first};
 ghost use Rattle.blocks.specs.Reading.{answer, readingOf};
-ghost use Rattle.blocks.specs.Steps.{blocksRead};
+ghost use Rattle.blocks.specs.code.ReadingSteps.{blocksRead};
 ghost use Rattle.blocks.specs.declared.Schema.{Schema};
 use crate::bytes::word_at;
 use crate::frame::first_block_fault;

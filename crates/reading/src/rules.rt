@@ -4,7 +4,7 @@ ghost use Prim.Native.Nat.{_+_, _*_, _/_, _≤_, _<_};
 ghost use lib.ListN.{length};
 ghost use Rattle.blocks.specs.Entries.{kindOk, nameOk, numberOk, formOk, owningKind, entriesOf};
 ghost use Rattle.blocks.specs.Faults.{entryFaults, first};
-ghost use Rattle.blocks.specs.Steps.{levelBy, entryRow, levelUnder};
+ghost use Rattle.blocks.specs.code.ReadingSteps.{levelBy, entryRow, levelUnder};
 use crate::bytes::entry_from;
 use crate::bytes::entry_pos;
 use blocks::Entry;

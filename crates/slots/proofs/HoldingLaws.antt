@@ -32,8 +32,8 @@ use Rattle.passes.proofs.Places.FormNormal.{form-top, top-bottom}
 use Rattle.passes.proofs.Places.Forms.{form, formed}
 use Rattle.passes.proofs.Slots.SlotLaws.{position-from}
 use Rattle.passes.proofs.Slots.SlotNumbers.{no-link-slot, no-slot, position-range, slot-lists, slot-owns}
-use Rattle.passes.specs.Slots.{Slot, inconsistent, isLink, position, slots, taken, value}
-use Rattle.slots.specs.States.{entrySlot, heldAt, heldIn, highAt, linkName, lowAt, slotFor, stateBelow, stateOf, supportedBy}
+use Rattle.passes.specs.code.Slots.{Slot, inconsistent, isLink, position, slots, taken, value}
+use Rattle.slots.specs.code.States.{entrySlot, heldAt, heldIn, highAt, linkName, lowAt, slotFor, stateBelow, stateOf, supportedBy}
 
 -- ---- the states
 

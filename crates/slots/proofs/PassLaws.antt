@@ -15,9 +15,9 @@ use Rattle.blocks.specs.Entries.{Bounded, entriesOf, nth, zeroEntry}
 use Rattle.blocks.specs.declared.Entry.{Entry}
 use Rattle.meaning.specs.Description.{rowOf}
 use Rattle.passes.proofs.Slots.SlotLaws.{slots-early}
-use Rattle.passes.specs.Keys.{SmallRows, SmallSlots, SmallTop}
-use Rattle.passes.specs.Slots.{EarlySlots, Slot, closed, inconsistent, nonempty, settled, slot}
-use Rattle.slots.specs.Tables.{Built, Placed, Settled, Settling, keyIn, lowPart, slotIn, slotsFrom}
+use Rattle.passes.specs.code.Keys.{SmallRows, SmallSlots, SmallTop}
+use Rattle.passes.specs.code.Slots.{EarlySlots, Slot, closed, inconsistent, nonempty, settled, slot}
+use Rattle.slots.specs.code.Tables.{Built, Placed, Settled, Settling, keyIn, lowPart, slotIn, slotsFrom}
 
 -- ---- slots of a table
 

@@ -24,12 +24,12 @@ use Rattle.logic.specs.Record.{bit, every}
 use Rattle.meaning.specs.Description.{rowOf}
 use Rattle.meaning.specs.Owned.{Owned}
 use Rattle.passes.proofs.Cells.Written.{kept}
-use Rattle.passes.specs.Slots.{Slot, inconsistent, settled, slot, slots}
+use Rattle.passes.specs.code.Slots.{Slot, inconsistent, settled, slot, slots}
 use Rattle.slots.proofs.HoldingLaws.{bottom-first, slots-first}
 use Rattle.slots.proofs.slots.TableLaws.{length-slots}
 use Rattle.slots.specs.Holding.{heldBy, holdingOf, holdingReturned, unheld}
-use Rattle.slots.specs.States.{Indexed, heldIn}
-use Rattle.slots.specs.Tables.{Chained}
+use Rattle.slots.specs.code.States.{Indexed, heldIn}
+use Rattle.slots.specs.code.Tables.{Chained}
 use Rattle.slots.specs.declared.Holding.the-variants.{All, Fails, Refused}
 
 -- ---- two inputs

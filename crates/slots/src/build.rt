@@ -4,7 +4,7 @@ ghost use mathlib.Core.Path.{_≡_};
 ghost use Prim.Native.Nat.{_≤_, _<_, max};
 ghost use lib.ListN.{length, replicate};
 ghost use Rattle.blocks.specs.Entries.{entriesOf};
-ghost use Rattle.slots.specs.Tables.{linkKind, lowKind, highKind, Built};
+ghost use Rattle.slots.specs.code.Tables.{linkKind, lowKind, highKind, Built};
 ghost use Rattle.meaning.specs.Owned.{Owned};
 use crate::slots::enter;
 use crate::slots::long;

@@ -3,9 +3,9 @@
 ghost use mathlib.Core.Path.{_≡_};
 ghost use Prim.Native.Nat.{_+_, _*_, _≤_, _<_, min, max};
 ghost use lib.ListN.{getD, set};
-ghost use Rattle.slots.specs.Chain.{scan};
-ghost use Rattle.passes.specs.Keys.{keyNumber};
-ghost use Rattle.slots.specs.Tables.{keyIn, lowPart, highPart, slotNumber, hashOf, Kept, Entered};
+ghost use Rattle.slots.specs.code.Chain.{scan};
+ghost use Rattle.passes.specs.code.Keys.{keyNumber};
+ghost use Rattle.slots.specs.code.Tables.{keyIn, lowPart, highPart, slotNumber, hashOf, Kept, Entered};
 
 // An entry or slot number as an index.
 pub fn wide(x: u16) -> usize

@@ -23,7 +23,7 @@ use Rattle.blocks.proofs.Format.WordBytes.{check-within, length-word}
 use Rattle.blocks.specs.Encoding.{blockBody, blockBytes, blockFront, blocksFor, bytesWritten, encodeFrom, encodeRows, joined, rowBytes, written}
 use Rattle.blocks.specs.Frame.{plain}
 use Rattle.blocks.specs.Words.{checkOf, wordBytes}
-use Rattle.writing.specs.Steps.{usedFor}
+use Rattle.writing.specs.code.WritingSteps.{usedFor}
 
 -- ---- rows
 

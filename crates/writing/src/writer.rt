@@ -7,7 +7,7 @@ ghost use Rattle.base.specs.Stores.{stored};
 ghost use Rattle.blocks.specs.Words.{wordBytes};
 ghost use Rattle.blocks.specs.Frame.{plain};
 ghost use Rattle.blocks.specs.Encoding.{joined, rowBytes, blockBytes, blocksFor, encodeFrom, bytesWritten, written};
-ghost use Rattle.writing.specs.Steps.{usedFor};
+ghost use Rattle.writing.specs.code.WritingSteps.{usedFor};
 use blocks::check_at;
 
 // Stores two bytes.

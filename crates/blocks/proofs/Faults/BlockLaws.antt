@@ -14,8 +14,8 @@ use Rattle.base.specs.Range.{all}
 use Rattle.blocks.proofs.Faults.FirstFault.{None, clean-none, step, step-found, step-more}
 use Rattle.blocks.specs.Faults.{blockFaults, first}
 use Rattle.blocks.specs.Frame.{Frame, checkWrong, frameWrong, plain, restZero, secondOk, usedIn, usedOk, zeroAt}
-use Rattle.blocks.specs.Steps.{blockRow}
 use Rattle.blocks.specs.Words.{checkOf, wordAt}
+use Rattle.blocks.specs.code.ReadingSteps.{blockRow}
 use Rattle.blocks.specs.declared.Finding.the-variants.{Clean, Faulty}
 
 -- ---- row 3, one law for each way through its tests

@@ -18,7 +18,7 @@ use Rattle.blocks.proofs.Faults.FirstFault.{step, step-found, step-more
 use Rattle.blocks.specs.Entries.{formOk, nth, owningKind}
 use Rattle.blocks.specs.Faults.{entryFaults, first}
 use Rattle.blocks.specs.Owners.{chain, depthOf, depthOk, ownerOf, ownerOk}
-use Rattle.blocks.specs.Steps.{entryRow, levelBy, levelOf, levelUnder}
+use Rattle.blocks.specs.code.ReadingSteps.{entryRow, levelBy, levelOf, levelUnder}
 use Rattle.blocks.specs.declared.Entry.{Entry}
 use Rattle.blocks.specs.declared.Finding.the-variants.{Clean, Faulty}
 use Rattle.blocks.specs.declared.Schema.{Schema}

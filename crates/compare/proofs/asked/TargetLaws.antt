@@ -13,8 +13,8 @@ use native.Mathlib.Omega.{arith}
 use Rattle.base.proofs.Tests.{bool-cases, eq-cases, eq-eqb, ge-ltb, lt-ltb, ne-eqb}
 use Rattle.blocks.specs.declared.Entry.{Entry}
 use Rattle.compare.proofs.path.PathLaws.{length-up}
-use Rattle.compare.specs.Codes.{targetAt, targetBelow, upFrom}
-use Rattle.compare.specs.Table.{nameOr}
+use Rattle.compare.specs.code.Codes.{targetAt, targetBelow, upFrom}
+use Rattle.compare.specs.code.Table.{nameOr}
 use Rattle.logic.specs.Place.{Atom, Kind, atom, has, kindOf, lacks, least, most, nothing}
 use Rattle.logic.specs.Witness.{linksAt, on, propertiesAt, targetLinks, targetProperties, want, wantAt}
 use Rattle.meaning.specs.Description.{atomOf}

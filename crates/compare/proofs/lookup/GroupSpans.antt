@@ -17,9 +17,9 @@ use Rattle.blocks.specs.declared.Schema.the-variants.{Description}
 use Rattle.compare.proofs.lookup.NameSpans.{name-at, names-extra, names-over, names-plain, names-under, number-at, span-inside, span-only, span-order, span-increasing}
 use Rattle.compare.proofs.table.Lookups.{find-some, match-first}
 use Rattle.compare.proofs.table.WordNames.{increasing-at}
-use Rattle.compare.specs.Codes.{codeBelow, groupAt, groupsAt, groupsFrom, propertiesAt, targetAt, targetBelow}
-use Rattle.compare.specs.Laying.{Joint, joint}
-use Rattle.compare.specs.Table.{Ranked, Table, keyOf, nameIn, namesFrom, numberIn, placeBelow}
+use Rattle.compare.specs.code.Codes.{codeBelow, groupAt, groupsAt, groupsFrom, propertiesAt, targetAt, targetBelow}
+use Rattle.compare.specs.code.Laying.{Joint, joint}
+use Rattle.compare.specs.code.Table.{Ranked, Table, keyOf, nameIn, namesFrom, numberIn, placeBelow}
 use Rattle.logic.proofs.Specimens.WitnessTree.{want-none}
 use Rattle.logic.specs.Background.{unrestricted}
 use Rattle.logic.specs.Canonical.{Canonical}

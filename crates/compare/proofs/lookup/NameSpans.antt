@@ -13,7 +13,7 @@ use Rattle.blocks.specs.declared.Schema.the-variants.{Description}
 use Rattle.compare.proofs.table.Lookups.{kind-range}
 use Rattle.compare.proofs.table.TablePlaces.{places-normal}
 use Rattle.compare.proofs.table.WordNames.{each-name, names-own, names-parts, own-span}
-use Rattle.compare.specs.Table.{Narrow, Ranked, Table, keyOf, nameIn, namesFrom, numberIn, wordOf}
+use Rattle.compare.specs.code.Table.{Narrow, Ranked, Table, keyOf, nameIn, namesFrom, numberIn, wordOf}
 use Rattle.logic.proofs.Specimens.IncreasingNames.{Increasing, all-around, all-increasing, kind-increasing, kindNames, names-all, onceAll}
 use Rattle.logic.specs.Background.{unrestricted}
 use Rattle.logic.specs.Canonical.{Ascending, Canonical, canonical}

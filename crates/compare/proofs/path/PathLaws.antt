@@ -13,7 +13,7 @@ use Rattle.base.proofs.Tests.{eq-eqb, ne-eqb}
 use Rattle.blocks.specs.Entries.{nth}
 use Rattle.blocks.specs.Owners.{ownerOf}
 use Rattle.blocks.specs.declared.Entry.{Entry}
-use Rattle.compare.specs.Codes.{upFrom}
+use Rattle.compare.specs.code.Codes.{upFrom}
 use Rattle.meaning.proofs.Descriptions.Links.{links-into, linksInto}
 use Rattle.meaning.specs.Description.{linksTo}
 use Rattle.meaning.specs.Owned.{Owned}

@@ -10,9 +10,9 @@ use Rattle.base.proofs.Tests.{eq-cases, ne-eqb}
 use Rattle.blocks.specs.declared.Entry.{Entry}
 use Rattle.compare.proofs.places.SpanLaws.{around-none, leaf-numbers}
 use Rattle.compare.proofs.specimen.WalkingLaws.{numbers-length}
-use Rattle.compare.specs.Codes.{Writable, askedBy, groupsWith, jointsBy, leastFor, specimenNumber, targetAt, targetBelow, upFrom}
-use Rattle.compare.specs.Laying.{Joint, Placed, Pushed, codes, joint, jointRows, leafRows, placeNumbers}
-use Rattle.compare.specs.Table.{around, entriesIn, nameOr, placeBelow}
+use Rattle.compare.specs.code.Codes.{Writable, askedBy, groupsWith, jointsBy, leastFor, specimenNumber, targetAt, targetBelow, upFrom}
+use Rattle.compare.specs.code.Laying.{Joint, Placed, Pushed, codes, joint, jointRows, leafRows, placeNumbers}
+use Rattle.compare.specs.code.Table.{around, entriesIn, nameOr, placeBelow}
 use Rattle.logic.specs.SpecimenTree.{Group, group}
 use Rattle.logic.specs.Witness.{targetLinks, want}
 use Rattle.meaning.specs.Description.{atomOf}

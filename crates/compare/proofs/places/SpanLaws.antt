@@ -11,9 +11,9 @@ use native.Mathlib.Omega.{arith}
 use Rattle.base.proofs.Tests.{bool-cases, eq-cases, eq-eqb, ge-ltb, lt-cases, lt-ltb, ltb-ge, ltb-lt, ne-eqb}
 use Rattle.blocks.specs.declared.Entry.{Entry}
 use Rattle.compare.proofs.specimen.LaidLaws.{codes-length}
-use Rattle.compare.specs.Codes.{groupsFrom, specimenNumber}
-use Rattle.compare.specs.Laying.{Joint, Placed, Pushed, codes, joint, jointRows, leafRows}
-use Rattle.compare.specs.Table.{Ranked, Rising, around, namesFrom, rankOf}
+use Rattle.compare.specs.code.Codes.{groupsFrom, specimenNumber}
+use Rattle.compare.specs.code.Laying.{Joint, Placed, Pushed, codes, joint, jointRows, leafRows}
+use Rattle.compare.specs.code.Table.{Ranked, Rising, around, namesFrom, rankOf}
 use Rattle.logic.specs.SpecimenTree.{Group, group}
 use Rattle.logic.specs.Tree.{leafRow, nodeRow}
 use Rattle.normal.proofs.FillLaws.{joined-more, filled-more}

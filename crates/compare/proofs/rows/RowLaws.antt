@@ -8,9 +8,9 @@ use native.Mathlib.Numerals.{add-one}
 use native.Mathlib.Omega.{arith}
 use Rattle.base.proofs.Range.{none-left, one-left}
 use Rattle.blocks.specs.declared.Entry.{Entry}
-use Rattle.compare.specs.Codes.{groupsFrom, specimenNumber}
-use Rattle.compare.specs.Laying.{Joint, Placed, codes, joint, jointRows}
-use Rattle.compare.specs.Table.{nameIn, namesFrom, numberIn, placeBelow}
+use Rattle.compare.specs.code.Codes.{groupsFrom, specimenNumber}
+use Rattle.compare.specs.code.Laying.{Joint, Placed, codes, joint, jointRows}
+use Rattle.compare.specs.code.Table.{nameIn, namesFrom, numberIn, placeBelow}
 use Rattle.logic.specs.SpecimenTree.{Group, group}
 use Rattle.logic.specs.Tree.{nodeRow}
 use Rattle.normal.proofs.FillLaws.{joined-more}

@@ -6,11 +6,11 @@ use mathlib.Core.List.{List, [], _++_, _∷_}
 use mathlib.Core.Path.{_∙_, _≡_, ap, refl}
 use native.Mathlib.Nat.{add-zero}
 use native.Mathlib.Omega.{arith}
-use Rattle.compare.specs.Laying.{Joint, codes, joint, jointRows, joints, leafRows, leaves}
+use Rattle.compare.specs.code.Laying.{Joint, codes, joint, jointRows, joints, leafRows, leaves}
 use Rattle.logic.proofs.TreeRows.LayoutLaws.{load, load-later}
 use Rattle.logic.specs.Layout.{Queue, done, job, later, lay, weight}
 use Rattle.logic.specs.Tree.{Row, Tree, leafRow, nodeRow}
-use Rattle.normal.specs.Filling.{laterEach}
+use Rattle.normal.specs.code.Filling.{laterEach}
 
 -- ---- one code for each node
 

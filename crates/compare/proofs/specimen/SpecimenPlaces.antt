@@ -18,9 +18,9 @@ use Rattle.blocks.specs.declared.Entry.{Entry}
 use Rattle.blocks.specs.declared.Schema.the-variants.{Description}
 use Rattle.compare.proofs.table.Lookups.{match-within, sub-place}
 use Rattle.compare.proofs.table.TablePlaces.{places-normal}
-use Rattle.compare.specs.Codes.{codeBelow, groupsAt, propertiesAt, targetAt, targetBelow, treeAt}
-use Rattle.compare.specs.Laying.{codes, joint, joints, leaves}
-use Rattle.compare.specs.Table.{Table, entryFor, placeBelow}
+use Rattle.compare.specs.code.Codes.{codeBelow, groupsAt, propertiesAt, targetAt, targetBelow, treeAt}
+use Rattle.compare.specs.code.Laying.{codes, joint, joints, leaves}
+use Rattle.compare.specs.code.Table.{Table, entryFor, placeBelow}
 use Rattle.logic.proofs.Specimens.Names.{member-names}
 use Rattle.logic.proofs.Specimens.WitnessTree.{below-witness}
 use Rattle.logic.specs.Background.{unrestricted}

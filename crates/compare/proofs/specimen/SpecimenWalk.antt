@@ -11,9 +11,9 @@ use Rattle.blocks.specs.declared.Entry.{Entry}
 use Rattle.compare.proofs.path.PathLaws.{length-up}
 use Rattle.compare.proofs.specimen.SpecimenPlaces.{codes-good}
 use Rattle.compare.proofs.specimen.WalkingLaws.{Walking, top-room, walking-done, walking-next, walking-place, walking-room, walking-start}
-use Rattle.compare.specs.Codes.{OnPath, PlacedBy, Stepped, Writable, jointsBy, numbersBy, propertiesBy, specimenNumber, treeBy, upFrom}
-use Rattle.compare.specs.Laying.{Joint, codes, joints, leaves}
-use Rattle.compare.specs.Table.{entriesIn}
+use Rattle.compare.specs.code.Codes.{OnPath, PlacedBy, Stepped, Writable, jointsBy, numbersBy, propertiesBy, specimenNumber, treeBy, upFrom}
+use Rattle.compare.specs.code.Laying.{Joint, codes, joints, leaves}
+use Rattle.compare.specs.code.Table.{entriesIn}
 use Rattle.logic.specs.Layout.{write}
 use Rattle.logic.specs.SpecimenTree.{Group, SpecimenTree}
 use Rattle.meaning.specs.Description.{atomOf}

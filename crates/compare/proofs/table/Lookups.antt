@@ -15,7 +15,7 @@ use Rattle.blocks.specs.Entries.{formOk, nth, zeroEntry}
 use Rattle.blocks.specs.Owners.{ownerOf}
 use Rattle.blocks.specs.declared.Entry.{Entry}
 use Rattle.blocks.specs.declared.Schema.the-variants.{Description}
-use Rattle.compare.specs.Table.{entryFor, firstMatch, placeBelow}
+use Rattle.compare.specs.code.Table.{entryFor, firstMatch, placeBelow}
 use Rattle.logic.specs.Normal.{find, rank, sub}
 use Rattle.logic.specs.Place.{Kind, has, kindOf, lacks, least, most, nothing}
 use Rattle.logic.specs.Tree.{Early, end, tree}

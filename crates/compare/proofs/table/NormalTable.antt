@@ -15,7 +15,7 @@ use Rattle.blocks.specs.Owners.{ownerOf}
 use Rattle.blocks.specs.declared.Entry.{Entry}
 use Rattle.blocks.specs.declared.Schema.the-variants.{Description}
 use Rattle.compare.proofs.table.Lookups.{kind-range}
-use Rattle.compare.specs.Table.{Narrow, Table, Unpacked, wordOf}
+use Rattle.compare.specs.code.Table.{Narrow, Table, Unpacked, wordOf}
 use Rattle.logic.proofs.NormalForm.Normal.{alive}
 use Rattle.logic.proofs.OneMeaning.Plain.{plain-normal}
 use Rattle.logic.proofs.Records.Kept.{lawful-unrestricted}

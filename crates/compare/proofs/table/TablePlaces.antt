@@ -15,7 +15,7 @@ use Rattle.blocks.specs.Owners.{ownerOf}
 use Rattle.blocks.specs.declared.Entry.{Entry}
 use Rattle.blocks.specs.declared.Schema.the-variants.{Description}
 use Rattle.compare.proofs.table.Lookups.{match-first, sub-some, tree-none}
-use Rattle.compare.specs.Table.{Table, entryFor, wordOf}
+use Rattle.compare.specs.code.Table.{Table, entryFor, wordOf}
 use Rattle.logic.proofs.NormalForm.Normal.{canonical-end, canonical-sub}
 use Rattle.logic.proofs.Records.Kept.{lawful-unrestricted}
 use Rattle.logic.specs.Background.{unrestricted}

@@ -12,7 +12,7 @@ use Rattle.base.proofs.Tests.{and-both, and-left, and-right, bool-cases, both-w
 use Rattle.blocks.specs.Entries.{zeroEntry}
 use Rattle.blocks.specs.declared.Entry.{Entry}
 use Rattle.compare.proofs.table.Lookups.{rank-kind, rank-other}
-use Rattle.compare.specs.Table.{nameIn, namesFrom}
+use Rattle.compare.specs.code.Table.{nameIn, namesFrom}
 use Rattle.logic.proofs.Specimens.IncreasingNames.{Increasing, kindNames}
 use Rattle.logic.proofs.Specimens.WitnessFields.{AllNames}
 use Rattle.logic.specs.Normal.{rank}

@@ -19,7 +19,7 @@ use Rattle.compare.proofs.Answer.{not-contained-means}
 use Rattle.compare.proofs.AnswerLaws.{Comparable, compared, verdict-not}
 use Rattle.compare.proofs.verdict.WritableLaws.{Tables, tables-shown, tables-specimen, tables-tree}
 use Rattle.compare.specs.Answer.{compareOf, outputAfter, outputOf}
-use Rattle.compare.specs.Codes.{treeBy, upFrom}
+use Rattle.compare.specs.code.Codes.{treeBy, upFrom}
 use Rattle.compare.specs.declared.Comparison.the-variants.{NotContained}
 use Rattle.logic.proofs.NormalForm.Fields.{Fields}
 use Rattle.logic.proofs.Specimens.WitnessFields.{AllNames, SpecimenFields, TargetFields, witness-fields}

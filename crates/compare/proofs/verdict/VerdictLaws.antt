@@ -30,9 +30,9 @@ use Rattle.compare.proofs.AnswerLaws.{Comparable, compared, first-refus
 use Rattle.compare.proofs.verdict.SpecimenWritten.{specimen-written, tables-bounded}
 use Rattle.compare.proofs.verdict.WritableLaws.{Tables, tables-numbers, tables-writable}
 use Rattle.compare.specs.Answer.{compareOf, outputAfter, outputOf, verdict}
-use Rattle.compare.specs.Codes.{Writable, specimenNumber, treeBy, upFrom}
-use Rattle.compare.specs.Prepared.{Denied, NormalOf, Prepared}
-use Rattle.compare.specs.Table.{Unpacked}
+use Rattle.compare.specs.code.Codes.{Writable, specimenNumber, treeBy, upFrom}
+use Rattle.compare.specs.code.Prepared.{Denied, NormalOf, Prepared}
+use Rattle.compare.specs.code.Table.{Unpacked}
 use Rattle.compare.specs.declared.Comparison.{Comparison}
 use Rattle.compare.specs.declared.Comparison.the-variants.{Contained, NotContained, Refused}
 use Rattle.logic.specs.Background.{unrestricted}

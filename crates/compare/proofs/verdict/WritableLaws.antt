@@ -22,8 +22,8 @@ use Rattle.compare.proofs.places.SpanLaws.{around-none, around-some, ra
 use Rattle.compare.proofs.specimen.SpecimenPlaces.{tree-places}
 use Rattle.compare.proofs.table.Lookups.{find-none, find-some}
 use Rattle.compare.proofs.table.NormalTable.{normal-canonical, normal-table}
-use Rattle.compare.specs.Codes.{Writable, askedBy, codeBelow, groupAt, groupsWith, jointsBy, leastFor, propertiesBy, specimenNumber, targetAt, treeAt, treeBy, upFrom}
-use Rattle.compare.specs.Table.{Formed, Narrow, Ranked, Table, Unpacked, entriesFrom, entriesIn, entryFor, entryIn, keyOf, nameIn, nameOr, namesWith, numberIn, spanFrom, wordOf}
+use Rattle.compare.specs.code.Codes.{Writable, askedBy, codeBelow, groupAt, groupsWith, jointsBy, leastFor, propertiesBy, specimenNumber, targetAt, treeAt, treeBy, upFrom}
+use Rattle.compare.specs.code.Table.{Formed, Narrow, Ranked, Table, Unpacked, entriesFrom, entriesIn, entryFor, entryIn, keyOf, nameIn, nameOr, namesWith, numberIn, spanFrom, wordOf}
 use Rattle.logic.specs.Background.{unrestricted}
 use Rattle.logic.specs.Canonical.{Canonical}
 use Rattle.logic.specs.Layout.{write}

@@ -14,8 +14,8 @@ use Rattle.blocks.specs.declared.Entry.{Entry}
 use Rattle.blocks.specs.declared.Schema.{Schema}
 use Rattle.blocks.specs.declared.Schema.the-variants.{Specimen}
 use Rattle.fit.proofs.index.BucketLaws.{all-bucket, elsewhere, sum-bucket}
-use Rattle.fit.specs.Groups.{givesProperty, hasProperty, itemsBy, totalBy}
-use Rattle.fit.specs.Index.{Ready, bucketOf, hashOf, isOf}
+use Rattle.fit.specs.code.Groups.{givesProperty, hasProperty, itemsBy, totalBy}
+use Rattle.fit.specs.code.Index.{Ready, bucketOf, hashOf, isOf}
 use Rattle.meaning.specs.Owned.{allWhere, sumWhere}
 
 -- what was worked out of the entry that was read is true of entry k of the list

@@ -13,7 +13,7 @@ use Rattle.blocks.specs.Owners.{ownerOf}
 use Rattle.blocks.specs.declared.Entry.{Entry}
 use Rattle.blocks.specs.declared.Schema.{Schema}
 use Rattle.blocks.specs.declared.Schema.the-variants.{Description, Specimen}
-use Rattle.fit.specs.Index.{Ordered, bucketIn, bucketOf, hashOf}
+use Rattle.fit.specs.code.Index.{Ordered, bucketIn, bucketOf, hashOf}
 use Rattle.meaning.specs.Owned.{allWhere, sumWhere}
 
 -- ---- there are 2,017

@@ -14,7 +14,7 @@ use native.Mathlib.Omega.{arith}
 use Rattle.base.proofs.Tests.{bool-cases, eq-cases, eq-eqb, eqb-eq, or-one, tests}
 use Rattle.blocks.specs.Entries.{entriesOf}
 use Rattle.blocks.specs.declared.Schema.{Schema}
-use Rattle.fit.specs.Index.{Indexed, Ready, bucketOf, lastWhere}
+use Rattle.fit.specs.code.Index.{Indexed, Ready, bucketOf, lastWhere}
 use Rattle.meaning.specs.Owned.{allWhere, sumWhere}
 
 module _ (c : ℕ → ℕ) where

@@ -15,8 +15,8 @@ use Rattle.blocks.specs.declared.Entry.{Entry}
 use Rattle.blocks.specs.declared.Schema.the-variants.{Specimen}
 use Rattle.fit.proofs.groups.GroupLaws.{owned-else, owned-here}
 use Rattle.fit.proofs.index.BucketLaws.{all-bucket, elsewhere}
-use Rattle.fit.specs.Groups.{fitsPlace, groupsBy, isGroup, meetsAtom, meetsEntry}
-use Rattle.fit.specs.Index.{Ready, bucketOf, hashOf, isOf}
+use Rattle.fit.specs.code.Groups.{fitsPlace, groupsBy, isGroup, meetsAtom, meetsEntry}
+use Rattle.fit.specs.code.Index.{Ready, bucketOf, hashOf, isOf}
 use Rattle.meaning.specs.Owned.{allOwned, allWhere}
 
 pub meets-bottom : (left : ℕ) (s d : List Entry) (g e : ℕ) → left ≡ 0 → true ≡ meetsEntry left s d g e

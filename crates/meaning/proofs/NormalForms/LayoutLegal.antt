@@ -15,7 +15,7 @@ use Rattle.blocks.proofs.Faults.Legal.{Legal}
 use Rattle.blocks.proofs.Faults.LevelLaws.{depth-top, depth-under}
 use Rattle.blocks.specs.Entries.{formOk, nth, owningKind, zeroEntry}
 use Rattle.blocks.specs.Owners.{depthOf, depthOk, ownerOf, ownerOk}
-use Rattle.blocks.specs.Steps.{levelOf}
+use Rattle.blocks.specs.code.ReadingSteps.{levelOf}
 use Rattle.blocks.specs.declared.Entry.{Entry}
 use Rattle.blocks.specs.declared.Schema.{Schema}
 use Rattle.logic.proofs.TreeRows.LayoutLaws.{write-early}

@@ -13,10 +13,10 @@ use Rattle.base.proofs.Tests.{bool-cases}
 use Rattle.logic.specs.Layout.{Queue, done, job, later}
 use Rattle.logic.specs.Place.{Atom, Kind, atom, has, lacks, least, most}
 use Rattle.logic.specs.Tree.{Row, leafRow, nodeRow}
-use Rattle.normal.specs.Emitted.{atomRows, everyRows, everySlots, kindRows}
-use Rattle.normal.specs.Filling.{laterEach}
-use Rattle.passes.specs.Pipeline.{outEvery, outKind, walk}
-use Rattle.passes.specs.Slots.{Cell, cell, isLink, sameClass, value}
+use Rattle.normal.specs.code.Emitted.{atomRows, everyRows, everySlots, kindRows}
+use Rattle.normal.specs.code.Filling.{laterEach}
+use Rattle.passes.specs.code.Pipeline.{outEvery, outKind, walk}
+use Rattle.passes.specs.code.Slots.{Cell, cell, isLink, sameClass, value}
 
 -- ---- one kind
 

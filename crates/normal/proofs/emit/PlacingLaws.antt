@@ -14,10 +14,10 @@ use Rattle.logic.specs.Normal.{atMost}
 use Rattle.logic.specs.Place.{has, lacks, least, most}
 use Rattle.normal.proofs.FillLaws.{joined-none, joined-one, noted-append, noted-length}
 use Rattle.normal.proofs.emit.PushLaws.{Pushing, part-room, pushed-more, pushed-total, pushing-done, pushing-more, pushing-room, pushing-start}
-use Rattle.normal.specs.Emitted.{Placing, Pushed, atomRows, cellName, cellSlot, everyRows, everySlots, keepCell, kindRows, packedOf, placeRows}
-use Rattle.normal.specs.Filling.{noted}
-use Rattle.passes.specs.Slots.{Cell, cell}
-use Rattle.slots.specs.Tables.{highIn}
+use Rattle.normal.specs.code.Emitted.{Placing, Pushed, atomRows, cellName, cellSlot, everyRows, everySlots, keepCell, kindRows, packedOf, placeRows}
+use Rattle.normal.specs.code.Filling.{noted}
+use Rattle.passes.specs.code.Slots.{Cell, cell}
+use Rattle.slots.specs.code.Tables.{highIn}
 
 -- ---- the 'every' rows of one cell and of the others
 

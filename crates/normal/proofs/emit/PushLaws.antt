@@ -14,10 +14,10 @@ use Rattle.logic.specs.Normal.{rank}
 use Rattle.logic.specs.Place.{Atom, Kind, atom, has, kindOf, lacks, least, most, nothing}
 use Rattle.logic.specs.Tree.{Row, leafRow}
 use Rattle.normal.proofs.FillLaws.{filled-more, filled-none, filled-one}
-use Rattle.normal.specs.Emitted.{Pushed, cellName, cellValue, kindRows, packedOf, rowNumber, rowsIf, valueNumber}
-use Rattle.normal.specs.Ordered.{runFrom, tagCell, tagPlace, tagSlot}
-use Rattle.passes.specs.Slots.{Cell, cell, isLink, sameClass, value}
-use Rattle.slots.specs.Tables.{highIn, highPart, lowPart}
+use Rattle.normal.specs.code.Emitted.{Pushed, cellName, cellValue, kindRows, packedOf, rowNumber, rowsIf, valueNumber}
+use Rattle.normal.specs.code.Ordered.{runFrom, tagCell, tagPlace, tagSlot}
+use Rattle.passes.specs.code.Slots.{Cell, cell, isLink, sameClass, value}
+use Rattle.slots.specs.code.Tables.{highIn, highPart, lowPart}
 
 -- ---- rows after rows
 

@@ -14,11 +14,11 @@ use Rattle.logic.specs.Tree.{Row, tree}
 use Rattle.normal.proofs.ordering.RunLaws.{run-part}
 use Rattle.normal.proofs.ordering.TagLaws.{tags-table}
 use Rattle.normal.proofs.ordering.TagOrder.{numbers-many, places-rise, tags-same, tags-same-back, tags-sorted}
-use Rattle.normal.specs.Ordered.{firstOfPlace, runFrom, runOf, tagIn, tagNumbers}
+use Rattle.normal.specs.code.Ordered.{firstOfPlace, runFrom, runOf, tagIn, tagNumbers}
 use Rattle.passes.proofs.Rows.Parts.{normal-sorted}
-use Rattle.passes.specs.Pipeline.{enoughFor, part, rowsFrom}
-use Rattle.passes.specs.Slots.{settled, slots}
-use Rattle.slots.specs.Tables.{keyIn, slotsFrom}
+use Rattle.passes.specs.code.Pipeline.{enoughFor, part, rowsFrom}
+use Rattle.passes.specs.code.Slots.{settled, slots}
+use Rattle.slots.specs.code.Tables.{keyIn, slotsFrom}
 use Rattle.sorting.specs.Sorted.{sorted}
 
 -- the cells of each place are those of the sorted tags

@@ -9,9 +9,9 @@ use native.Mathlib.Omega.{arith}
 use Rattle.base.proofs.Lists.{holds-self, listed, part-eq}
 use Rattle.base.proofs.Tests.{eq-cases, eq-eqb, ne-eqb}
 use Rattle.base.specs.Search.{firstFrom}
-use Rattle.normal.specs.Ordered.{firstOfPlace, runFrom, tagCell, tagIn, tagPlace}
-use Rattle.passes.specs.Pipeline.{part}
-use Rattle.passes.specs.Slots.{Cell}
+use Rattle.normal.specs.code.Ordered.{firstOfPlace, runFrom, tagCell, tagIn, tagPlace}
+use Rattle.passes.specs.code.Pipeline.{part}
+use Rattle.passes.specs.code.Slots.{Cell}
 
 module _ (t z : List ℕ) (v : ℕ) where
   -- the place of the number at an index

@@ -6,10 +6,10 @@ use mathlib.Core.Path.{_∙_, _≡_, refl}
 use native.Mathlib.Omega.{arith}
 use lib.ListN.{getD, length}
 use Rattle.base.proofs.Split.{place-of, row-of}
-use Rattle.normal.specs.Ordered.{tagCell, tagIn, tagNumber, tagNumbers, tagPlace, tagSlot}
-use Rattle.passes.specs.Pipeline.{Tag, tag, tags}
-use Rattle.passes.specs.Slots.{Slot, cell, settled, slot}
-use Rattle.slots.specs.Tables.{keyIn, slotIn, slotsFrom}
+use Rattle.normal.specs.code.Ordered.{tagCell, tagIn, tagNumber, tagNumbers, tagPlace, tagSlot}
+use Rattle.passes.specs.code.Pipeline.{Tag, tag, tags}
+use Rattle.passes.specs.code.Slots.{Slot, cell, settled, slot}
+use Rattle.slots.specs.code.Tables.{keyIn, slotIn, slotsFrom}
 
 -- ---- a number taken apart
 

@@ -13,10 +13,10 @@ use Rattle.base.proofs.Tests.{bool-cases, both-ways, ltb-lt, tests}
 use Rattle.base.specs.Sorted.{Sorted}
 use Rattle.normal.proofs.ordering.Rising.{Different, sorted-map, sorted-rising, within-map}
 use Rattle.normal.proofs.ordering.TagLaws.{length-numbers, number-key, number-slot}
-use Rattle.normal.specs.Ordered.{tagCell, tagIn, tagNumber, tagNumbers, tagPlace, tagSlot}
+use Rattle.normal.specs.code.Ordered.{tagCell, tagIn, tagNumber, tagNumbers, tagPlace, tagSlot}
 use Rattle.passes.proofs.Slots.KeyLaws.{key-below, key-parts}
-use Rattle.passes.specs.Pipeline.{beforeTag}
-use Rattle.slots.specs.Tables.{keyIn}
+use Rattle.passes.specs.code.Pipeline.{beforeTag}
+use Rattle.slots.specs.code.Tables.{keyIn}
 use Rattle.sorting.proofs.Elements.{member-of-sorted, member-sorted}
 use Rattle.sorting.proofs.Sorted.{length-sorted, sorted-ascending}
 use Rattle.sorting.specs.Sorted.{sorted}

@@ -20,11 +20,11 @@ use Rattle.normal.proofs.FillLaws.{Codes, filled-anew, filled-none, not
 use Rattle.normal.proofs.emit.EmitLaws.{walk-done, walk-place}
 use Rattle.normal.proofs.emit.PlacingLaws.{every-length}
 use Rattle.normal.proofs.emit.PushLaws.{Pushing, part-room, pushed-total, pushing-done, pushing-more, pushing-room, pushing-same}
-use Rattle.normal.specs.Emitted.{Placing, Pushed, Walkable, allRows, atomRows, everyRows, everySlots, keepCell, placeRows}
-use Rattle.normal.specs.Filling.{laterEach, queueFrom}
-use Rattle.normal.specs.Ordered.{firstOfPlace, otherPlace, runFrom, runOf, tagCell, tagPlace, tagSlot}
-use Rattle.passes.specs.Pipeline.{walk}
-use Rattle.passes.specs.Slots.{Cell}
+use Rattle.normal.specs.code.Emitted.{Placing, Pushed, Walkable, allRows, atomRows, everyRows, everySlots, keepCell, placeRows}
+use Rattle.normal.specs.code.Filling.{laterEach, queueFrom}
+use Rattle.normal.specs.code.Ordered.{firstOfPlace, otherPlace, runFrom, runOf, tagCell, tagPlace, tagSlot}
+use Rattle.passes.specs.code.Pipeline.{walk}
+use Rattle.passes.specs.code.Slots.{Cell}
 
 -- ---- slots that are noted
 

@@ -16,8 +16,8 @@ use Rattle.logic.proofs.Places.Order.{before-not, before-total, before-trans}
 use Rattle.logic.specs.Record.{bit}
 use Rattle.passes.proofs.Cells.WrittenPasses.{allCells}
 use Rattle.passes.proofs.Slots.SlotLaws.{exchange, name-class, name-eq}
-use Rattle.passes.specs.Pipeline.{beforeCell}
-use Rattle.passes.specs.Slots.{Cell, DistinctSlots, Slot, cell, cells, lookup, sameKey, sameName, slot, standsAt, taken}
+use Rattle.passes.specs.code.Pipeline.{beforeCell}
+use Rattle.passes.specs.code.Slots.{Cell, DistinctSlots, Slot, cell, cells, lookup, sameKey, sameName, slot, standsAt, taken}
 
 -- ---- the order of cells
 

@@ -15,8 +15,8 @@ use Rattle.logic.specs.Place.{Kind, Place, atom, has, lacks, least, most}
 use Rattle.logic.specs.Record.{bit}
 use Rattle.logic.specs.Tree.{end, leaf, node}
 use Rattle.passes.proofs.Slots.SlotLaws.{class-eq}
-use Rattle.passes.specs.Pipeline.{beforeCell}
-use Rattle.passes.specs.Slots.{Cell, cell, isLink, sameClass, value}
+use Rattle.passes.specs.code.Pipeline.{beforeCell}
+use Rattle.passes.specs.code.Slots.{Cell, cell, isLink, sameClass, value}
 
 -- ---- the place
 

@@ -17,8 +17,8 @@ use Rattle.logic.specs.Record.{bit}
 use Rattle.logic.specs.Tree.{end}
 use Rattle.passes.proofs.Cells.Written.{kept, leafIf, ofEvery, ofKind, written}
 use Rattle.passes.proofs.Slots.SlotLaws.{class-eq}
-use Rattle.passes.specs.Pipeline.{beforeCell}
-use Rattle.passes.specs.Slots.{Cell, cell, highOf, isLink, lookup, lowOf, sameClass, sameName, value}
+use Rattle.passes.specs.code.Pipeline.{beforeCell}
+use Rattle.passes.specs.code.Slots.{Cell, cell, highOf, isLink, lookup, lowOf, sameClass, sameName, value}
 
 -- the place below a cell; nothing is owned where there is none, or where the link is at most 0
 abbrev pub below : (ℕ → Place) → Option Cell → Place

@@ -16,7 +16,7 @@ use Rattle.logic.specs.Tree.{end, leaf, node}
 use Rattle.passes.proofs.Cells.Written.{kept, written}
 use Rattle.passes.proofs.Cells.WrittenPasses.{allCells, cellPasses, cells-ext, ifListed, passes, written-passes}
 use Rattle.passes.proofs.Slots.SlotBounds.{below-true, capped, eachBelow, inside}
-use Rattle.passes.specs.Slots.{Cell, cell, value}
+use Rattle.passes.specs.code.Slots.{Cell, cell, value}
 
 -- ---- when it is empty
 

@@ -20,8 +20,8 @@ use Rattle.passes.proofs.Cells.Written.{kept, written, written-ascendin
 use Rattle.passes.proofs.Cells.WrittenLists.{below, written-find, written-sub}
 use Rattle.passes.proofs.Cells.WrittenPasses.{allCells}
 use Rattle.passes.proofs.Places.FormMeaning.{cellWhole}
-use Rattle.passes.specs.Pipeline.{beforeCell}
-use Rattle.passes.specs.Slots.{Cell, broken, cell, highOf, lookup, lowOf, value}
+use Rattle.passes.specs.code.Pipeline.{beforeCell}
+use Rattle.passes.specs.code.Slots.{Cell, broken, cell, highOf, lookup, lowOf, value}
 
 all-member : (p : Cell → Bool) (q : List Cell) → allCells p q ≡ true → (c : Cell) → List·Memᴰ c q → p c ≡ true
 unfolding allCells

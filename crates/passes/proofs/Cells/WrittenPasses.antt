@@ -9,7 +9,7 @@ use Rattle.base.proofs.Tests.{and-swap, bool-cases}
 use Rattle.logic.specs.Place.{Atom, Kind, Place, atom, has, lacks, least, most}
 use Rattle.logic.specs.Tree.{end, leaf, node}
 use Rattle.passes.proofs.Cells.Written.{kept, leafIf, ofEvery, ofKind, written}
-use Rattle.passes.specs.Slots.{Cell, cell, isLink, sameClass, value}
+use Rattle.passes.specs.code.Slots.{Cell, cell, isLink, sameClass, value}
 
 -- each cell passes
 unfoldable pub allCells : (Cell → Bool) → List Cell → Bool

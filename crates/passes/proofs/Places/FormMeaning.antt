@@ -19,7 +19,7 @@ use Rattle.passes.proofs.Cells.WrittenPasses.{allCells}
 use Rattle.passes.proofs.Places.Forms.{Formed, formed-here, formed-next}
 use Rattle.passes.proofs.Slots.SlotBounds.{capped, eachBelow, inside}
 use Rattle.passes.proofs.Slots.SlotMeaning.{asks}
-use Rattle.passes.specs.Slots.{Cell, EarlySlots, Slot, broken, cell, cells, closed, inconsistent, nonempty, settled, slot}
+use Rattle.passes.specs.code.Slots.{Cell, EarlySlots, Slot, broken, cell, cells, closed, inconsistent, nonempty, settled, slot}
 
 either : (a d : Bool) → (a || not d) ≡ not (not a && d)
 either true d = refl

@@ -29,8 +29,8 @@ use Rattle.passes.proofs.Places.FormMeaning.{cellWhole, cells-mean, cel
 use Rattle.passes.proofs.Places.Forms.{Formed, form, form-written, formed-here, formed-next}
 use Rattle.passes.proofs.Slots.BuildSound.{slots-sound}
 use Rattle.passes.proofs.Slots.SlotLaws.{slots-distinct, slots-early}
-use Rattle.passes.specs.Pipeline.{beforeCell, sortedCells}
-use Rattle.passes.specs.Slots.{Cell, DistinctSlots, EarlySlots, Slot, cell, cells, closed, inconsistent, isLink, lookup, nonempty, settled, slot, slots}
+use Rattle.passes.specs.code.Pipeline.{beforeCell, sortedCells}
+use Rattle.passes.specs.code.Slots.{Cell, DistinctSlots, EarlySlots, Slot, cell, cells, closed, inconsistent, isLink, lookup, nonempty, settled, slot, slots}
 
 -- ---- normal places
 

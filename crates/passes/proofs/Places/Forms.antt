@@ -13,8 +13,8 @@ use Rattle.logic.specs.Place.{Place}
 use Rattle.logic.specs.Tree.{end}
 use Rattle.passes.proofs.Cells.CellLaws.{cells-from, cells-skip}
 use Rattle.passes.proofs.Cells.Written.{ofEvery, ofKind, written, written-agree}
-use Rattle.passes.specs.Pipeline.{beforeCell, sortedCells}
-use Rattle.passes.specs.Slots.{EarlySlots, Slot, cell, cells}
+use Rattle.passes.specs.code.Pipeline.{beforeCell, sortedCells}
+use Rattle.passes.specs.code.Slots.{EarlySlots, Slot, cell, cells}
 
 -- the place below slot j, for the slots that count from k
 unfoldable pub formed : ℕ → List Slot → ℕ → Place

@@ -23,8 +23,8 @@ use Rattle.passes.proofs.Places.FormNormal.{form-nonempty, form-top, to
 use Rattle.passes.proofs.Places.Forms.{form, form-written}
 use Rattle.passes.proofs.Rows.WalkLaws.{walk-writes}
 use Rattle.passes.proofs.Slots.SlotLaws.{slots-distinct, slots-early}
-use Rattle.passes.specs.Pipeline.{beforeCell, enoughFor, keeping, normalRows, rowsFrom, sortedCells}
-use Rattle.passes.specs.Slots.{Cell, Slot, cells, inconsistent, slots}
+use Rattle.passes.specs.code.Pipeline.{beforeCell, enoughFor, keeping, normalRows, rowsFrom, sortedCells}
+use Rattle.passes.specs.code.Slots.{Cell, Slot, cells, inconsistent, slots}
 
 module _ (rs : List (Row Atom ℕ)) where
   abbrev ss : List Slot

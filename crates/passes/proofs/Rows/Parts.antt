@@ -15,8 +15,8 @@ use Rattle.logic.specs.Normal.{nf}
 use Rattle.logic.specs.Place.{Atom}
 use Rattle.logic.specs.Tree.{Row, tree}
 use Rattle.passes.proofs.Rows.Exact.{normal-any}
-use Rattle.passes.specs.Pipeline.{Tag, beforeCell, beforeTag, enoughFor, part, rowsFrom, tag, tags}
-use Rattle.passes.specs.Slots.{Cell, Slot, cells, slot, slots}
+use Rattle.passes.specs.code.Pipeline.{Tag, beforeCell, beforeTag, enoughFor, part, rowsFrom, tag, tags}
+use Rattle.passes.specs.code.Slots.{Cell, Slot, cells, slot, slots}
 
 tags-cells : (k : ℕ) (ss : List Slot) (v : ℕ) → part (tags k ss) v ≡ cells k ss v
 unfolding part tags cells

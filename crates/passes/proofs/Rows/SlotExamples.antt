@@ -6,8 +6,8 @@ use Rattle.base.specs.Sorted.{insertIn, sort}
 use Rattle.logic.specs.Layout.{later}
 use Rattle.logic.specs.Place.{atom, has, lacks, least, most, nothing}
 use Rattle.logic.specs.Tree.{leafRow, nodeRow}
-use Rattle.passes.specs.Pipeline.{normalRows, outEvery, outKind, rowsFrom, sortedCells, walk}
-use Rattle.passes.specs.Slots.{build, cells, inconsistent, nonempty, position, settled, slots, tighten}
+use Rattle.passes.specs.code.Pipeline.{normalRows, outEvery, outKind, rowsFrom, sortedCells, walk}
+use Rattle.passes.specs.code.Slots.{build, cells, inconsistent, nonempty, position, settled, slots, tighten}
 
 -- 'every' entries of one link merge, and names ascend
 merging : normalRows (nodeRow 0 7 ∷ leafRow 1 (atom has 5 0) ∷ nodeRow 0 7 ∷ leafRow 3 (atom has 4 0) ∷ [])

@@ -13,8 +13,8 @@ use Rattle.logic.specs.Layout.{Queue, done, job, later, lay, weight, write}
 use Rattle.logic.specs.Place.{Atom, Kind, Place, atom, has, lacks, least, most}
 use Rattle.logic.specs.Tree.{Row, leaf, leafRow, node, nodeRow}
 use Rattle.passes.proofs.Cells.Written.{kept, leafIf, ofEvery, ofKind, written}
-use Rattle.passes.specs.Pipeline.{outEvery, outKind, walk}
-use Rattle.passes.specs.Slots.{Cell, cell, isLink, sameClass, value}
+use Rattle.passes.specs.code.Pipeline.{outEvery, outKind, walk}
+use Rattle.passes.specs.code.Slots.{Cell, cell, isLink, sameClass, value}
 
 -- ---- the rows of one kind
 

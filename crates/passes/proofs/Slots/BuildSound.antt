@@ -17,7 +17,7 @@ use Rattle.logic.specs.Tree.{Row, leafRow, nodeRow, rowOwner, tree}
 use Rattle.passes.proofs.Slots.SlotBounds.{inside, inside-atom}
 use Rattle.passes.proofs.Slots.SlotLaws.{Bounded, bounded-leading, bounded-tighten, bounded-top, position-below, position-from, tighten-early}
 use Rattle.passes.proofs.Slots.SlotMeaning.{asks, asks-ext, besides, every-asks, tighten-asks}
-use Rattle.passes.specs.Slots.{EarlySlots, Slot, atTop, build, high, isLink, leading, low, position, slots, tighten}
+use Rattle.passes.specs.code.Slots.{EarlySlots, Slot, atTop, build, high, isLink, leading, low, position, slots, tighten}
 
 -- an owner that leads to the place v
 abbrev isAt : ℕ → Option ℕ → Bool

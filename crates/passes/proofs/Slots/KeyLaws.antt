@@ -14,8 +14,8 @@ use Rattle.logic.specs.Normal.{before}
 use Rattle.logic.specs.Place.{Atom, Kind, atom, has, lacks, least, most, nothing}
 use Rattle.logic.specs.Record.{bit}
 use Rattle.logic.specs.Tree.{Row, leafRow, nodeRow}
-use Rattle.passes.specs.Keys.{Small, SmallRows, SmallSlot, SmallSlots, SmallTop, keyNumber}
-use Rattle.passes.specs.Slots.{Slot, build, high, isLink, leading, low, position, sameKey, slot, slots, smaller, tighten}
+use Rattle.passes.specs.code.Keys.{Small, SmallRows, SmallSlot, SmallSlots, SmallTop, keyNumber}
+use Rattle.passes.specs.code.Slots.{Slot, build, high, isLink, leading, low, position, sameKey, slot, slots, smaller, tighten}
 
 -- ---- numbers
 

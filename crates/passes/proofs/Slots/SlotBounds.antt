@@ -10,7 +10,7 @@ use Rattle.logic.proofs.Records.Counting.{every-and, every-ext, every-of}
 use Rattle.logic.specs.Normal.{found}
 use Rattle.logic.specs.Place.{Kind, atom, has, lacks, least, most, nothing}
 use Rattle.logic.specs.Record.{Record, eachLinked, meets, successors}
-use Rattle.passes.specs.Slots.{high, isLink, low, smaller}
+use Rattle.passes.specs.code.Slots.{high, isLink, low, smaller}
 
 -- a count is within an upper bound, if there is one
 abbrev pub capped : Option ℕ → ℕ → Bool

@@ -12,7 +12,7 @@ use Rattle.base.proofs.Cases.{opt-cases, some-none}
 use Rattle.base.proofs.Tests.{and-left, and-right, bool-cases, eqb-eq, eqb-sym, neither-left, neither-right, or-none}
 use Rattle.logic.specs.Place.{Atom, atom}
 use Rattle.logic.specs.Tree.{Row, leafRow, nodeRow}
-use Rattle.passes.specs.Slots.{DistinctSlots, EarlySlots, Slot, atTop, build, high, isLink, leading, low, position, sameClass, sameKey, sameName, slot, slots, taken, tighten}
+use Rattle.passes.specs.code.Slots.{DistinctSlots, EarlySlots, Slot, atTop, build, high, isLink, leading, low, position, sameClass, sameKey, sameName, slot, slots, taken, tighten}
 
 -- ---- keys
 

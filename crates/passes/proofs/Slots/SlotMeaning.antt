@@ -12,7 +12,7 @@ use Rattle.base.proofs.Tests.{and-swap, and-zero, bool-cases, eqb-self, tests}
 use Rattle.logic.specs.Record.{Record, eachLinked}
 use Rattle.passes.proofs.Slots.SlotBounds.{below-ext, below-true, eachBelow, inside, inside-both, inside-free, linked-and}
 use Rattle.passes.proofs.Slots.SlotLaws.{key-name, key-place, name-class, name-eq, position-from}
-use Rattle.passes.specs.Slots.{EarlySlots, Slot, position, sameKey, slot, tighten}
+use Rattle.passes.specs.code.Slots.{EarlySlots, Slot, position, sameKey, slot, tighten}
 
 -- g is asked of the place u besides what ρ asks of each place
 abbrev pub besides : ℕ → (ℕ → Bool) → (ℕ → ℕ → Bool) → ℕ → ℕ → Bool

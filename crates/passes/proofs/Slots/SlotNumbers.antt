@@ -16,7 +16,7 @@ use Rattle.passes.proofs.Cells.WrittenLists.{value-none}
 use Rattle.passes.proofs.Places.FormNormal.{form-find, form-sub}
 use Rattle.passes.proofs.Places.Forms.{form}
 use Rattle.passes.proofs.Slots.SlotLaws.{key-name, key-place, name-class, name-eq, position-from}
-use Rattle.passes.specs.Slots.{Cell, Slot, cell, cells, closed, inconsistent, isLink, lookup, position, sameKey, sameName, settled, slot, slotAt, slotHigh, slotLow, slots, taken, value}
+use Rattle.passes.specs.code.Slots.{Cell, Slot, cell, cells, closed, inconsistent, isLink, lookup, position, sameKey, sameName, settled, slot, slotAt, slotHigh, slotLow, slots, taken, value}
 
 -- the slots of one key are among them
 pub position-range : (k : ℕ) (ss : List Slot) (v : ℕ) (b : Bool) (n : ℕ) → taken ss v b n ≡ true → position k ss v b n < k + length ss

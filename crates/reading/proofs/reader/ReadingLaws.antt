@@ -15,8 +15,8 @@ use Rattle.blocks.specs.Entries.{entriesOf, limitOf}
 use Rattle.blocks.specs.Faults.{blockFaults, entryFaults, faults, first, lengthWrong}
 use Rattle.blocks.specs.Frame.{blocksIn, plain, totalIn, usedIn}
 use Rattle.blocks.specs.Reading.{answer, readingOf}
-use Rattle.blocks.specs.Steps.{blocksRead}
 use Rattle.blocks.specs.Words.{wordAt}
+use Rattle.blocks.specs.code.ReadingSteps.{blocksRead}
 use Rattle.blocks.specs.declared.Finding.{Finding}
 use Rattle.blocks.specs.declared.Finding.the-variants.{Clean, Faulty}
 use Rattle.blocks.specs.declared.Reading.{Reading}

@@ -21,10 +21,10 @@ use Rattle.logic.specs.Place.{kindOf}
 use Rattle.meaning.specs.Description.{rowOf}
 use Rattle.meaning.specs.Owned.{Owned}
 use Rattle.meaning.specs.Specimen.{top}
-use Rattle.passes.specs.Slots.{Slot, atTop, build, high, isLink, leading, low, position, slots, tighten}
+use Rattle.passes.specs.code.Slots.{Slot, atTop, build, high, isLink, leading, low, position, slots, tighten}
 use Rattle.slots.proofs.slots.ChainLaws.{chain-none}
-use Rattle.slots.specs.Chain.{Chains}
-use Rattle.slots.specs.Tables.{Entered, Kept, Nodes, hashOf, highIn, highKind, keyIn, leadsTo, linkKind, lowKind, slotsFrom, slotsIn}
+use Rattle.slots.specs.code.Chain.{Chains}
+use Rattle.slots.specs.code.Tables.{Entered, Kept, Nodes, hashOf, highIn, highKind, keyIn, leadsTo, linkKind, lowKind, slotsFrom, slotsIn}
 
 -- ---- kinds by number
 

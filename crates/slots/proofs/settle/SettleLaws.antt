@@ -13,9 +13,9 @@ use Rattle.base.proofs.Tests.{and-zero, bool-cases, eq-cases, eq-eqb, ne-eqb}
 use Rattle.logic.specs.Normal.{found}
 use Rattle.logic.specs.Record.{bit}
 use Rattle.logic.specs.Witness.{below}
-use Rattle.passes.specs.Slots.{Slot, broken, closed, inconsistent, nonempty, settled, slot}
+use Rattle.passes.specs.code.Slots.{Slot, broken, closed, inconsistent, nonempty, settled, slot}
 use Rattle.slots.proofs.slots.TableLaws.{high-made, key-made, low-made, slots-other}
-use Rattle.slots.specs.Tables.{Placed, Settling, Slotted, closedBound, highIn, highPart, keyIn, lowPart, slotIn, slotNumber, slotsFrom}
+use Rattle.slots.specs.code.Tables.{Placed, Settling, Slotted, closedBound, highIn, highPart, keyIn, lowPart, slotIn, slotNumber, slotsFrom}
 
 -- an upper bound that is closed
 closed-high : (c : Bool) (h : ℕ) → highIn (cond c 0 h) ≡ closed c (highIn h)

@@ -7,7 +7,7 @@ use mathlib.Core.Path.{_∙_, _≡_, ap, sym}
 use native.Mathlib.Omega.{arith}
 use Rattle.base.proofs.Cases.{not-true}
 use Rattle.base.proofs.Tests.{bool-cases, both-ways, eq-cases, eqb-eq, eqb-self, eqb-sym, tests}
-use Rattle.slots.specs.Chain.{Chains, changed, scan}
+use Rattle.slots.specs.code.Chain.{Chains, changed, scan}
 
 pub scan-gap : (key : ℕ → ℕ) (k s t : ℕ) → t ≤ s → ((j : ℕ) → t < j → j ≤ s → eqb (key j) k ≡ false) → scan key k s ≡ scan key k t
 unfolding scan

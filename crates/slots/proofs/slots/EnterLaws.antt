@@ -12,12 +12,12 @@ use mathlib.Core.Path.{_∙_, _≡_, ap, fun-ext, subst, sym}
 use native.Mathlib.Omega.{arith}
 use Rattle.base.proofs.Tests.{bool-cases, eq-cases, eqb-eq, ne-eqb, tests}
 use Rattle.logic.specs.Normal.{found, same}
-use Rattle.passes.specs.Keys.{keyNumber}
+use Rattle.passes.specs.code.Keys.{keyNumber}
 use Rattle.slots.proofs.slots.ChainLaws.{chain-new}
 use Rattle.slots.proofs.slots.SearchLaws.{keysOf}
 use Rattle.slots.proofs.slots.TableLaws.{key-made, position-found, position-none, slot-made, slots-last, slots-other, tighten-found, tighten-none}
-use Rattle.slots.specs.Chain.{Chains, changed, scan}
-use Rattle.slots.specs.Tables.{Entered, Kept, hashOf, highIn, highPart, keyIn, lowPart, slotNumber}
+use Rattle.slots.specs.code.Chain.{Chains, changed, scan}
+use Rattle.slots.specs.code.Tables.{Entered, Kept, hashOf, highIn, highPart, keyIn, lowPart, slotNumber}
 
 -- ---- what a search finds
 

@@ -8,8 +8,8 @@ use mathlib.Core.Path.{_∙_, _≡_, ap, sym}
 use native.Mathlib.Omega.{arith}
 use Rattle.base.proofs.Tests.{eq-eqb, ne-eqb}
 use Rattle.slots.proofs.slots.ChainLaws.{chain-start, chain-step, scan-found}
-use Rattle.slots.specs.Chain.{scan}
-use Rattle.slots.specs.Tables.{Kept, hashOf, keyIn}
+use Rattle.slots.specs.code.Chain.{scan}
+use Rattle.slots.specs.code.Tables.{Kept, hashOf, keyIn}
 
 -- the keys of a table
 abbrev pub keysOf : List ℕ → ℕ → ℕ

@@ -15,9 +15,9 @@ use Rattle.base.proofs.Split.{place-of, row-of}
 use Rattle.base.proofs.Tests.{and-both, eq-cases, eq-eqb, eqb-self, ge-ltb, lt-cases, lt-ltb, tests}
 use Rattle.passes.proofs.Slots.KeyLaws.{class-of, key-parts, key-same, name-of-key, place-of-key}
 use Rattle.passes.proofs.Slots.SlotLaws.{class-self}
-use Rattle.passes.specs.Keys.{keyNumber}
-use Rattle.passes.specs.Slots.{Slot, position, sameKey, slot, smaller, tighten}
-use Rattle.slots.specs.Tables.{highIn, highPart, keyIn, lowPart, slotIn, slotNumber, slotsFrom}
+use Rattle.passes.specs.code.Keys.{keyNumber}
+use Rattle.passes.specs.code.Slots.{Slot, position, sameKey, slot, smaller, tighten}
+use Rattle.slots.specs.code.Tables.{highIn, highPart, keyIn, lowPart, slotIn, slotNumber, slotsFrom}
 
 -- ---- taking a number apart
 

@@ -10,12 +10,12 @@ use mathlib.Core.Path.{_∙_, _≡_, ap, refl}
 use native.Mathlib.Omega.{arith}
 use Rattle.base.proofs.Tests.{eq-cases, ge-ltb, gt-leb, lt-cases, lt-ltb, ne-eqb, tests}
 use Rattle.logic.specs.Normal.{atMost, found}
-use Rattle.passes.specs.Slots.{Slot}
+use Rattle.passes.specs.code.Slots.{Slot}
 use Rattle.slots.proofs.slots.EnterLaws.{scan-some}
 use Rattle.slots.proofs.states.SlotSearch.{high-slot, low-slot}
-use Rattle.slots.specs.Chain.{Chains, scan}
-use Rattle.slots.specs.States.{Indexed, highAt, lowAt}
-use Rattle.slots.specs.Tables.{Kept, Settling, highIn, highPart, lowPart}
+use Rattle.slots.specs.code.Chain.{Chains, scan}
+use Rattle.slots.specs.code.States.{Indexed, highAt, lowAt}
+use Rattle.slots.specs.code.Tables.{Kept, Settling, highIn, highPart, lowPart}
 
 -- what a search finds is a slot or 0
 pub scan-most : (key : ℕ → ℕ) (k n : ℕ) {s : ℕ} → s ≡ scan key k n → s ≤ n

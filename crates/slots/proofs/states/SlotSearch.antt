@@ -8,14 +8,14 @@ use mathlib.Core.List.{List, [], _∷_}
 use mathlib.Core.Path.{_∙_, _≡_, ap, refl, sym}
 use native.Mathlib.Omega.{arith}
 use Rattle.base.proofs.Tests.{bool-cases, eq-cases, eq-eqb, eqb-self, ne-eqb, tests}
-use Rattle.passes.specs.Keys.{keyNumber}
-use Rattle.passes.specs.Slots.{Slot, position, settled, slot, slotAt, slotHigh, slotLow, taken}
+use Rattle.passes.specs.code.Keys.{keyNumber}
+use Rattle.passes.specs.code.Slots.{Slot, position, settled, slot, slotAt, slotHigh, slotLow, taken}
 use Rattle.slots.proofs.slots.EnterLaws.{scan-none, scan-some}
 use Rattle.slots.proofs.slots.SearchLaws.{keysOf}
 use Rattle.slots.proofs.slots.TableLaws.{key-test, position-found}
-use Rattle.slots.specs.Chain.{scan}
-use Rattle.slots.specs.States.{Indexed, highAt, lowAt, slotFor}
-use Rattle.slots.specs.Tables.{highIn, highPart, keyIn, lowPart, slotIn, slotsFrom}
+use Rattle.slots.specs.code.Chain.{scan}
+use Rattle.slots.specs.code.States.{Indexed, highAt, lowAt, slotFor}
+use Rattle.slots.specs.code.Tables.{highIn, highPart, keyIn, lowPart, slotIn, slotsFrom}
 
 -- ---- settled slots have the keys of the slots
 

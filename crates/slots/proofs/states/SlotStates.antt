@@ -14,9 +14,9 @@ use Rattle.blocks.specs.Entries.{nth}
 use Rattle.blocks.specs.Owners.{ownerOf}
 use Rattle.blocks.specs.declared.Entry.{Entry}
 use Rattle.meaning.specs.Owned.{Owned}
-use Rattle.passes.specs.Slots.{Slot}
+use Rattle.passes.specs.code.Slots.{Slot}
 use Rattle.slots.proofs.HoldingLaws.{state-every}
-use Rattle.slots.specs.States.{heldAt, heldIn, stateBelow, stateOf}
+use Rattle.slots.specs.code.States.{heldAt, heldIn, stateBelow, stateOf}
 
 -- the states of the top and of each 'every' before entry n are in the table
 pub record States (ss : List Slot) (d : List Entry) (states : List ℕ) (n : ℕ) : Type 0 where

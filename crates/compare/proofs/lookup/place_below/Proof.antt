@@ -2,7 +2,7 @@
 use borrow.Author.Needs.{needs}
 use native.Mathlib.Omega.{arith}
 use Rattle.base.proofs.Tests.{eq-eqb, ne-eqb}
-use Rattle.compare.specs.Table.{placeBelow}
+use Rattle.compare.specs.code.Table.{placeBelow}
 use Rattle.compare.proofs.lookup.place_below.Statement.{statement}
 use Rattle.compare.proofs.lookup.place_below.Tie as tie
 

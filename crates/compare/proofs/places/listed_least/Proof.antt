@@ -2,7 +2,7 @@
 use borrow.Author.Needs.{needs}
 use native.Mathlib.Omega.{arith}
 use Rattle.base.proofs.Tests.{eq-eqb, ne-eqb}
-use Rattle.compare.specs.Codes.{leastFor}
+use Rattle.compare.specs.code.Codes.{leastFor}
 use Rattle.compare.proofs.places.listed_least.Statement.{statement}
 use Rattle.compare.proofs.places.listed_least.Tie as tie
 

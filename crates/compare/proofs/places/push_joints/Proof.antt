@@ -4,7 +4,7 @@ use borrow.Author.Needs.{needs}
 use native.Mathlib.Numerals.{add-one}
 use native.Mathlib.Omega.{arith}
 use Rattle.compare.proofs.places.SpanLaws.{around-first, around-rest, groups-length, groups-total, joints-none, joints-some}
-use Rattle.compare.specs.Table.{spanFrom}
+use Rattle.compare.specs.code.Table.{spanFrom}
 use Rattle.compare.proofs.places.push_joints.Statement.{statement}
 use Rattle.compare.proofs.places.push_joints.Tie as tie
 

@@ -3,9 +3,9 @@ use Prim.Native.Nat.{_%_}
 use mathlib.Core.Path.{_≡_, refl}
 use native.Mathlib.Omega.{arith}
 use Rattle.compare.proofs.places.PlaceLaws.{asked-joints, first-room, place-done, second-room}
-use Rattle.compare.specs.Codes.{groupsWith, jointsBy, propertiesBy}
-use Rattle.compare.specs.Laying.{joint}
-use Rattle.compare.specs.Table.{namesWith}
+use Rattle.compare.specs.code.Codes.{groupsWith, jointsBy, propertiesBy}
+use Rattle.compare.specs.code.Laying.{joint}
+use Rattle.compare.specs.code.Table.{namesWith}
 use Rattle.logic.specs.SpecimenTree.{group}
 use Rattle.compare.proofs.places.push_place.Statement.{statement}
 use Rattle.compare.proofs.places.push_place.Tie as tie

@@ -6,9 +6,9 @@ use mathlib.Core.List.{List, map}
 use mathlib.Core.Path.{_∙_, _≡_, ap, sym}
 use native.Mathlib.Omega.{arith}
 use Rattle.compare.proofs.rows.RowLaws.{groups-end, groups-next}
-use Rattle.compare.specs.Codes.{groupsFrom, specimenNumber}
-use Rattle.compare.specs.Laying.{Placed, codes, jointRows}
-use Rattle.compare.specs.Table.{entriesIn, placeBelow}
+use Rattle.compare.specs.code.Codes.{groupsFrom, specimenNumber}
+use Rattle.compare.specs.code.Laying.{Placed, codes, jointRows}
+use Rattle.compare.specs.code.Table.{entriesIn, placeBelow}
 use Rattle.normal.proofs.FillLaws.{joined-none}
 use Rattle.compare.proofs.rows.push_groups.Statement.{statement}
 use Rattle.compare.proofs.rows.push_groups.Tie as tie

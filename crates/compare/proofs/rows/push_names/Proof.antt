@@ -6,9 +6,9 @@ use mathlib.Core.List.{List, map}
 use mathlib.Core.Path.{_≡_}
 use native.Mathlib.Omega.{arith}
 use Rattle.compare.proofs.rows.RowLaws.{names-end, names-first}
-use Rattle.compare.specs.Codes.{specimenNumber}
-use Rattle.compare.specs.Laying.{Pushed, leafRows}
-use Rattle.compare.specs.Table.{namesFrom}
+use Rattle.compare.specs.code.Codes.{specimenNumber}
+use Rattle.compare.specs.code.Laying.{Pushed, leafRows}
+use Rattle.compare.specs.code.Table.{namesFrom}
 use Rattle.normal.proofs.FillLaws.{filled-more, filled-none}
 use Rattle.compare.proofs.rows.push_names.Statement.{statement}
 use Rattle.compare.proofs.rows.push_names.Tie as tie

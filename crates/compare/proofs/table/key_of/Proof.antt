@@ -1,6 +1,6 @@
 -- `key_of` meets its contract.
 use borrow.Author.Needs.{needs}
-use Rattle.compare.specs.Table.{keyOf}
+use Rattle.compare.specs.code.Table.{keyOf}
 use Rattle.compare.proofs.table.key_of.Statement.{statement}
 use Rattle.compare.proofs.table.key_of.Tie as tie
 

@@ -1,6 +1,6 @@
 -- `name_in` meets its contract.
 use borrow.Author.Needs.{needs}
-use Rattle.compare.specs.Table.{nameIn}
+use Rattle.compare.specs.code.Table.{nameIn}
 use Rattle.compare.proofs.table.name_in.Statement.{statement}
 use Rattle.compare.proofs.table.name_in.Tie as tie
 

@@ -1,6 +1,6 @@
 -- `number_in` meets its contract.
 use borrow.Author.Needs.{needs}
-use Rattle.compare.specs.Table.{numberIn}
+use Rattle.compare.specs.code.Table.{numberIn}
 use Rattle.compare.proofs.table.number_in.Statement.{statement}
 use Rattle.compare.proofs.table.number_in.Tie as tie
 

@@ -7,7 +7,7 @@ use native.Mathlib.Omega.{arith}
 use Rattle.blocks.proofs.Faults.EntryLaws.{of-nth}
 use Rattle.blocks.specs.Entries.{Bounded, entriesOf, nth}
 use Rattle.compare.proofs.table.TableLaws.{unpacked-more, unpacked-none}
-use Rattle.compare.specs.Table.{Unpacked, wordOf}
+use Rattle.compare.specs.code.Table.{Unpacked, wordOf}
 use Rattle.compare.proofs.table.unpack.Statement.{statement}
 use Rattle.compare.proofs.table.unpack.Tie as tie
 

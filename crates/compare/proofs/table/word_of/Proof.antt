@@ -1,6 +1,6 @@
 -- `word_of` meets its contract.
 use borrow.Author.Needs.{needs}
-use Rattle.compare.specs.Table.{wordOf}
+use Rattle.compare.specs.code.Table.{wordOf}
 use Rattle.compare.proofs.table.word_of.Statement.{statement}
 use Rattle.compare.proofs.table.word_of.Tie as tie
 

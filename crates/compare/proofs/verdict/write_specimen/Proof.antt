@@ -7,7 +7,7 @@ use native.Mathlib.Omega.{arith}
 use Rattle.blocks.proofs.Faults.EntryLaws.{of-nth}
 use Rattle.blocks.specs.Entries.{Bounded, entriesOf, nth}
 use Rattle.compare.proofs.verdict.VerdictLaws.{failing-within, prepared-first, prepared-links, prepared-owned, prepared-second, verdict-shown, verdict-writable}
-use Rattle.compare.specs.Codes.{Writable}
+use Rattle.compare.specs.code.Codes.{Writable}
 use Rattle.compare.proofs.verdict.write_specimen.Statement.{statement}
 use Rattle.compare.proofs.verdict.write_specimen.Tie as tie
 

@@ -3,7 +3,7 @@ use borrow.Author.Needs.{needs}
 use mathlib.Core.Bool.{not}
 use mathlib.Core.Path.{_∙_, ap}
 use Rattle.base.proofs.Tests.{ne-eqb}
-use Rattle.fit.specs.Groups.{meetsAtom}
+use Rattle.fit.specs.code.Groups.{meetsAtom}
 use Rattle.fit.proofs.groups.meets_atom.Statement.{statement}
 use Rattle.fit.proofs.groups.meets_atom.Tie as tie
 

@@ -8,8 +8,8 @@ use Rattle.blocks.specs.declared.Schema.the-variants.{Specimen}
 use Rattle.fit.proofs.groups.GroupLaws.{items-here, itemsAt, total-bucket}
 use Rattle.fit.proofs.index.BucketLaws.{hash-below}
 use Rattle.fit.proofs.index.WalkLaws.{Standing, sum-ends, sum-goes, sum-starts, walk-falls, walk-goes, walk-starts}
-use Rattle.fit.specs.Groups.{totalBy}
-use Rattle.fit.specs.Index.{bucketOf, hashOf}
+use Rattle.fit.specs.code.Groups.{totalBy}
+use Rattle.fit.specs.code.Index.{bucketOf, hashOf}
 use Rattle.meaning.specs.Owned.{sumWhere}
 use Rattle.fit.proofs.groups.total_by.Statement.{statement}
 use Rattle.fit.proofs.groups.total_by.Tie as tie

@@ -3,7 +3,7 @@ use borrow.Author.Needs.{needs}
 use mathlib.Core.Path.{_∙_, ap}
 use Prim.Native.Nat.{ℕ}
 use native.Mathlib.Omega.{arith}
-use Rattle.fit.specs.Index.{hashOf}
+use Rattle.fit.specs.code.Index.{hashOf}
 use Rattle.fit.proofs.index.bucket.Statement.{statement}
 use Rattle.fit.proofs.index.bucket.Tie as tie
 

@@ -7,7 +7,7 @@ use Rattle.blocks.proofs.Faults.EntryLaws.{of-nth}
 use Rattle.blocks.specs.Entries.{entriesOf}
 use Rattle.fit.proofs.index.BucketLaws.{bucket-below, bucket-read}
 use Rattle.fit.proofs.index.WalkLaws.{index-more, index-starts}
-use Rattle.fit.specs.Index.{Indexed, bucketOf}
+use Rattle.fit.specs.code.Index.{Indexed, bucketOf}
 use Rattle.fit.proofs.index.index_entries.Statement.{statement}
 use Rattle.fit.proofs.index.index_entries.Tie as tie
 

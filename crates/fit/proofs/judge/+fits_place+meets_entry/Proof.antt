@@ -14,8 +14,8 @@ use Rattle.blocks.specs.declared.Schema.the-variants.{Specimen}
 use Rattle.fit.proofs.index.BucketLaws.{hash-below}
 use Rattle.fit.proofs.index.WalkLaws.{Standing, walk-starts, walk-goes, walk-falls, all-starts, all-goes, all-no, all-ends}
 use Rattle.fit.proofs.judge.MeetLaws.{meets-bottom, meets-atoms, ownFits, meets-bucket, other-passes, group-decides}
-use Rattle.fit.specs.Groups.{meetsEntry, fitsPlace}
-use Rattle.fit.specs.Index.{bucketOf, hashOf}
+use Rattle.fit.specs.code.Groups.{meetsEntry, fitsPlace}
+use Rattle.fit.specs.code.Index.{bucketOf, hashOf}
 use Rattle.meaning.specs.Owned.{allOwned, allWhere}
 use Rattle.fit.proofs.judge.fits_place.Reads as fits-place
 use Rattle.fit.proofs.judge.fits_place.Kinds as fits-place-kinds

@@ -2,7 +2,7 @@
 use borrow.Author.Needs.{needs}
 use Rattle.base.proofs.Tests.{confirmed, eq-eqb, ne-eqb, refuted}
 use Rattle.normal.proofs.emit.PlacingLaws.{high-zero}
-use Rattle.normal.specs.Ordered.{tagCell}
+use Rattle.normal.specs.code.Ordered.{tagCell}
 use Rattle.normal.proofs.emit.keeps.Statement.{statement}
 use Rattle.normal.proofs.emit.keeps.Tie as tie
 

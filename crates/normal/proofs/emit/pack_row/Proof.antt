@@ -2,7 +2,7 @@
 use borrow.Author.Needs.{needs}
 use native.Mathlib.Omega.{arith}
 use Rattle.blocks.specs.Entries.{packed}
-use Rattle.normal.specs.Emitted.{packedOf}
+use Rattle.normal.specs.code.Emitted.{packedOf}
 use Rattle.normal.proofs.emit.pack_row.Statement.{statement}
 use Rattle.normal.proofs.emit.pack_row.Tie as tie
 

@@ -5,7 +5,7 @@ use mathlib.Core.Path.{_∙_}
 use native.Mathlib.Omega.{arith}
 use Rattle.logic.specs.Place.{kindOf}
 use Rattle.normal.proofs.emit.PushLaws.{atom-none, atom-one, atom-room, cell-small}
-use Rattle.normal.specs.Ordered.{tagCell}
+use Rattle.normal.specs.code.Ordered.{tagCell}
 use Rattle.normal.proofs.emit.push_atom.Statement.{statement}
 use Rattle.normal.proofs.emit.push_atom.Tie as tie
 

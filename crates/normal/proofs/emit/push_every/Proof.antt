@@ -7,8 +7,8 @@ use mathlib.Core.Path.{_∙_, _≡_, sym}
 use native.Mathlib.Omega.{arith}
 use Rattle.normal.proofs.emit.PlacingLaws.{Linking, linking-done, linking-more, linking-room, linking-start}
 use Rattle.normal.proofs.emit.PushLaws.{run-ends, run-more, run-stops}
-use Rattle.normal.specs.Emitted.{keepIn}
-use Rattle.normal.specs.Ordered.{runFrom, tagPlace}
+use Rattle.normal.specs.code.Emitted.{keepIn}
+use Rattle.normal.specs.code.Ordered.{runFrom, tagPlace}
 use Rattle.normal.proofs.emit.push_every.Statement.{statement}
 use Rattle.normal.proofs.emit.push_every.Tie as tie
 

@@ -7,8 +7,8 @@ use mathlib.Core.Path.{_∙_, _≡_, sym}
 use native.Mathlib.Omega.{arith}
 use Rattle.logic.specs.Place.{kindOf}
 use Rattle.normal.proofs.emit.PushLaws.{Pushing, kinds-more, kinds-none, kinds-room, pushing-done, pushing-more, pushing-room, pushing-start, run-ends, run-stops}
-use Rattle.normal.specs.Emitted.{cellName, cellValue, kindRows, rowsIf}
-use Rattle.normal.specs.Ordered.{runFrom, tagCell, tagPlace}
+use Rattle.normal.specs.code.Emitted.{cellName, cellValue, kindRows, rowsIf}
+use Rattle.normal.specs.code.Ordered.{runFrom, tagCell, tagPlace}
 use Rattle.normal.proofs.emit.push_kind.Statement.{statement}
 use Rattle.normal.proofs.emit.push_kind.Tie as tie
 

@@ -5,8 +5,8 @@ use mathlib.Core.Path.{_∙_}
 use native.Mathlib.Omega.{arith}
 use Rattle.base.proofs.Tests.{confirmed, refuted}
 use Rattle.normal.proofs.emit.PlacingLaws.{link-none, link-one, link-room}
-use Rattle.normal.specs.Emitted.{keepIn}
-use Rattle.normal.specs.Ordered.{tagCell}
+use Rattle.normal.specs.code.Emitted.{keepIn}
+use Rattle.normal.specs.code.Ordered.{tagCell}
 use Rattle.normal.proofs.emit.push_link.Statement.{statement}
 use Rattle.normal.proofs.emit.push_link.Tie as tie
 

@@ -4,8 +4,8 @@ use native.Mathlib.Omega.{arith}
 use Rattle.logic.specs.Place.{has, kindOf, lacks, least, most}
 use Rattle.normal.proofs.emit.PlacingLaws.{atoms-pushed, place-length, place-pushed}
 use Rattle.normal.proofs.emit.PushLaws.{pushed-total}
-use Rattle.normal.specs.Emitted.{keepIn, kindRows}
-use Rattle.normal.specs.Ordered.{runFrom}
+use Rattle.normal.specs.code.Emitted.{keepIn, kindRows}
+use Rattle.normal.specs.code.Ordered.{runFrom}
 use Rattle.normal.proofs.emit.push_place.Statement.{statement}
 use Rattle.normal.proofs.emit.push_place.Tie as tie
 

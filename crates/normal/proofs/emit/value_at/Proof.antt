@@ -9,8 +9,8 @@ use native.Mathlib.Omega.{arith}
 use Rattle.base.proofs.Tests.{confirmed, eq-cases, ge-ltb, lt-ltb, refuted}
 use Rattle.logic.specs.Normal.{same}
 use Rattle.logic.specs.Place.{kindOf}
-use Rattle.normal.specs.Ordered.{tagCell}
-use Rattle.passes.specs.Slots.{isLink, sameClass}
+use Rattle.normal.specs.code.Ordered.{tagCell}
+use Rattle.passes.specs.code.Slots.{isLink, sameClass}
 use Rattle.normal.proofs.emit.value_at.Statement.{statement}
 use Rattle.normal.proofs.emit.value_at.Tie as tie
 

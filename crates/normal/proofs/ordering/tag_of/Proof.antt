@@ -1,8 +1,8 @@
 -- `tag_of` meets its contract.
 use borrow.Author.Needs.{needs}
 use native.Mathlib.Omega.{arith}
-use Rattle.normal.specs.Ordered.{tagNumber}
-use Rattle.slots.specs.Tables.{keyIn}
+use Rattle.normal.specs.code.Ordered.{tagNumber}
+use Rattle.slots.specs.code.Tables.{keyIn}
 use Rattle.normal.proofs.ordering.tag_of.Statement.{statement}
 use Rattle.normal.proofs.ordering.tag_of.Tie as tie
 

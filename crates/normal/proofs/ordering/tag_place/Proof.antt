@@ -1,6 +1,6 @@
 -- `tag_place` meets its contract.
 use borrow.Author.Needs.{needs}
-use Rattle.normal.specs.Ordered.{tagPlace}
+use Rattle.normal.specs.code.Ordered.{tagPlace}
 use Rattle.normal.proofs.ordering.tag_place.Statement.{statement}
 use Rattle.normal.proofs.ordering.tag_place.Tie as tie
 

@@ -1,6 +1,6 @@
 -- `tag_slot` meets its contract.
 use borrow.Author.Needs.{needs}
-use Rattle.normal.specs.Ordered.{tagSlot}
+use Rattle.normal.specs.code.Ordered.{tagSlot}
 use Rattle.normal.proofs.ordering.tag_slot.Statement.{statement}
 use Rattle.normal.proofs.ordering.tag_slot.Tie as tie
 

@@ -6,7 +6,7 @@ use lib.Seq.{take-all}
 use mathlib.Core.Path.{_∙_, _≡_, refl, sym}
 use native.Mathlib.Omega.{arith}
 use Rattle.normal.proofs.ordering.OrderingLaws.{tags-more, tags-start}
-use Rattle.normal.specs.Ordered.{tagNumbers}
+use Rattle.normal.specs.code.Ordered.{tagNumbers}
 use Rattle.normal.proofs.ordering.tag_slots.Statement.{statement}
 use Rattle.normal.proofs.ordering.tag_slots.Tie as tie
 

@@ -4,7 +4,7 @@ use lib.ListN.{getD}
 use mathlib.Core.Path.{_∙_, _≡_, refl}
 use native.Mathlib.Omega.{arith}
 use Rattle.normal.proofs.walk.WalkingLaws.{run-from}
-use Rattle.normal.specs.Ordered.{firstOfPlace}
+use Rattle.normal.specs.code.Ordered.{firstOfPlace}
 use Rattle.normal.proofs.walk.push_below.Statement.{statement}
 use Rattle.normal.proofs.walk.push_below.Tie as tie
 

@@ -1,7 +1,7 @@
 -- `entry_row` meets its contract, row by row.
 use borrow.Author.Needs.{needs}
 use Rattle.base.proofs.Tests.{confirmed, eq-eqb, ge-ltb, lt-ltb, ne-eqb, refuted}
-use Rattle.blocks.specs.Steps.{entryRow}
+use Rattle.blocks.specs.code.ReadingSteps.{entryRow}
 use Rattle.reading.proofs.rules.entry_row.Statement.{statement}
 use Rattle.reading.proofs.rules.entry_row.Tie as tie
 

@@ -1,7 +1,7 @@
 -- `level_by` meets its contract.
 use borrow.Author.Needs.{needs}
 use Rattle.base.proofs.Tests.{ge-ltb, lt-ltb}
-use Rattle.blocks.specs.Steps.{levelBy}
+use Rattle.blocks.specs.code.ReadingSteps.{levelBy}
 use Rattle.reading.proofs.rules.level_by.Statement.{statement}
 use Rattle.reading.proofs.rules.level_by.Tie as tie
 

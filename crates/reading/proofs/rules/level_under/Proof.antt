@@ -2,7 +2,7 @@
 use borrow.Author.Needs.{needs}
 use mathlib.Core.Path.{_∙_, sym}
 use Rattle.base.proofs.Tests.{eq-eqb, ne-eqb}
-use Rattle.blocks.specs.Steps.{levelUnder}
+use Rattle.blocks.specs.code.ReadingSteps.{levelUnder}
 use Rattle.reading.proofs.rules.level_under.Statement.{statement}
 use Rattle.reading.proofs.rules.level_under.Tie as tie
 

@@ -12,10 +12,10 @@ use Rattle.blocks.specs.Owners.{ownerOf}
 use Rattle.blocks.specs.declared.Entry.{Entry}
 use Rattle.meaning.specs.Description.{rowOf}
 use Rattle.passes.proofs.Cells.Written.{kept}
-use Rattle.passes.specs.Slots as slot-build
-use Rattle.passes.specs.Slots.{slots}
+use Rattle.passes.specs.code.Slots as slot-build
+use Rattle.passes.specs.code.Slots.{slots}
 use Rattle.slots.proofs.build.BuildLaws.{build-ends, build-goes, build-starts, kept-starts, nodes-more, nodes-start}
-use Rattle.slots.specs.Tables.{Entered, Kept, Nodes, highKind, leadsTo, linkKind, lowKind, slotsIn}
+use Rattle.slots.specs.code.Tables.{Entered, Kept, Nodes, highKind, leadsTo, linkKind, lowKind, slotsIn}
 use Rattle.slots.proofs.build.build.Statement.{statement}
 use Rattle.slots.proofs.build.build.Tie as tie
 

@@ -1,7 +1,7 @@
 -- `high_kind` meets its contract, kind by kind.
 use native.Mathlib.Omega.{arith}
 use Rattle.base.proofs.Tests.{ne-eqb}
-use Rattle.slots.specs.Tables.{highKind}
+use Rattle.slots.specs.code.Tables.{highKind}
 use Rattle.slots.proofs.build.high_kind.Statement.{statement}
 use Rattle.slots.proofs.build.high_kind.Tie as tie
 

@@ -1,6 +1,6 @@
 -- `link_kind` meets its contract, kind by kind.
 use Rattle.base.proofs.Tests.{ne-eqb}
-use Rattle.slots.specs.Tables.{linkKind}
+use Rattle.slots.specs.code.Tables.{linkKind}
 use Rattle.slots.proofs.build.link_kind.Statement.{statement}
 use Rattle.slots.proofs.build.link_kind.Tie as tie
 

@@ -1,7 +1,7 @@
 -- `low_kind` meets its contract, kind by kind.
 use native.Mathlib.Omega.{arith}
 use Rattle.base.proofs.Tests.{ne-eqb}
-use Rattle.slots.specs.Tables.{lowKind}
+use Rattle.slots.specs.code.Tables.{lowKind}
 use Rattle.slots.proofs.build.low_kind.Statement.{statement}
 use Rattle.slots.proofs.build.low_kind.Tie as tie
 

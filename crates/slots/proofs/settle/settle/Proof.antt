@@ -4,7 +4,7 @@ use borrow.Author.Needs.{needs}
 use mathlib.Core.Path.{_≡_}
 use native.Mathlib.Omega.{arith}
 use Rattle.slots.proofs.settle.SettleLaws.{settle-goes, settle-starts}
-use Rattle.slots.specs.Tables.{Settling}
+use Rattle.slots.specs.code.Tables.{Settling}
 use Rattle.slots.proofs.settle.settle.Statement.{statement}
 use Rattle.slots.proofs.settle.settle.Tie as tie
 

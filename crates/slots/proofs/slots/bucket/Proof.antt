@@ -1,6 +1,6 @@
 -- `bucket` meets its contract.
 use borrow.Author.Needs.{needs}
-use Rattle.slots.specs.Tables.{hashOf}
+use Rattle.slots.specs.code.Tables.{hashOf}
 use Rattle.slots.proofs.slots.bucket.Statement.{statement}
 use Rattle.slots.proofs.slots.bucket.Tie as tie
 

@@ -1,6 +1,6 @@
 -- `high_in` meets its contract.
 use borrow.Author.Needs.{needs}
-use Rattle.slots.specs.Tables.{highPart}
+use Rattle.slots.specs.code.Tables.{highPart}
 use Rattle.slots.proofs.slots.high_in.Statement.{statement}
 use Rattle.slots.proofs.slots.high_in.Tie as tie
 

@@ -1,6 +1,6 @@
 -- `key_in` meets its contract.
 use borrow.Author.Needs.{needs}
-use Rattle.slots.specs.Tables.{keyIn}
+use Rattle.slots.specs.code.Tables.{keyIn}
 use Rattle.slots.proofs.slots.key_in.Statement.{statement}
 use Rattle.slots.proofs.slots.key_in.Tie as tie
 

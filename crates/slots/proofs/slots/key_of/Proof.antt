@@ -1,7 +1,7 @@
 -- `key_of` meets its contract.
 use borrow.Author.Needs.{needs}
 use native.Mathlib.Omega.{arith}
-use Rattle.passes.specs.Keys.{keyNumber}
+use Rattle.passes.specs.code.Keys.{keyNumber}
 use Rattle.slots.proofs.slots.key_of.Statement.{statement}
 use Rattle.slots.proofs.slots.key_of.Tie as tie
 

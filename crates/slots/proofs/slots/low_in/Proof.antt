@@ -1,6 +1,6 @@
 -- `low_in` meets its contract.
 use borrow.Author.Needs.{needs}
-use Rattle.slots.specs.Tables.{lowPart}
+use Rattle.slots.specs.code.Tables.{lowPart}
 use Rattle.slots.proofs.slots.low_in.Statement.{statement}
 use Rattle.slots.proofs.slots.low_in.Tie as tie
 

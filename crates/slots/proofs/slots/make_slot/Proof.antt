@@ -1,6 +1,6 @@
 -- `make_slot` meets its contract.
 use borrow.Author.Needs.{needs}
-use Rattle.slots.specs.Tables.{slotNumber}
+use Rattle.slots.specs.code.Tables.{slotNumber}
 use Rattle.slots.proofs.slots.make_slot.Statement.{statement}
 use Rattle.slots.proofs.slots.make_slot.Tie as tie
 

@@ -3,7 +3,7 @@ use borrow.Author.Needs.{needs}
 use mathlib.Core.Path.{_∙_, _≡_, sym}
 use native.Mathlib.Omega.{arith}
 use Rattle.slots.proofs.slots.SearchLaws.{Reached, keysOf, scan-ends, scan-goes, scan-hits, scan-starts, search-falls, search-goes, search-starts}
-use Rattle.slots.specs.Chain.{scan}
+use Rattle.slots.specs.code.Chain.{scan}
 use Rattle.slots.proofs.slots.search.Statement.{statement}
 use Rattle.slots.proofs.slots.search.Tie as tie
 

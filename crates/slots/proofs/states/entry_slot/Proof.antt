@@ -1,7 +1,7 @@
 -- `entry_slot` meets its contract.
 use borrow.Author.Needs.{needs}
 use Rattle.base.proofs.Tests.{ne-eqb}
-use Rattle.slots.specs.States.{linkName}
+use Rattle.slots.specs.code.States.{linkName}
 use Rattle.slots.proofs.states.entry_slot.Statement.{statement}
 use Rattle.slots.proofs.states.entry_slot.Tie as tie
 

@@ -12,9 +12,9 @@ use Rattle.blocks.specs.Entries.{entriesOf, nth}
 use Rattle.blocks.specs.Owners.{ownerOf}
 use Rattle.blocks.specs.declared.Entry.{Entry}
 use Rattle.meaning.proofs.Verdicts.FirstLaws.{first-end, first-goes, first-stops}
-use Rattle.passes.specs.Slots.{Slot}
+use Rattle.passes.specs.code.Slots.{Slot}
 use Rattle.slots.proofs.states.SlotStates.{States, held-here, small-more, small-start, states-more, states-owner, states-start}
-use Rattle.slots.specs.States.{Indexed, heldAt, heldIn, stateBelow, stateOf}
+use Rattle.slots.specs.code.States.{Indexed, heldAt, heldIn, stateBelow, stateOf}
 use Rattle.slots.proofs.states.first_failing.Statement.{statement}
 use Rattle.slots.proofs.states.first_failing.Tie as tie
 

@@ -4,8 +4,8 @@ use mathlib.Core.Path.{_∙_, ap}
 use native.Mathlib.Omega.{arith}
 use Rattle.base.proofs.Tests.{eq-eqb, ne-eqb}
 use Rattle.slots.proofs.states.BoundLaws.{bounds-high, bounds-low}
-use Rattle.slots.specs.States.{heldAt}
-use Rattle.slots.specs.Tables.{highIn}
+use Rattle.slots.specs.code.States.{heldAt}
+use Rattle.slots.specs.code.Tables.{highIn}
 use Rattle.slots.proofs.states.held.Statement.{statement}
 use Rattle.slots.proofs.states.held.Tie as tie
 

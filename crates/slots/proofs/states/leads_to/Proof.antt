@@ -1,7 +1,7 @@
 -- `leads_to` meets its contract.
 use borrow.Author.Needs.{needs}
 use mathlib.Core.Path.{_∙_, ap}
-use Rattle.slots.specs.States.{stateBelow}
+use Rattle.slots.specs.code.States.{stateBelow}
 use Rattle.slots.proofs.states.leads_to.Statement.{statement}
 use Rattle.slots.proofs.states.leads_to.Tie as tie
 

@@ -5,8 +5,8 @@ use native.Mathlib.Omega.{arith}
 use Rattle.base.proofs.Tests.{eq-eqb, ne-eqb}
 use Rattle.slots.proofs.states.BoundLaws.{high-none, high-some}
 use Rattle.slots.proofs.states.SlotSearch.{high-slot}
-use Rattle.slots.specs.States.{highAt, stateBelow}
-use Rattle.slots.specs.Tables.{highIn}
+use Rattle.slots.specs.code.States.{highAt, stateBelow}
+use Rattle.slots.specs.code.Tables.{highIn}
 use Rattle.slots.proofs.states.state_below.Statement.{statement}
 use Rattle.slots.proofs.states.state_below.Tie as tie
 

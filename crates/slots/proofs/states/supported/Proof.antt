@@ -2,7 +2,7 @@
 use native.Mathlib.Omega.{arith}
 use Rattle.base.proofs.Tests.{ne-eqb}
 use Rattle.slots.proofs.states.BoundLaws.{high-most, high-there}
-use Rattle.slots.specs.States.{supportedBy}
+use Rattle.slots.specs.code.States.{supportedBy}
 use Rattle.slots.proofs.states.supported.Statement.{statement}
 use Rattle.slots.proofs.states.supported.Tie as tie
 

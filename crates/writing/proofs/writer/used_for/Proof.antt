@@ -1,7 +1,7 @@
 -- `used_for` meets its contract.
 use borrow.Author.Needs.{needs}
 use native.Mathlib.Omega.{arith}
-use Rattle.writing.specs.Steps.{usedFor}
+use Rattle.writing.specs.code.WritingSteps.{usedFor}
 use Rattle.writing.proofs.writer.used_for.Statement.{statement}
 use Rattle.writing.proofs.writer.used_for.Tie as tie
 

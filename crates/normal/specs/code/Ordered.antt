@@ -6,9 +6,9 @@ use lib.ListN.{getD}
 use mathlib.Core.Bool.{Bool, cond, not}
 use mathlib.Core.List.{List, [], _∷_}
 use Rattle.base.specs.Search.{firstFrom}
-use Rattle.passes.specs.Pipeline.{Tag, tag}
-use Rattle.passes.specs.Slots.{Cell, cell}
-use Rattle.slots.specs.Tables.{highIn, highPart, keyIn, lowPart}
+use Rattle.passes.specs.code.Pipeline.{Tag, tag}
+use Rattle.passes.specs.code.Slots.{Cell, cell}
+use Rattle.slots.specs.code.Tables.{highIn, highPart, keyIn, lowPart}
 
 -- the number of slot j with this key
 unfoldable pub tagNumber : ℕ → ℕ → ℕ

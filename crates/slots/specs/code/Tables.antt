@@ -12,8 +12,8 @@ use Rattle.blocks.specs.declared.Entry.{Entry}
 use Rattle.logic.specs.Normal.{found}
 use Rattle.logic.specs.Record.{bit}
 use Rattle.meaning.specs.Description.{rowOf}
-use Rattle.passes.specs.Slots.{Slot, broken, inconsistent, nonempty, position, settled, slot, slots, tighten}
-use Rattle.slots.specs.Chain.{Chains}
+use Rattle.passes.specs.code.Slots.{Slot, broken, inconsistent, nonempty, position, settled, slot, slots, tighten}
+use Rattle.slots.specs.code.Chain.{Chains}
 
 -- an upper bound as a number; 65,536 for none
 abbrev pub highNumber : Option ℕ → ℕ

@@ -10,8 +10,8 @@ use mathlib.Core.Logic.{_≢_}
 use mathlib.Core.Path.{_≡_}
 use Rattle.blocks.specs.Entries.{nth, packed}
 use Rattle.blocks.specs.declared.Entry.{Entry}
-use Rattle.compare.specs.Laying.{Joint, Placed, codes, joint, joints, leaves, placeNumbers}
-use Rattle.compare.specs.Table.{Formed, around, entriesIn, entryFor, nameIn, nameOr, namesWith, numberIn, placeBelow, spanFrom}
+use Rattle.compare.specs.code.Laying.{Joint, Placed, codes, joint, joints, leaves, placeNumbers}
+use Rattle.compare.specs.code.Table.{Formed, around, entriesIn, entryFor, nameIn, nameOr, namesWith, numberIn, placeBelow, spanFrom}
 use Rattle.logic.specs.Layout.{write}
 use Rattle.logic.specs.Place.{Atom, has, least}
 use Rattle.logic.specs.SpecimenTree.{Group, SpecimenTree, group}

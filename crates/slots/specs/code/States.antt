@@ -10,8 +10,8 @@ use Rattle.blocks.specs.Entries.{nth}
 use Rattle.blocks.specs.Owners.{ownerOf}
 use Rattle.blocks.specs.declared.Entry.{Entry}
 use Rattle.logic.specs.Normal.{atMost, found}
-use Rattle.passes.specs.Slots.{Slot, position, settled, slotAt, slotHigh, slotLow, taken}
-use Rattle.slots.specs.Tables.{Kept, slotsFrom}
+use Rattle.passes.specs.code.Slots.{Slot, position, settled, slotAt, slotHigh, slotLow, taken}
+use Rattle.slots.specs.code.Tables.{Kept, slotsFrom}
 
 -- ---- slots by key
 

@@ -12,7 +12,7 @@ use Rattle.logic.specs.Normal.{atMost, before}
 use Rattle.logic.specs.Place.{Atom, Kind, atom, has, lacks, least, most, nothing}
 use Rattle.logic.specs.Record.{bit}
 use Rattle.logic.specs.Tree.{Row, leafRow, nodeRow}
-use Rattle.passes.specs.Slots.{Cell, Slot, cell, cells, closed, inconsistent, isLink, nonempty, sameClass, settled, slot, slots, value}
+use Rattle.passes.specs.code.Slots.{Cell, Slot, cell, cells, closed, inconsistent, isLink, nonempty, sameClass, settled, slot, slots, value}
 
 -- ---- the third pass: the cells of each place in ascending order
 

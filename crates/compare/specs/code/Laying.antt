@@ -4,7 +4,7 @@
 use Prim.Native.Nat.{_+_, ℕ}
 use mathlib.Core.List.{List, [], _++_, _∷_, map}
 use Rattle.logic.specs.Tree.{Row, Tree, end, leaf, leafRow, node, nodeRow}
-use Rattle.normal.specs.Filling.{Filled, Joined}
+use Rattle.normal.specs.code.Filling.{Filled, Joined}
 
 -- a node, and the code of the place below it
 pub data Joint (B : Type 0) : Type 0 where

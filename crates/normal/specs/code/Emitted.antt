@@ -16,11 +16,11 @@ use Rattle.logic.specs.Place.{Atom, Kind, atom, has, lacks, least, most}
 use Rattle.logic.specs.Tree.{Row, leafRow, nodeRow}
 use Rattle.meaning.specs.Description.{placeOf}
 use Rattle.meaning.specs.Rows.{rowEntry}
-use Rattle.normal.specs.Filling.{Filled, Joined}
-use Rattle.normal.specs.Ordered.{tagNumbers, tagPlace, tagSlot}
-use Rattle.passes.specs.Pipeline.{walk}
-use Rattle.passes.specs.Slots.{Cell, cell, isLink, sameClass, value}
-use Rattle.slots.specs.Tables.{lowPart}
+use Rattle.normal.specs.code.Filling.{Filled, Joined}
+use Rattle.normal.specs.code.Ordered.{tagNumbers, tagPlace, tagSlot}
+use Rattle.passes.specs.code.Pipeline.{walk}
+use Rattle.passes.specs.code.Slots.{Cell, cell, isLink, sameClass, value}
+use Rattle.slots.specs.code.Tables.{lowPart}
 use Rattle.sorting.specs.Sorted.{sorted}
 
 -- ---- rows as entries

@@ -6,7 +6,7 @@ use mathlib.Core.Path.{_≡_}
 use Rattle.blocks.specs.Reading.{readingOf}
 use Rattle.blocks.specs.declared.Reading.the-variants as reading
 use Rattle.blocks.specs.declared.Schema.the-variants.{Description}
-use Rattle.slots.specs.Tables.{Settled}
+use Rattle.slots.specs.code.Tables.{Settled}
 use Rattle.slots.specs.declared.Slotting.{Slotting}
 use Rattle.slots.specs.declared.Slotting.the-variants.{Filled, Refused}
 

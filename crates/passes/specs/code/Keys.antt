@@ -7,7 +7,7 @@ use mathlib.Core.Option.{Option, none, some}
 use Rattle.logic.specs.Place.{Atom, atom}
 use Rattle.logic.specs.Record.{bit}
 use Rattle.logic.specs.Tree.{Row, leafRow, nodeRow}
-use Rattle.passes.specs.Slots.{Slot, slot}
+use Rattle.passes.specs.code.Slots.{Slot, slot}
 
 -- the key of a slot: its place, its class and its name
 unfoldable pub keyNumber : ℕ → Bool → ℕ → ℕ

@@ -1,0 +1,6 @@
+-- Mirrors of the code: the contracts of its functions cite these, and no promise to the customer does.
+
+-- Fitting by groups and by entry numbers, as the code goes.
+pub mod Groups
+-- The index of the entries of an input, as the code keeps it: of a description by owner, of a specimen by owner, kind and name.
+pub mod Index
