@@ -1,20 +1,20 @@
 -- Truth values as equations: laws of && and ||, case splits that keep their equation, and tests on numbers.
 pub mod Tests
--- Laws of ranges, for a loop that counts i up to e, and what a test over a range means.
-pub mod Range
--- Laws of stores in a row.
-pub mod Stores
 -- Lists by their elements: a list that stands in another from an index on, and the list of a function's values.
 pub mod Lists
 -- A number as full rows of r and a rest, and products that stay in order.
 pub mod Split
--- Further laws of tests, and case splits on a value that may be missing.
-pub mod Cases
 -- A list split at the index of a loop: one element more in front, one less behind.
 pub mod Fronts
 -- The two parts of a slice that meet at h.
 pub mod Parts
 -- The elements of a list, by membership and by index.
 pub mod Elements
+-- Further laws of tests, and case splits on a value that may be missing.
+pub mod Missing
+-- Laws of ranges, for a loop that counts i up to e, and what a test over a range means.
+pub mod RangeLaws
+-- Laws of stores in a row.
+pub mod StoresLaws
 -- Sorting a list, and why it does not matter how.
-pub mod SortedLaws
+pub mod AscendingLaws

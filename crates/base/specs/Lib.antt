@@ -5,4 +5,4 @@ pub mod Stores
 -- The search for a number that fails a test.
 pub mod Search
 -- Lists in ascending order, where `lt` tells which of two elements stands first.
-pub mod Sorted
+pub mod Ascending

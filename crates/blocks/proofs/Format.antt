@@ -4,8 +4,6 @@
 pub mod Lawful
 -- Words and checks of bytes that stand in a list.
 pub mod WordBytes
--- Rows of one length, and the rows one after the other.
-pub mod Rows
 -- Blocks and their parts: lengths, and where each part stands.
 pub mod Blocks
 -- Blocks one after the other: block i of the rows' encoding stands at byte 512 * i.
@@ -16,3 +14,5 @@ pub mod Counts
 pub mod EntryBytes
 -- Row 1 of the table of refusals: whole blocks, at least one and at most the limit.
 pub mod Lengths
+-- Rows of one length, and the rows one after the other.
+pub mod ByteRows

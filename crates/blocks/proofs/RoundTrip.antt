@@ -4,8 +4,6 @@
 pub mod Decoding
 -- Inputs that break none of rows 1 to 3 of the table of refusals.
 pub mod Unbroken
--- An encoding breaks none of rows 1 to 3 of the table of refusals.
-pub mod Sound
 -- An input that breaks none of rows 1 to 3 of the table of refusals is the encoding of its rows.
 pub mod Faithful
 -- What reading means.
@@ -13,4 +11,6 @@ pub mod Accepting
 -- What reading by number gives: the entries of an accepted input, and of a refused one the zero entry at every number.
 pub mod ByNumber
 -- The worked example of the section on blocks.
-pub mod Examples
+pub mod EmptyBlock
+-- An encoding breaks none of rows 1 to 3 of the table of refusals.
+pub mod EncodedBlocks

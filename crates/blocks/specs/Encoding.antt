@@ -63,3 +63,7 @@ unfoldable pub written : List ℕ → List ℕ → ℕ → List ℕ
 written out rows count =
     cond (eqb (bytesWritten (length out) (length rows) count) 0) out
     (encodeRows plain (map rowBytes (take count rows)) ++ drop (512 * blocksFor plain count) out)
+
+-- the blocks of k entries alone: as many bytes from the start of an output as they take
+abbrev pub firstBlocks : ℕ → List ℕ → List ℕ
+firstBlocks k out = take (512 * blocksFor plain k) out

@@ -14,3 +14,5 @@ pub mod Reading
 pub mod Encoding
 -- Mirrors of the code: the contracts of its functions cite these, and no promise to the customer does.
 pub mod code
+-- What the promises of the block layer speak of: the first fault that applies, and lists of entries that no rule refuses.
+pub mod Promise

@@ -8,10 +8,10 @@ use mathlib.Core.Logic.{_≢_}
 use mathlib.Core.Path.{_≡_, ap, refl}
 use native.Mathlib.Omega.{arith}
 use Rattle.base.proofs.Tests.{eq-cases, eq-eqb, ge-ltb, lt-cases, lt-ltb, ne-eqb}
-use Rattle.blocks.proofs.Faults.FirstFault.{FirstOf, None}
 use Rattle.blocks.proofs.RoundTrip.Accepting.{accepted-by-none, refused-by-first}
 use Rattle.blocks.specs.Entries.{entriesOf}
 use Rattle.blocks.specs.Faults.{faults}
+use Rattle.blocks.specs.Promise.{FirstOf, None}
 use Rattle.blocks.specs.Reading.{readingOf}
 use Rattle.blocks.specs.declared.Entry.{Entry}
 use Rattle.blocks.specs.declared.Reading.{Reading}
@@ -20,14 +20,7 @@ use Rattle.blocks.specs.declared.Schema.the-variants.{Description}
 use Rattle.compare.specs.Answer.{compareOf, returned, verdict}
 use Rattle.compare.specs.declared.Comparison.the-variants.{Contained, NotContained, Refused}
 use Rattle.meaning.specs.Failing.{failing, specimenOf}
-
--- both inputs are accepted, and the output is at least as long as both
-pub record Comparable (c d out : List ℕ) : Type 0 where
-  pub first : ℕ
-  pub second : ℕ
-  pub first-read : readingOf Description 1 c ≡ reading.Accepted first
-  pub second-read : readingOf Description 2 d ≡ reading.Accepted second
-  pub room : length c + length d ≤ length out
+use Rattle.compare.specs.Promise.{Comparable}
 
 -- ---- the ways to an answer
 

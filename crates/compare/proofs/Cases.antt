@@ -2,30 +2,29 @@
 -- Assumes nothing.
 use Prim.Native.Nat.{_*_, _+_, _≤_, ℕ}
 use lib.Dec.{eqb, leb}
-use lib.ListN.{drop, length}
+use lib.ListN.{length}
 use mathlib.Core.Bool.{true}
-use mathlib.Core.List.{List, List·Memᴰ, List·Memᴰ·cases-cons, List·Memᴰ·not-nil, [], _++_, _∷_, map}
+use mathlib.Core.List.{List, List·Memᴰ, List·Memᴰ·cases-cons, List·Memᴰ·not-nil, [], _∷_, map}
 use mathlib.Core.Logic.{⊎-elim}
 use mathlib.Core.Path.{_∙_, _≡_, ap, refl}
 use native.Mathlib.Omega.{arith}
 use Rattle.base.proofs.Tests.{leb-le, or-right}
 use Rattle.base.specs.Search.{firstFrom}
-use Rattle.blocks.proofs.Faults.FirstFault.{clean-none}
-use Rattle.blocks.proofs.Faults.Legal.{Legal, none-legal}
+use Rattle.blocks.proofs.Refusing.FirstFault.{clean-none}
+use Rattle.blocks.proofs.Refusing.Legal.{none-legal}
 use Rattle.blocks.proofs.RoundTrip.Accepting.{encoded-accepted}
 use Rattle.blocks.proofs.RoundTrip.Decoding.{decode-encode}
-use Rattle.blocks.specs.Encoding.{blocksFor, encode}
+use Rattle.blocks.specs.Encoding.{encode}
 use Rattle.blocks.specs.Entries.{entriesOf, formOk, nameOk, nth, numberOk}
 use Rattle.blocks.specs.Faults.{entryFaults, first}
-use Rattle.blocks.specs.Frame.{plain}
 use Rattle.blocks.specs.Owners.{chain, depthOf, depthOk, ownerOf, ownerOk}
+use Rattle.blocks.specs.Promise.{Legal}
 use Rattle.blocks.specs.declared.Entry.{Entry}
 use Rattle.blocks.specs.declared.Finding.the-variants.{Clean}
 use Rattle.blocks.specs.declared.Schema.the-variants.{Description}
-use Rattle.compare.proofs.AnswerLaws.{Comparable, compared, verdict-contained}
+use Rattle.compare.proofs.AnswerLaws.{compared, verdict-contained}
 use Rattle.compare.specs.Answer.{compareOf, outputAfter, outputOf, verdict}
-use Rattle.compare.specs.declared.Comparison.{Comparison}
-use Rattle.compare.specs.declared.Comparison.the-variants.{Contained, NotContained}
+use Rattle.compare.specs.Promise.{Right, answerOf, outputFor}
 use Rattle.logic.specs.Background.{unrestricted}
 use Rattle.logic.specs.Holds.{holds, holdsAt}
 use Rattle.logic.specs.Layout.{later, lay, weight, write}
@@ -39,26 +38,6 @@ use Rattle.meaning.specs.Description.{linksTo, linksUp, placeOf, rowOf}
 use Rattle.meaning.specs.Failing.{failing, normalOf, specimenOf}
 use Rattle.meaning.specs.First.{entryHolds, firstFailing}
 use Rattle.meaning.specs.SpecimenFor.{specimenEntries, specimenFor}
-
--- ---- what a line says
-
--- the answer, and the output after it
-abbrev pub answerOf : Outcome → Comparison
-answerOf inside = Contained
-answerOf (outside n sp) = NotContained n (length sp)
-
-abbrev pub outputFor : Outcome → List ℕ → List ℕ
-outputFor inside out = out
-outputFor (outside n sp) out = encode sp ++ drop (512 * blocksFor plain (length sp)) out
-
--- the entries as blocks give the answer and the output, for each output that is long enough; the normal form has the rows given;
--- every accepted description contains what nothing fits
-abbrev pub Right : Line → Type 0
-Right (compares c d o) =
-    (out : List ℕ) → length (encode c) + length (encode d) ≤ length out
-    → (compareOf (encode c) (encode d) out ≡ answerOf o) × (outputOf (encode c) (encode d) out ≡ outputFor o out)
-Right (normalises c n) = write (normalOf c) ≡ map rowOf n
-Right (impossible c) = (d out : List ℕ) → Comparable (encode c) d out → compareOf (encode c) d out ≡ Contained
 
 -- ---- by computing
 

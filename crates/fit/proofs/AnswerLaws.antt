@@ -6,7 +6,7 @@ use mathlib.Core.Bool.{Bool, false, true}
 use mathlib.Core.List.{List}
 use mathlib.Core.Path.{_∙_, _≡_, sym}
 use native.Mathlib.Omega.{arith}
-use Rattle.blocks.proofs.Faults.Legal.{owner-earlier}
+use Rattle.blocks.proofs.Refusing.Legal.{owner-earlier}
 use Rattle.blocks.proofs.RoundTrip.Accepting.{none-of-accepted, sound-of-accepted}
 use Rattle.blocks.proofs.RoundTrip.Faithful.{entries-limit}
 use Rattle.blocks.specs.Entries.{entriesOf, limitOf}
@@ -15,7 +15,7 @@ use Rattle.blocks.specs.declared.Reading.{Reading}
 use Rattle.blocks.specs.declared.Reading.the-variants as reading
 use Rattle.blocks.specs.declared.Schema.{Schema}
 use Rattle.blocks.specs.declared.Schema.the-variants.{Description, Specimen}
-use Rattle.fit.proofs.ByNumber.{fit-by-groups}
+use Rattle.fit.proofs.FitByNumber.{fit-by-groups}
 use Rattle.fit.specs.Answer.{fitOf, secondOf, topFits}
 use Rattle.fit.specs.code.Groups.{fitsPlace}
 use Rattle.fit.specs.code.Index.{Ordered}

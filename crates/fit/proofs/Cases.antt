@@ -6,32 +6,23 @@ use mathlib.Core.List.{List, List·Memᴰ, List·Memᴰ·cases-cons, List·Mem�
 use mathlib.Core.Logic.{⊎-elim}
 use mathlib.Core.Path.{_∙_, _≡_, refl}
 use Rattle.base.proofs.Tests.{and-left, and-right, false-of-not}
-use Rattle.blocks.proofs.Faults.FirstFault.{clean-none}
-use Rattle.blocks.proofs.Faults.Legal.{Legal, none-legal}
+use Rattle.blocks.proofs.Refusing.FirstFault.{clean-none}
+use Rattle.blocks.proofs.Refusing.Legal.{none-legal}
 use Rattle.blocks.specs.Entries.{formOk, nameOk, nth, numberOk}
 use Rattle.blocks.specs.Faults.{entryFaults, first}
 use Rattle.blocks.specs.Owners.{chain, depthOf, depthOk, ownerOf, ownerOk}
+use Rattle.blocks.specs.Promise.{Legal}
 use Rattle.blocks.specs.declared.Entry.{Entry}
 use Rattle.blocks.specs.declared.Finding.{Finding}
 use Rattle.blocks.specs.declared.Finding.the-variants.{Clean, Faulty}
 use Rattle.blocks.specs.declared.Schema.{Schema}
 use Rattle.blocks.specs.declared.Schema.the-variants.{Description, Specimen}
-use Rattle.fit.proofs.ByNumber.{fit-by-groups}
+use Rattle.fit.proofs.FitByNumber.{fit-by-groups}
+use Rattle.fit.specs.Promise.{Shows}
 use Rattle.fit.specs.code.Groups.{fitsPlace, groupsBy, hasProperty, meetsEntry, totalBy}
 use Rattle.logic.proofs.Records.Counting.{everyIn}
-use Rattle.logic.specs.Record.{fits}
-use Rattle.meaning.specs.Description.{placeOf}
 use Rattle.meaning.specs.FitCases.{Case, cases}
 use Rattle.meaning.specs.Owned.{allWhere, sumWhere}
-use Rattle.meaning.specs.Specimen.{recordOf}
-
--- the specimen and both descriptions are legal, and the top item fits the supplier's description and not the service's
-pub record Shows (c : Case) : Type 0 where
-  pub legal-specimen : Legal Specimen (c .specimen)
-  pub legal-supplier : Legal Description (c .supplier)
-  pub legal-service : Legal Description (c .service)
-  pub fits-supplier : fits (recordOf (c .specimen)) (placeOf (c .supplier) 0) 0 ≡ true
-  pub not-service : fits (recordOf (c .specimen)) (placeOf (c .service) 0) 0 ≡ false
 
 -- ---- by computing
 

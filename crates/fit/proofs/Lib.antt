@@ -1,6 +1,6 @@
 -- Laws of the fit answer: what accepted inputs keep, and one law for each way through the code.
 pub mod AnswerLaws
--- Fitting by entry numbers, down from the top and for 33 levels, is fitting in the record of the specimen.
-pub mod ByNumber
 -- The desk examples: each specimen shows that the service's description asks more than the supplier's gives.
 pub mod Cases
+-- Fitting by entry numbers, down from the top and for 33 levels, is fitting in the record of the specimen.
+pub mod FitByNumber

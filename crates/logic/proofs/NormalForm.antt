@@ -4,13 +4,13 @@
 pub mod Fits
 -- The normal form is fitted by the same items, in every record that keeps the background.
 pub mod Sound
--- A normal form is normal.
-pub mod Normal
--- A normal form has no more entries than its description, and no more levels.
-pub mod Size
--- Names and numbers of a normal form: what holds of those of the description holds of those of its normal form.
-pub mod Fields
 -- What a normal form lists, atom by atom.
 pub mod Stored
 -- Normal forms of small places, by computing.
-pub mod Examples
+pub mod ReportExamples
+-- Names and numbers of a normal form: what holds of those of the description holds of those of its normal form.
+pub mod NormalFields
+-- A normal form is normal.
+pub mod IsNormal
+-- A normal form has no more entries than its description, and no more levels.
+pub mod NormalSize

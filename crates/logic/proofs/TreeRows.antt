@@ -5,4 +5,4 @@ pub mod LayoutLaws
 -- What holds of each entry of a tree: it holds of the rows that are written from the tree, and of the tree that is read from rows.
 pub mod AllEntries
 -- The entries of several owners together.
-pub mod Merged
+pub mod MergedRows

@@ -1,7 +1,5 @@
 -- A description's entries, owners, places and paths.
 
--- The entries of one owner, by number: what allOwned and sumOwned say, and the same by the list of entries.
-pub mod Owned
 -- The links that lead to an entry: those into the place of its owner.
 pub mod Links
 -- What the entries of a place ask, one by one: the place that an owner's rows make, and the place of a legal description.
@@ -14,3 +12,5 @@ pub mod EntryFields
 pub mod PlaceSize
 -- The links to an entry of a description.
 pub mod LinkPaths
+-- The entries of one owner, by number: what allOwned and sumOwned say, and the same by the list of entries.
+pub mod OwnedLaws

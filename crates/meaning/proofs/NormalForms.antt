@@ -6,8 +6,6 @@ pub mod RowPlaces
 pub mod WrittenPlaces
 -- The rows of a tree of at most 33 levels, as entries: each owner stands earlier and may own, and no entry is deeper than 32.
 pub mod LayoutLegal
--- The entries of a normal form.
-pub mod NormalEntries
 -- The entries of a normal form are legal, and their fields fit their bytes.
 pub mod NormalLegal
 -- The entries of a normal form ascend by owner, then kind, then name.
@@ -18,3 +16,5 @@ pub mod NormalDepth
 pub mod RulesLaws
 -- For each rule of the normal form a small list of entries that it applies to.
 pub mod RulesExamples
+-- The entries of a normal form.
+pub mod NormalEntriesLaws

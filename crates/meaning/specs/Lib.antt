@@ -4,8 +4,6 @@ pub mod Description
 pub mod Owned
 -- A specimen as a record of items.
 pub mod Specimen
--- The rows of a description's places as entries.
-pub mod Rows
 -- The entries of a description's normal form.
 pub mod NormalEntries
 -- The rules of the normal form, one by one, as what each looks for in a list of entries.
@@ -22,3 +20,7 @@ pub mod FitCases
 pub mod NormalCases
 -- The starred desk examples, as one list.
 pub mod CompareCases
+-- What the promises of the comparison speak of, for lists of entries.
+pub mod Promise
+-- The rows of a description's places as entries.
+pub mod RowEntries

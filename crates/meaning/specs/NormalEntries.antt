@@ -6,7 +6,7 @@ use Rattle.logic.specs.Background.{unrestricted}
 use Rattle.logic.specs.Layout.{write}
 use Rattle.logic.specs.Normal.{nf}
 use Rattle.meaning.specs.Description.{placeOf}
-use Rattle.meaning.specs.Rows.{rowEntry}
+use Rattle.meaning.specs.RowEntries.{rowEntry}
 
 -- the normal form's entries: "entries ascend by owner, then kind, then name"
 unfoldable pub normalEntries : List Entry → List Entry

@@ -1,22 +1,21 @@
 -- The examples of normal forms: what normalising answers and writes for each.
 -- Assumes nothing.
-use Prim.Native.Nat.{_*_, _≤_, ℕ}
+use Prim.Native.Nat.{_≤_}
 use lib.Dec.{leb}
-use lib.ListN.{drop, length}
+use lib.ListN.{length}
 use mathlib.Core.Bool.{true}
-use mathlib.Core.List.{List, List·Memᴰ, List·Memᴰ·cases-cons, List·Memᴰ·not-nil, [], _++_, _∷_}
+use mathlib.Core.List.{List, List·Memᴰ, List·Memᴰ·cases-cons, List·Memᴰ·not-nil, [], _∷_}
 use mathlib.Core.Logic.{⊎-elim}
 use mathlib.Core.Path.{_∙_, _≡_, ap, refl}
 use native.Mathlib.Omega.{arith}
 use Rattle.base.proofs.Tests.{leb-le}
-use Rattle.blocks.proofs.Faults.FirstFault.{clean-none}
-use Rattle.blocks.proofs.Faults.Legal.{none-legal}
+use Rattle.blocks.proofs.Refusing.FirstFault.{clean-none}
+use Rattle.blocks.proofs.Refusing.Legal.{none-legal}
 use Rattle.blocks.proofs.RoundTrip.Accepting.{encoded-accepted}
 use Rattle.blocks.proofs.RoundTrip.Decoding.{decode-encode}
-use Rattle.blocks.specs.Encoding.{blocksFor, encode}
+use Rattle.blocks.specs.Encoding.{encode}
 use Rattle.blocks.specs.Entries.{entriesOf, formOk, nameOk, nth, numberOk}
 use Rattle.blocks.specs.Faults.{entryFaults, first}
-use Rattle.blocks.specs.Frame.{plain}
 use Rattle.blocks.specs.Owners.{chain, depthOf, depthOk, ownerOf, ownerOk}
 use Rattle.blocks.specs.declared.Entry.{Entry}
 use Rattle.blocks.specs.declared.Finding.the-variants.{Clean}
@@ -31,14 +30,9 @@ use Rattle.meaning.specs.NormalCases.{Line, lines, normalises}
 use Rattle.meaning.specs.NormalEntries.{normalEntries}
 use Rattle.normal.proofs.AnswerLaws.{normalised}
 use Rattle.normal.specs.Answer.{normaliseOf, normalisedOf, outputAfter}
+use Rattle.normal.specs.Promise.{Right}
 use Rattle.normal.specs.declared.NormalAnswer.the-variants.{Normalised}
-use Rattle.passes.proofs.Places.Forms.{form}
-
--- what a line says: the entries as blocks give the number of entries, and their blocks at the start of each output that is long enough
-abbrev pub Right : Line → Type 0
-Right (normalises c n) =
-    (out : List ℕ) → length (encode c) ≤ length out
-    → (normaliseOf (encode c) out ≡ Normalised (length n)) × (normalisedOf (encode c) out ≡ encode n ++ drop (512 * blocksFor plain (length n)) out)
+use Rattle.passes.proofs.CellPlaces.Forms.{form}
 
 -- what computes: no rule refuses the entries, they have room in 16 blocks, and the normal form's entries are those given
 abbrev Computes : Line → Type 0

@@ -2,11 +2,11 @@
 pub mod FillLaws
 -- The normal form's answer by the ways through it: refused, or normalised.
 pub mod AnswerLaws
--- The normal form of an input.
-pub mod Answer
 -- The numbers that reading refuses with are 1 to 6: 7 is left for an output that is too short.
 pub mod ReadingNumbers
 -- The examples of normal forms: what normalising answers and writes for each.
 pub mod Cases
 -- The packed entries of a normal form, written to the output, give the output that the answer promises.
 pub mod NormalWritten
+-- The normal form of an input.
+pub mod PromiseKept

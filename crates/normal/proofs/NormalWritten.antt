@@ -7,7 +7,7 @@ use mathlib.Core.List.{List, [], _∷_, map}
 use mathlib.Core.Path.{_∙_, _≡_, ap, refl, sym}
 use native.Mathlib.Omega.{arith}
 use Rattle.base.proofs.Tests.{le-leb, leb-self}
-use Rattle.blocks.proofs.Faults.Bounds.{AllBounded}
+use Rattle.blocks.proofs.Refusing.Bounds.{AllBounded}
 use Rattle.blocks.proofs.RoundTrip.Accepting.{sound-of-accepted, written-encodes}
 use Rattle.blocks.proofs.RoundTrip.Faithful.{entries-limit}
 use Rattle.blocks.specs.Encoding.{bytesWritten, written}
@@ -21,13 +21,13 @@ use Rattle.logic.specs.Layout.{write}
 use Rattle.logic.specs.Normal.{nf}
 use Rattle.logic.specs.Place.{Atom, Place}
 use Rattle.logic.specs.Tree.{Row}
-use Rattle.meaning.proofs.NormalForms.NormalEntries.{normal-fewer}
+use Rattle.meaning.proofs.NormalForms.NormalEntriesLaws.{normal-fewer}
 use Rattle.meaning.proofs.NormalForms.NormalLegal.{normal-bounded}
 use Rattle.meaning.specs.Description.{placeOf}
 use Rattle.meaning.specs.NormalEntries.{normalEntries}
-use Rattle.meaning.specs.Rows.{rowEntry}
-use Rattle.normal.proofs.Answer.{normalised-means}
+use Rattle.meaning.specs.RowEntries.{rowEntry}
 use Rattle.normal.proofs.AnswerLaws.{Ready, normalised}
+use Rattle.normal.proofs.PromiseKept.{normalised-means}
 use Rattle.normal.proofs.emit.PushLaws.{pushed-total}
 use Rattle.normal.proofs.tables.PassOrder.{rows-few}
 use Rattle.normal.specs.Answer.{normaliseOf, normalisedOf, outputAfter}

@@ -7,11 +7,11 @@ use mathlib.Core.List.{List, [], _++_, _∷_}
 use mathlib.Core.Logic.{_↔_, ⊎-elim}
 use mathlib.Core.Path.{_≡_}
 use native.Mathlib.Omega.{arith}
-use Rattle.blocks.proofs.Faults.FirstFault.{None}
 use Rattle.blocks.proofs.RoundTrip.Accepting.{accepted-by-none, first-of-refused}
 use Rattle.blocks.specs.Entries.{entriesOf}
 use Rattle.blocks.specs.Faults.{Fault, blockFaults, entryFaults, fault, faults}
 use Rattle.blocks.specs.Frame.{blocksIn, plain}
+use Rattle.blocks.specs.Promise.{None}
 use Rattle.blocks.specs.Reading.{readingOf}
 use Rattle.blocks.specs.declared.Entry.{Entry}
 use Rattle.blocks.specs.declared.Reading.the-variants as reading

@@ -6,9 +6,9 @@ pub mod OrderingLaws
 pub mod TagLaws
 -- Lists whose numbers are all different: sorted, they ascend strictly.
 pub mod Rising
--- The cells of a place stand in a row where the numbers ascend by place.
-pub mod RunLaws
 -- The numbers of slots in ascending order are their tags in ascending order, where no two slots have one key.
 pub mod TagOrder
 -- The fast normal form from a table of settled slots and the ascending list of their numbers.
 pub mod NormalOrdered
+-- The cells of a place stand in a row where the numbers ascend by place.
+pub mod PlaceRuns

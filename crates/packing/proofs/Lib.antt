@@ -1,2 +1,2 @@
 -- A packed number gives its four fields back, each from its own bits, where they are in range, as the fields of every answer are.
-pub mod Fields
+pub mod FieldsBack

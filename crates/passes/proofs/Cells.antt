@@ -1,7 +1,5 @@
 -- The cells of a place, and the place that is written from them.
 
--- The place that is written from the cells of a place, kind by kind, and its order.
-pub mod Written
 -- What a place that is written from sorted cells lists: what its cells say of each name.
 pub mod WrittenLists
 -- Tests that each entry of a place has to pass, of a place that is written from cells: each cell has to pass them.
@@ -12,3 +10,5 @@ pub mod WrittenMeaning
 pub mod CellLaws
 -- A place that is written from sorted cells, none of which is broken, is normal.
 pub mod WrittenNormal
+-- The place that is written from the cells of a place, kind by kind, and its order.
+pub mod CellsWritten

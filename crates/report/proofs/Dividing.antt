@@ -11,13 +11,7 @@ use Rattle.base.proofs.Tests.{eq-cases, eq-eqb, lt-cases, ne-eqb}
 use Rattle.blocks.specs.Frame.{blocksIn}
 use Rattle.blocks.specs.Words.{wordAt}
 use Rattle.report.specs.Division.{Begins, divisionFrom, firstLength, firstPart, secondPart}
-
--- r is the offset of the first later whole block with number 1
-pub record FirstLater (s : List ℕ) (r : ℕ) : Type 0 where
-  pub block : ℕ
-  pub begins : Begins s block
-  pub offset : r ≡ 512 * block
-  pub none-before : (k : ℕ) → k < block → Begins s k → ⊥
+use Rattle.report.specs.Promise.{FirstLater}
 
 -- ---- the search among `left` whole blocks from block i on
 

@@ -1,12 +1,12 @@
--- Laws of the search for the second description, one for each way through its loop.
-pub mod SearchLaws
 -- What dividing the input means: it is divided at the first later whole block with number 1, and not at all where there is none.
 pub mod Dividing
 -- Descriptions on standard input: two that are accepted, joined, divide into just these two, and one alone does not divide.
 pub mod Joined
--- The lines of a specimen that is written at the start of the output are the lines of its entries.
-pub mod Written
 -- The lines to print, by the answer and by the input.
 pub mod Printed
 -- The lines that the paper gives.
-pub mod Examples
+pub mod SecondExample
+-- Laws of the search for the second description, one for each way through its loop.
+pub mod DivisionLaws
+-- The lines of a specimen that is written at the start of the output are the lines of its entries.
+pub mod WrittenLines

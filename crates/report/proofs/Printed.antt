@@ -20,7 +20,7 @@ use Rattle.compare.specs.declared.Comparison.the-variants as comparison
 use Rattle.meaning.specs.Failing.{specimenOf}
 use Rattle.report.proofs.Dividing.{no-second}
 use Rattle.report.proofs.Joined.{alone-parts, joined-parts}
-use Rattle.report.proofs.Written.{lines-written}
+use Rattle.report.proofs.WrittenLines.{lines-written}
 use Rattle.report.specs.Division.{firstPart, secondPart}
 use Rattle.report.specs.Lines.{entryLines, linesFrom, linesOf}
 use Rattle.report.specs.declared.Line.{Line}

@@ -12,9 +12,10 @@ use mathlib.Core.Path.{_∙_, _≡_, refl, sym}
 use native.Mathlib.Omega.{arith}
 use Rattle.base.proofs.Tests.{and-left, and-right, bool-cases, eq-cases, eq-eqb, iff-eq, leb-le, ltb-lt, ne-eqb, or-one, tests}
 use Rattle.base.specs.Search.{firstFrom}
-use Rattle.blocks.proofs.Faults.Legal.{Legal, owner-earlier}
+use Rattle.blocks.proofs.Refusing.Legal.{owner-earlier}
 use Rattle.blocks.specs.Entries.{formOk, kindOk, nth}
 use Rattle.blocks.specs.Owners.{ownerOf}
+use Rattle.blocks.specs.Promise.{Legal}
 use Rattle.blocks.specs.declared.Entry.{Entry}
 use Rattle.blocks.specs.declared.Schema.the-variants.{Description}
 use Rattle.logic.proofs.OneMeaning.Plain.{supports-plain}
@@ -27,11 +28,11 @@ use Rattle.meaning.proofs.Descriptions.Links.{links-into, linksInto}
 use Rattle.meaning.proofs.Verdicts.FirstLaws.{first-same, none-failing}
 use Rattle.meaning.specs.Description.{atomOf, linksTo, placeOf, rowOf}
 use Rattle.meaning.specs.First.{entryHolds, firstFailing}
+use Rattle.passes.proofs.CellPlaces.FormNormal.{form-top, top-bottom}
+use Rattle.passes.proofs.CellPlaces.Forms.{form, formed}
 use Rattle.passes.proofs.Cells.WrittenLists.{value-none}
-use Rattle.passes.proofs.Places.FormNormal.{form-top, top-bottom}
-use Rattle.passes.proofs.Places.Forms.{form, formed}
-use Rattle.passes.proofs.Slots.SlotLaws.{position-from}
-use Rattle.passes.proofs.Slots.SlotNumbers.{no-link-slot, no-slot, position-range, slot-lists, slot-owns}
+use Rattle.passes.proofs.SlotLists.SlotLaws.{position-from}
+use Rattle.passes.proofs.SlotLists.SlotNumbers.{no-link-slot, no-slot, position-range, slot-lists, slot-owns}
 use Rattle.passes.specs.code.Slots.{Slot, inconsistent, isLink, position, slots, taken, value}
 use Rattle.slots.specs.code.States.{entrySlot, heldAt, heldIn, highAt, linkName, lowAt, slotFor, stateBelow, stateOf, supportedBy}
 

@@ -10,11 +10,11 @@ use mathlib.Core.Option.{Option}
 use mathlib.Core.Path.{_≡_, refl}
 use native.Mathlib.Omega.{arith}
 use Rattle.base.proofs.Tests.{bool-cases, eq-cases, ne-eqb}
-use Rattle.blocks.proofs.Faults.Bounds.{AllBounded}
+use Rattle.blocks.proofs.Refusing.Bounds.{AllBounded}
 use Rattle.blocks.specs.Entries.{Bounded, entriesOf, nth, zeroEntry}
 use Rattle.blocks.specs.declared.Entry.{Entry}
 use Rattle.meaning.specs.Description.{rowOf}
-use Rattle.passes.proofs.Slots.SlotLaws.{slots-early}
+use Rattle.passes.proofs.SlotLists.SlotLaws.{slots-early}
 use Rattle.passes.specs.code.Keys.{SmallRows, SmallSlots, SmallTop}
 use Rattle.passes.specs.code.Slots.{EarlySlots, Slot, closed, inconsistent, nonempty, settled, slot}
 use Rattle.slots.specs.code.Tables.{Built, Placed, Settled, Settling, keyIn, lowPart, slotIn, slotsFrom}

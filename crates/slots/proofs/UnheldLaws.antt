@@ -10,12 +10,12 @@ use native.Mathlib.Omega.{arith}
 use Rattle.base.proofs.Tests.{eq-cases, eq-eqb, ne-eqb}
 use Rattle.base.specs.Range.{all}
 use Rattle.base.specs.Search.{firstFrom}
-use Rattle.blocks.proofs.Faults.FirstFault.{FirstOf, None}
-use Rattle.blocks.proofs.Faults.Legal.{owner-earlier, owner-kind}
+use Rattle.blocks.proofs.Refusing.Legal.{owner-earlier, owner-kind}
 use Rattle.blocks.proofs.RoundTrip.Accepting.{accepted-by-none, none-of-accepted, refused-by-first, sound-of-accepted}
 use Rattle.blocks.proofs.RoundTrip.Faithful.{entries-limit}
 use Rattle.blocks.specs.Entries.{entriesOf}
 use Rattle.blocks.specs.Faults.{faults}
+use Rattle.blocks.specs.Promise.{FirstOf, None}
 use Rattle.blocks.specs.Reading.{readingOf}
 use Rattle.blocks.specs.declared.Reading.{Reading}
 use Rattle.blocks.specs.declared.Reading.the-variants as reading
@@ -23,7 +23,7 @@ use Rattle.blocks.specs.declared.Schema.the-variants.{Description}
 use Rattle.logic.specs.Record.{bit, every}
 use Rattle.meaning.specs.Description.{rowOf}
 use Rattle.meaning.specs.Owned.{Owned}
-use Rattle.passes.proofs.Cells.Written.{kept}
+use Rattle.passes.proofs.Cells.CellsWritten.{kept}
 use Rattle.passes.specs.code.Slots.{Slot, inconsistent, settled, slot, slots}
 use Rattle.slots.proofs.HoldingLaws.{bottom-first, slots-first}
 use Rattle.slots.proofs.slots.TableLaws.{length-slots}

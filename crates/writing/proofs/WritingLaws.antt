@@ -11,13 +11,13 @@ use native.Mathlib.Nat.{zero-add}
 use native.Mathlib.Numerals.{add-one}
 use native.Mathlib.Omega.{arith}
 use Rattle.base.proofs.Lists.{getD-map-in, listed, listed-last}
-use Rattle.base.proofs.Stores.{holds-stored, stored-front, stored-none, stored-one, stored-then}
+use Rattle.base.proofs.StoresLaws.{holds-stored, stored-front, stored-none, stored-one, stored-then}
 use Rattle.base.proofs.Tests.{gt-leb, le-leb, tests}
 use Rattle.base.specs.Range.{all}
 use Rattle.base.specs.Stores.{stored}
 use Rattle.blocks.proofs.Format.Blocks.{length-front}
+use Rattle.blocks.proofs.Format.ByteRows.{Rows, length-joined, more, none}
 use Rattle.blocks.proofs.Format.Lawful.{plain-lawful}
-use Rattle.blocks.proofs.Format.Rows.{Rows, length-joined, more, none}
 use Rattle.blocks.proofs.Format.Sequence.{all-joined, blockOf, length-blocks, row-in, rowsIn}
 use Rattle.blocks.proofs.Format.WordBytes.{check-within, length-word}
 use Rattle.blocks.specs.Encoding.{blockBody, blockBytes, blockFront, blocksFor, bytesWritten, encodeFrom, encodeRows, joined, rowBytes, written}

@@ -7,8 +7,8 @@ use Prim.Native.Nat.{ℕ, suc, _+_, _*_, _-_, _≤_}
 use native.Mathlib.Nat.{zero-add, mul-le-mul-left}
 use lib.ListN.{length, replicate, length-append, length-replicate}
 use Rattle.base.proofs.Lists.{Holds, holds-left, holds-right, holds-both, holds-as}
+use Rattle.blocks.proofs.Format.ByteRows.{Rows, length-joined}
 use Rattle.blocks.proofs.Format.Lawful.{Lawful}
-use Rattle.blocks.proofs.Format.Rows.{Rows, length-joined}
 use Rattle.blocks.proofs.Format.WordBytes.{length-word, check-within}
 use Rattle.blocks.specs.Encoding.{joined, blockBody, blockFront, blockBytes}
 use Rattle.blocks.specs.Frame.{Frame}

@@ -7,7 +7,7 @@ use Prim.Native.Nat.{ℕ, zero, suc, _+_}
 use native.Mathlib.Nat.{add-zero}
 use lib.ListN.{length, getD}
 use Rattle.base.proofs.Lists.{Holds, holds-left, holds-right, holds-both, holds-two, holds-as, listed, length-listed}
-use Rattle.blocks.proofs.Format.Rows.{Rows, none, more}
+use Rattle.blocks.proofs.Format.ByteRows.{Rows, none, more}
 use Rattle.blocks.proofs.Format.WordBytes.{Bytes, length-word, word-read, word-held}
 use Rattle.blocks.specs.Entries.{entryFrom, entryBytes, entryAt, entriesFrom, entriesOf}
 use Rattle.blocks.specs.Frame.{plain, totalIn}

@@ -9,8 +9,8 @@ use lib.ListN.{length, getD, take, drop, length-take}
 use lib.Seq.{drop-drop, getD-take, getD-drop}
 use Rattle.base.proofs.Lists.{Holds, holds-as, listed, length-listed, getD-listed}
 use Rattle.blocks.proofs.Format.Blocks.{length-block}
+use Rattle.blocks.proofs.Format.ByteRows.{Rows, rows-take, rows-drop, rows-listed, length-joined, row-held, rows-held}
 use Rattle.blocks.proofs.Format.Lawful.{Lawful}
-use Rattle.blocks.proofs.Format.Rows.{Rows, rows-take, rows-drop, rows-listed, length-joined, row-held, rows-held}
 use Rattle.blocks.specs.Encoding.{joined, blockBytes, encodeFrom}
 use Rattle.blocks.specs.Frame.{Frame}
 

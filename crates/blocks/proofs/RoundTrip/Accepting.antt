@@ -11,20 +11,21 @@ use mathlib.Core.Path.{_∙_, _≡_, ap, refl, sym}
 use native.Mathlib.Omega.{arith}
 use Rattle.base.proofs.Split.{place-of, row-of}
 use Rattle.base.proofs.Tests.{le-leb, leb-self, tests}
-use Rattle.blocks.proofs.Faults.BlockLaws.{blocks-none, none-blocks}
-use Rattle.blocks.proofs.Faults.Bounds.{AllBounded}
-use Rattle.blocks.proofs.Faults.FirstFault.{FirstOf, None, clean-none, first-found, found-first, none-clean}
-use Rattle.blocks.proofs.Faults.Legal.{Legal, legal-none, none-legal}
 use Rattle.blocks.proofs.Format.EntryBytes.{length-entries}
 use Rattle.blocks.proofs.Format.WordBytes.{Bytes}
+use Rattle.blocks.proofs.Refusing.BlockLaws.{blocks-none, none-blocks}
+use Rattle.blocks.proofs.Refusing.Bounds.{AllBounded}
+use Rattle.blocks.proofs.Refusing.FirstFault.{clean-none, first-found, found-first, none-clean}
+use Rattle.blocks.proofs.Refusing.Legal.{legal-none, none-legal}
 use Rattle.blocks.proofs.RoundTrip.Decoding.{decode-encode}
+use Rattle.blocks.proofs.RoundTrip.EncodedBlocks.{encode-sound}
 use Rattle.blocks.proofs.RoundTrip.Faithful.{encode-decode}
-use Rattle.blocks.proofs.RoundTrip.Sound.{encode-sound}
 use Rattle.blocks.proofs.RoundTrip.Unbroken.{Unbroken}
 use Rattle.blocks.specs.Encoding.{blocksFor, bytesWritten, encode, rowBytes, written}
 use Rattle.blocks.specs.Entries.{Bounded, entriesOf, entryBytes, limitOf, packed}
 use Rattle.blocks.specs.Faults.{Fault, blockFaults, entryFaults, faults, first}
 use Rattle.blocks.specs.Frame.{blocksIn, plain, totalIn}
+use Rattle.blocks.specs.Promise.{FirstOf, Legal, None}
 use Rattle.blocks.specs.Reading.{readingOf, returned}
 use Rattle.blocks.specs.Words.{wordBytes}
 use Rattle.blocks.specs.declared.Entry.{Entry}

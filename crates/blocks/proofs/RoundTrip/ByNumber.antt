@@ -5,7 +5,7 @@ use mathlib.Core.List.{List}
 use mathlib.Core.Path.{_∙_, _≡_, ap, refl, sym}
 use native.Mathlib.Omega.{arith}
 use Rattle.base.proofs.Tests.{eq-cases}
-use Rattle.blocks.proofs.Faults.EntryLaws.{of-above, of-none, of-nth}
+use Rattle.blocks.proofs.Refusing.EntryLaws.{of-above, of-none, of-nth}
 use Rattle.blocks.proofs.RoundTrip.Accepting.{accepted-by-none, first-of-refused, none-of-accepted, refused-by-first}
 use Rattle.blocks.specs.Entries.{entriesOf, entryOf, nth, zeroEntry}
 use Rattle.blocks.specs.Reading.{readingOf, returned, totalRead}

@@ -10,10 +10,10 @@ use Rattle.base.proofs.Lists.{Holds, holds-self, holds-as, listed-eq, getD-map-
 use Rattle.base.proofs.Split.{Split, split, row-below}
 use Rattle.base.proofs.Tests.{lt-cases}
 use Rattle.blocks.proofs.Format.Blocks.{Parts, parts}
+use Rattle.blocks.proofs.Format.ByteRows.{Rows, row-length, row-held}
 use Rattle.blocks.proofs.Format.Counts.{blocks-for, used-last}
 use Rattle.blocks.proofs.Format.EntryBytes.{rows-entries, entry-read, entries-listed}
 use Rattle.blocks.proofs.Format.Lawful.{Lawful, plain-lawful}
-use Rattle.blocks.proofs.Format.Rows.{Rows, row-length, row-held}
 use Rattle.blocks.proofs.Format.Sequence.{rowsIn, wide-in, fits-in, length-blocks, block-within, row-in}
 use Rattle.blocks.proofs.Format.WordBytes.{word-read}
 use Rattle.blocks.specs.Encoding.{blocksFor, encodeRows, encode}

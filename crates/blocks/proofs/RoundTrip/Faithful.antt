@@ -7,15 +7,15 @@ use mathlib.Core.List.{List, []}
 use Prim.Native.Nat.{ℕ, suc, _+_, _*_, _-_, _≤_, _<_}
 use lib.ListN.{length, getD, length-take, length-drop}
 use Rattle.base.proofs.Lists.{Holds, holds-as, holds-eq, holds-zeros, listed, length-listed, getD-listed, map-listed, part-held, part-eq}
-use Rattle.base.proofs.Range.{all-at}
+use Rattle.base.proofs.RangeLaws.{all-at}
 use Rattle.base.proofs.Split.{Split, row-below}
 use Rattle.base.proofs.Tests.{eqb-eq, lt-cases}
 use Rattle.blocks.proofs.Format.Blocks.{Parts, spare, block-held}
+use Rattle.blocks.proofs.Format.ByteRows.{Rows, rows-listed, rows-held}
 use Rattle.blocks.proofs.Format.Counts.{used-before, used-small, used-some, blocks-for, used-full, used-last, place-in}
 use Rattle.blocks.proofs.Format.EntryBytes.{length-entry, length-entries, entry-held, entries-listed}
 use Rattle.blocks.proofs.Format.Lawful.{Lawful, plain-lawful}
 use Rattle.blocks.proofs.Format.Lengths.{whole-blocks, some-block, few-blocks}
-use Rattle.blocks.proofs.Format.Rows.{Rows, rows-listed, rows-held}
 use Rattle.blocks.proofs.Format.Sequence.{rowsIn, blockOf, row-in, wide-in, fits-in, length-blocks, blocks-held}
 use Rattle.blocks.proofs.Format.WordBytes.{Bytes, word-held}
 use Rattle.blocks.proofs.RoundTrip.Unbroken.{Unbroken, Passing, passing}

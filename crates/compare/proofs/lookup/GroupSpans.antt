@@ -10,8 +10,8 @@ use mathlib.Core.Option.{some}
 use mathlib.Core.Path.{_∙_, _≡_, ap, refl, sym}
 use native.Mathlib.Omega.{arith}
 use Rattle.base.proofs.Tests.{ge-ltb, lt-cases, lt-ltb, neither-left, tests}
-use Rattle.blocks.proofs.Faults.Legal.{Legal}
 use Rattle.blocks.specs.Entries.{nth}
+use Rattle.blocks.specs.Promise.{Legal}
 use Rattle.blocks.specs.declared.Entry.{Entry}
 use Rattle.blocks.specs.declared.Schema.the-variants.{Description}
 use Rattle.compare.proofs.lookup.NameSpans.{name-at, names-extra, names-over, names-plain, names-under, number-at, span-inside, span-only, span-order, span-increasing}
@@ -20,7 +20,7 @@ use Rattle.compare.proofs.table.WordNames.{increasing-at}
 use Rattle.compare.specs.code.Codes.{codeBelow, groupAt, groupsAt, groupsFrom, propertiesAt, targetAt, targetBelow}
 use Rattle.compare.specs.code.Laying.{Joint, joint}
 use Rattle.compare.specs.code.Table.{Ranked, Table, keyOf, nameIn, namesFrom, numberIn, placeBelow}
-use Rattle.logic.proofs.Specimens.WitnessTree.{want-none}
+use Rattle.logic.proofs.SpecimenTrees.WitnessTree.{want-none}
 use Rattle.logic.specs.Background.{unrestricted}
 use Rattle.logic.specs.Canonical.{Canonical}
 use Rattle.logic.specs.Normal.{find, rank}

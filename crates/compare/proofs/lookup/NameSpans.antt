@@ -6,15 +6,15 @@ use mathlib.Core.List.{List, [], _++_, _∷_, append-nil}
 use mathlib.Core.Path.{_∙_, _≡_, ap}
 use native.Mathlib.Omega.{arith}
 use Rattle.base.proofs.Tests.{lt-cases}
-use Rattle.blocks.proofs.Faults.Legal.{Legal}
 use Rattle.blocks.specs.Entries.{nth}
+use Rattle.blocks.specs.Promise.{Legal}
 use Rattle.blocks.specs.declared.Entry.{Entry}
 use Rattle.blocks.specs.declared.Schema.the-variants.{Description}
 use Rattle.compare.proofs.table.Lookups.{kind-range}
 use Rattle.compare.proofs.table.TablePlaces.{places-normal}
 use Rattle.compare.proofs.table.WordNames.{each-name, names-own, names-parts, own-span}
 use Rattle.compare.specs.code.Table.{Narrow, Ranked, Table, keyOf, nameIn, namesFrom, numberIn, wordOf}
-use Rattle.logic.proofs.Specimens.IncreasingNames.{Increasing, all-around, all-increasing, kind-increasing, kindNames, names-all, onceAll}
+use Rattle.logic.proofs.SpecimenTrees.IncreasingNames.{Increasing, all-around, all-increasing, kind-increasing, kindNames, names-all, onceAll}
 use Rattle.logic.specs.Background.{unrestricted}
 use Rattle.logic.specs.Canonical.{Ascending, Canonical, canonical}
 use Rattle.logic.specs.Normal.{rank}

@@ -9,7 +9,7 @@ use native.Mathlib.Omega.{arith}
 use Rattle.base.proofs.Tests.{eq-cases, ne-eqb}
 use Rattle.blocks.specs.declared.Entry.{Entry}
 use Rattle.compare.proofs.places.SpanLaws.{around-none, leaf-numbers}
-use Rattle.compare.proofs.specimen.WalkingLaws.{numbers-length}
+use Rattle.compare.proofs.specimen.LaidWalk.{numbers-length}
 use Rattle.compare.specs.code.Codes.{Writable, askedBy, groupsWith, jointsBy, leastFor, specimenNumber, targetAt, targetBelow, upFrom}
 use Rattle.compare.specs.code.Laying.{Joint, Placed, Pushed, codes, joint, jointRows, leafRows, placeNumbers}
 use Rattle.compare.specs.code.Table.{around, entriesIn, nameOr, placeBelow}

@@ -6,7 +6,7 @@ use mathlib.Core.List.{List, [], _∷_, map}
 use mathlib.Core.Path.{_≡_}
 use native.Mathlib.Numerals.{add-one}
 use native.Mathlib.Omega.{arith}
-use Rattle.base.proofs.Range.{none-left, one-left}
+use Rattle.base.proofs.RangeLaws.{none-left, one-left}
 use Rattle.blocks.specs.declared.Entry.{Entry}
 use Rattle.compare.specs.code.Codes.{groupsFrom, specimenNumber}
 use Rattle.compare.specs.code.Laying.{Joint, Placed, codes, joint, jointRows}

@@ -10,10 +10,10 @@ use mathlib.Core.Logic.{_≢_}
 use mathlib.Core.Option.{some}
 use mathlib.Core.Path.{_∙_, _≡_, ap, refl}
 use native.Mathlib.Omega.{arith}
-use Rattle.base.proofs.Cases.{opt-cases}
+use Rattle.base.proofs.Missing.{opt-cases}
 use Rattle.base.proofs.Split.{place-of, row-of}
 use Rattle.base.proofs.Tests.{and-left, bool-cases, eq-cases, eq-eqb, eqb-ne, eqb-self, false-of-not, ge-ltb, lt-cases, lt-ltb, ne-eqb, or-cases, or-left, or-right, tests}
-use Rattle.blocks.proofs.Faults.Legal.{Legal}
+use Rattle.blocks.specs.Promise.{Legal}
 use Rattle.blocks.specs.declared.Entry.{Entry}
 use Rattle.blocks.specs.declared.Schema.the-variants.{Description}
 use Rattle.compare.proofs.table.Lookups.{match-within, sub-place}
@@ -21,8 +21,8 @@ use Rattle.compare.proofs.table.TablePlaces.{places-normal}
 use Rattle.compare.specs.code.Codes.{codeBelow, groupsAt, propertiesAt, targetAt, targetBelow, treeAt}
 use Rattle.compare.specs.code.Laying.{codes, joint, joints, leaves}
 use Rattle.compare.specs.code.Table.{Table, entryFor, placeBelow}
-use Rattle.logic.proofs.Specimens.Names.{member-names}
-use Rattle.logic.proofs.Specimens.WitnessTree.{below-witness}
+use Rattle.logic.proofs.SpecimenTrees.Names.{member-names}
+use Rattle.logic.proofs.SpecimenTrees.WitnessTree.{below-witness}
 use Rattle.logic.specs.Background.{unrestricted}
 use Rattle.logic.specs.Canonical.{Canonical, canonical}
 use Rattle.logic.specs.Normal.{find, found}

@@ -9,8 +9,8 @@ use native.Mathlib.Omega.{arith}
 use Rattle.base.proofs.Tests.{eq-cases}
 use Rattle.blocks.specs.declared.Entry.{Entry}
 use Rattle.compare.proofs.path.PathLaws.{length-up}
+use Rattle.compare.proofs.specimen.LaidWalk.{Walking, top-room, walking-done, walking-next, walking-place, walking-room, walking-start}
 use Rattle.compare.proofs.specimen.SpecimenPlaces.{codes-good}
-use Rattle.compare.proofs.specimen.WalkingLaws.{Walking, top-room, walking-done, walking-next, walking-place, walking-room, walking-start}
 use Rattle.compare.specs.code.Codes.{OnPath, PlacedBy, Stepped, Writable, jointsBy, numbersBy, propertiesBy, specimenNumber, treeBy, upFrom}
 use Rattle.compare.specs.code.Laying.{Joint, codes, joints, leaves}
 use Rattle.compare.specs.code.Table.{entriesIn}

@@ -10,9 +10,10 @@ use mathlib.Core.Option.{Option, none, some}
 use mathlib.Core.Path.{_∙_, _≡_, refl, sym}
 use native.Mathlib.Omega.{arith}
 use Rattle.base.proofs.Tests.{and-both, and-left, and-right, and-zero, bool-cases, eq-cases, eq-eqb, eqb-eq, ne-eqb, tests}
-use Rattle.blocks.proofs.Faults.Legal.{Legal, owner-earlier}
+use Rattle.blocks.proofs.Refusing.Legal.{owner-earlier}
 use Rattle.blocks.specs.Entries.{formOk, nth, zeroEntry}
 use Rattle.blocks.specs.Owners.{ownerOf}
+use Rattle.blocks.specs.Promise.{Legal}
 use Rattle.blocks.specs.declared.Entry.{Entry}
 use Rattle.blocks.specs.declared.Schema.the-variants.{Description}
 use Rattle.compare.specs.code.Table.{entryFor, firstMatch, placeBelow}

@@ -8,26 +8,27 @@ use mathlib.Core.List.{List, [], _∷_}
 use mathlib.Core.Path.{_≡_}
 use native.Mathlib.Omega.{arith}
 use Rattle.base.proofs.Tests.{and-left, and-right, or-cases, tests}
-use Rattle.base.specs.Sorted.{AllAfter, Sorted}
-use Rattle.blocks.proofs.Faults.Legal.{Legal, owner-earlier}
+use Rattle.base.specs.Ascending.{AllAfter, Sorted}
+use Rattle.blocks.proofs.Refusing.Legal.{owner-earlier}
 use Rattle.blocks.specs.Entries.{Bounded, nth, zeroEntry}
 use Rattle.blocks.specs.Owners.{ownerOf}
+use Rattle.blocks.specs.Promise.{Legal}
 use Rattle.blocks.specs.declared.Entry.{Entry}
 use Rattle.blocks.specs.declared.Schema.the-variants.{Description}
 use Rattle.compare.proofs.table.Lookups.{kind-range}
 use Rattle.compare.specs.code.Table.{Narrow, Table, Unpacked, wordOf}
-use Rattle.logic.proofs.NormalForm.Normal.{alive}
+use Rattle.logic.proofs.NormalForm.IsNormal.{alive}
 use Rattle.logic.proofs.OneMeaning.Plain.{plain-normal}
 use Rattle.logic.proofs.Records.Kept.{lawful-unrestricted}
 use Rattle.logic.specs.Background.{unrestricted}
 use Rattle.logic.specs.Canonical.{Canonical}
 use Rattle.logic.specs.Normal.{before, isBottom}
 use Rattle.meaning.proofs.NormalForms.NormalAscends.{normal-ascends}
-use Rattle.meaning.proofs.NormalForms.NormalEntries.{normal-fewer, normal-place}
+use Rattle.meaning.proofs.NormalForms.NormalEntriesLaws.{normal-fewer, normal-place}
 use Rattle.meaning.proofs.NormalForms.NormalLegal.{normal-legal}
 use Rattle.meaning.specs.Description.{placeOf}
 use Rattle.meaning.specs.NormalEntries.{normalEntries}
-use Rattle.meaning.specs.Rows.{entryBefore}
+use Rattle.meaning.specs.RowEntries.{entryBefore}
 use Rattle.sorting.specs.Sorted.{sorted}
 
 -- ---- words that ascend

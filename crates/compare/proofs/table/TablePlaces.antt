@@ -9,14 +9,15 @@ use mathlib.Core.Logic.{_≢_}
 use mathlib.Core.Path.{_≡_, refl}
 use native.Mathlib.Omega.{arith}
 use Rattle.base.proofs.Tests.{and-right, eq-cases, eqb-eq, lt-cases}
-use Rattle.blocks.proofs.Faults.Legal.{Legal, owner-earlier, owner-kind}
+use Rattle.blocks.proofs.Refusing.Legal.{owner-earlier, owner-kind}
 use Rattle.blocks.specs.Entries.{formOk, kindOk, nameOk, nth, numberOk}
 use Rattle.blocks.specs.Owners.{ownerOf}
+use Rattle.blocks.specs.Promise.{Legal}
 use Rattle.blocks.specs.declared.Entry.{Entry}
 use Rattle.blocks.specs.declared.Schema.the-variants.{Description}
 use Rattle.compare.proofs.table.Lookups.{match-first, sub-some, tree-none}
 use Rattle.compare.specs.code.Table.{Table, entryFor, wordOf}
-use Rattle.logic.proofs.NormalForm.Normal.{canonical-end, canonical-sub}
+use Rattle.logic.proofs.NormalForm.IsNormal.{canonical-end, canonical-sub}
 use Rattle.logic.proofs.Records.Kept.{lawful-unrestricted}
 use Rattle.logic.specs.Background.{unrestricted}
 use Rattle.logic.specs.Canonical.{Canonical}

@@ -13,8 +13,8 @@ use Rattle.blocks.specs.Entries.{zeroEntry}
 use Rattle.blocks.specs.declared.Entry.{Entry}
 use Rattle.compare.proofs.table.Lookups.{rank-kind, rank-other}
 use Rattle.compare.specs.code.Table.{nameIn, namesFrom}
-use Rattle.logic.proofs.Specimens.IncreasingNames.{Increasing, kindNames}
-use Rattle.logic.proofs.Specimens.WitnessFields.{AllNames}
+use Rattle.logic.proofs.SpecimenTrees.IncreasingNames.{Increasing, kindNames}
+use Rattle.logic.proofs.SpecimenTrees.WitnessFields.{AllNames}
 use Rattle.logic.specs.Normal.{rank}
 use Rattle.logic.specs.Place.{Kind}
 use Rattle.logic.specs.Tree.{tree}

@@ -8,26 +8,27 @@ use mathlib.Core.List.{List, map}
 use mathlib.Core.Logic.{_≢_}
 use mathlib.Core.Path.{_∙_, _≡_, ap, sym}
 use native.Mathlib.Omega.{arith}
-use Rattle.blocks.proofs.Faults.Bounds.{AllBounded}
+use Rattle.blocks.proofs.Refusing.Bounds.{AllBounded}
 use Rattle.blocks.proofs.RoundTrip.Accepting.{sound-of-accepted, written-encodes}
 use Rattle.blocks.proofs.RoundTrip.Faithful.{entries-limit}
 use Rattle.blocks.specs.Encoding.{written}
 use Rattle.blocks.specs.Entries.{Bounded, entriesOf, nth, packed}
 use Rattle.blocks.specs.declared.Entry.{Entry}
 use Rattle.blocks.specs.declared.Schema.the-variants.{Description}
-use Rattle.compare.proofs.Answer.{not-contained-means}
-use Rattle.compare.proofs.AnswerLaws.{Comparable, compared, verdict-not}
+use Rattle.compare.proofs.AnswerLaws.{compared, verdict-not}
+use Rattle.compare.proofs.PromiseKept.{not-contained-means}
 use Rattle.compare.proofs.verdict.WritableLaws.{Tables, tables-shown, tables-specimen, tables-tree}
 use Rattle.compare.specs.Answer.{compareOf, outputAfter, outputOf}
+use Rattle.compare.specs.Promise.{Comparable}
 use Rattle.compare.specs.code.Codes.{treeBy, upFrom}
 use Rattle.compare.specs.declared.Comparison.the-variants.{NotContained}
-use Rattle.logic.proofs.NormalForm.Fields.{Fields}
-use Rattle.logic.proofs.Specimens.WitnessFields.{AllNames, SpecimenFields, TargetFields, witness-fields}
+use Rattle.logic.proofs.NormalForm.NormalFields.{Fields}
+use Rattle.logic.proofs.SpecimenTrees.WitnessFields.{AllNames, SpecimenFields, TargetFields, witness-fields}
 use Rattle.logic.specs.Size.{nodes}
 use Rattle.logic.specs.SpecimenTree.{SpecimenTree}
 use Rattle.logic.specs.Witness.{on}
 use Rattle.meaning.proofs.Descriptions.EntryFields.{EntryFields, Word, atom-fields, place-fields}
-use Rattle.meaning.proofs.NormalForms.NormalEntries.{normal-place}
+use Rattle.meaning.proofs.NormalForms.NormalEntriesLaws.{normal-place}
 use Rattle.meaning.proofs.Specimens.SpecimenLegal.{specimen-bounded, specimen-length}
 use Rattle.meaning.specs.Description.{atomOf, linksTo}
 use Rattle.meaning.specs.Failing.{failing, normalOf, specimenOf}

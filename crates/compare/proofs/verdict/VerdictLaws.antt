@@ -8,13 +8,13 @@ use mathlib.Core.List.{List, map}
 use mathlib.Core.Logic.{_≢_}
 use mathlib.Core.Path.{_∙_, _≡_, ap, refl, sym}
 use native.Mathlib.Omega.{arith}
-use Rattle.base.proofs.Cases.{not-true}
+use Rattle.base.proofs.Missing.{not-true}
 use Rattle.base.proofs.Tests.{or-one}
-use Rattle.blocks.proofs.Faults.Legal.{owner-earlier, owner-kind}
 use Rattle.blocks.proofs.Format.Counts.{blocks-limit}
 use Rattle.blocks.proofs.Format.EntryBytes.{length-entries}
 use Rattle.blocks.proofs.Format.Lawful.{plain-lawful}
 use Rattle.blocks.proofs.Format.Lengths.{few-blocks, some-block, whole-blocks}
+use Rattle.blocks.proofs.Refusing.Legal.{owner-earlier, owner-kind}
 use Rattle.blocks.proofs.RoundTrip.Accepting.{Sound, encoded-accepted, none-of-accepted, sound-of-accepted}
 use Rattle.blocks.proofs.RoundTrip.Decoding.{decode-encode, length-encode}
 use Rattle.blocks.proofs.RoundTrip.Faithful.{entries-limit, total-bound}
@@ -25,11 +25,12 @@ use Rattle.blocks.specs.Reading.{readingOf}
 use Rattle.blocks.specs.declared.Entry.{Entry}
 use Rattle.blocks.specs.declared.Reading.the-variants as reading
 use Rattle.blocks.specs.declared.Schema.the-variants.{Description}
-use Rattle.compare.proofs.Answer.{refused-output}
-use Rattle.compare.proofs.AnswerLaws.{Comparable, compared, first-refused, second-refused, too-short, verdict-contained}
+use Rattle.compare.proofs.AnswerLaws.{compared, first-refused, second-refused, too-short, verdict-contained}
+use Rattle.compare.proofs.PromiseKept.{refused-output}
 use Rattle.compare.proofs.verdict.SpecimenWritten.{specimen-written, tables-bounded}
 use Rattle.compare.proofs.verdict.WritableLaws.{Tables, tables-numbers, tables-writable}
 use Rattle.compare.specs.Answer.{compareOf, outputAfter, outputOf, verdict}
+use Rattle.compare.specs.Promise.{Comparable}
 use Rattle.compare.specs.code.Codes.{Writable, specimenNumber, treeBy, upFrom}
 use Rattle.compare.specs.code.Prepared.{Denied, NormalOf, Prepared}
 use Rattle.compare.specs.code.Table.{Unpacked}
@@ -42,7 +43,7 @@ use Rattle.logic.specs.Normal.{isBottom}
 use Rattle.logic.specs.Place.{Place}
 use Rattle.logic.specs.Record.{every}
 use Rattle.meaning.proofs.Descriptions.LinkPaths.{links-most}
-use Rattle.meaning.proofs.NormalForms.NormalEntries.{normal-again, normal-fewer, normal-place}
+use Rattle.meaning.proofs.NormalForms.NormalEntriesLaws.{normal-again, normal-fewer, normal-place}
 use Rattle.meaning.proofs.NormalForms.NormalLegal.{normal-legal}
 use Rattle.meaning.proofs.Verdicts.FirstLaws.{failing-least, none-failing}
 use Rattle.meaning.specs.Description.{linksTo, placeOf}
@@ -51,8 +52,8 @@ use Rattle.meaning.specs.First.{entryHolds, firstFailing}
 use Rattle.meaning.specs.NormalEntries.{normalEntries}
 use Rattle.meaning.specs.Owned.{Owned}
 use Rattle.meaning.specs.SpecimenFor.{specimenFor}
-use Rattle.normal.proofs.Answer.{normalised-means}
 use Rattle.normal.proofs.AnswerLaws.{normalised, normalised-ready}
+use Rattle.normal.proofs.PromiseKept.{normalised-means}
 use Rattle.normal.specs.Answer.{normaliseOf, normalisedOf}
 use Rattle.normal.specs.declared.NormalAnswer.the-variants as normal
 use Rattle.slots.proofs.UnheldLaws.{BothRead, all-held, one-fails, refused-by}

@@ -12,8 +12,8 @@ use native.Mathlib.Nat.{zero-add}
 use native.Mathlib.Omega.{arith}
 use Rattle.base.proofs.Lists.{listed, listed-eq}
 use Rattle.base.proofs.Tests.{and-left, and-right, eq-cases, eq-eqb, eqb-eq, ne-eqb}
-use Rattle.blocks.proofs.Faults.Legal.{Legal}
 use Rattle.blocks.specs.Entries.{Bounded, formOk, kindOk, nameOk, nth, numberOk, packed, zeroEntry}
+use Rattle.blocks.specs.Promise.{Legal}
 use Rattle.blocks.specs.declared.Entry.{Entry}
 use Rattle.blocks.specs.declared.Schema.{Schema}
 use Rattle.blocks.specs.declared.Schema.the-variants.{Description}
@@ -32,12 +32,13 @@ use Rattle.logic.specs.Place.{least}
 use Rattle.logic.specs.SpecimenTree.{Group}
 use Rattle.logic.specs.Tree.{Row}
 use Rattle.logic.specs.Witness.{on, orZero, targetLinks, targetProperties, witness}
-use Rattle.meaning.proofs.NormalForms.NormalEntries.{normal-place}
+use Rattle.meaning.proofs.NormalForms.NormalEntriesLaws.{normal-place}
 use Rattle.meaning.proofs.NormalForms.NormalLegal.{normal-legal}
-use Rattle.meaning.proofs.Verdicts.NotContained.{Shown, not-contained-shown}
+use Rattle.meaning.proofs.Verdicts.NotContained.{not-contained-shown}
 use Rattle.meaning.specs.Description.{atomOf, linksTo, placeOf}
 use Rattle.meaning.specs.Failing.{failing, normalOf, specimenOf}
 use Rattle.meaning.specs.NormalEntries.{normalEntries}
+use Rattle.meaning.specs.Promise.{Shown}
 use Rattle.meaning.specs.SpecimenFor.{rowEntry, specimenEntries, specimenFor}
 
 -- the tables of a comparison that finds entry n of D to fail: the normal form of C, and the path to the entry

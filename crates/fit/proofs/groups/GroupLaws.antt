@@ -7,7 +7,7 @@ use mathlib.Core.Bool.{Bool, _&&_, _||_, cond, false, not, true}
 use mathlib.Core.List.{List}
 use mathlib.Core.Path.{_∙_, _≡_, ap, refl, sym}
 use Rattle.base.proofs.Tests.{and-cases, and-left, and-right, or-one}
-use Rattle.blocks.proofs.Faults.EntryLaws.{of-nth}
+use Rattle.blocks.proofs.Refusing.EntryLaws.{of-nth}
 use Rattle.blocks.specs.Entries.{entriesOf, entryOf, nth}
 use Rattle.blocks.specs.Owners.{ownerOf}
 use Rattle.blocks.specs.declared.Entry.{Entry}

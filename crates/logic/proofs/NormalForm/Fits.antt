@@ -6,9 +6,9 @@ use mathlib.Core.Bool.{Bool, _&&_, _||_, false, false≢true, not, or-true, true
 use mathlib.Core.Option.{some}
 use mathlib.Core.Path.{_∙_, _≡_, refl, sym}
 use native.Mathlib.Omega.{arith}
-use Rattle.base.proofs.Cases.{not-true, some-none}
+use Rattle.base.proofs.Missing.{not-true, some-none}
 use Rattle.base.proofs.Tests.{and-both, and-left, and-right, and-swap, bool-cases, eq-cases, eqb-eq, iff-eq, or-cases, or-right, tests}
-use Rattle.logic.proofs.Places.Lookup.{same-kind, same-name, same-rank}
+use Rattle.logic.proofs.PlaceTrees.Lookup.{same-kind, same-name, same-rank}
 use Rattle.logic.proofs.Records.Counting.{every-at, every-of}
 use Rattle.logic.specs.Normal.{before, find, isBottom, isEnd, put, putEvery, rank, remove, removeEvery, same, sub}
 use Rattle.logic.specs.Place.{Kind, Place, atom, most, nothing}

@@ -5,11 +5,11 @@ use lib.Dec.{eqb, leb, ltb}
 use mathlib.Core.Bool.{Bool, _&&_, _||_, and-assoc, and-true, false, false≢true, not, or-and-distrib-left, true}
 use mathlib.Core.Option.{Option, none, some}
 use mathlib.Core.Path.{_∙_, _≡_, ap, refl, sym}
-use Rattle.base.proofs.Cases.{and-cong, and-cong-left, and-drop, and-never, opt-cases}
+use Rattle.base.proofs.Missing.{and-cong, and-cong-left, and-drop, and-never, opt-cases}
 use Rattle.base.proofs.Tests.{and-left, and-right, and-zero, bool-cases, both-ways, false-of-not, le-leb, leb-le, neither-left, not-to-true, or-cases, or-right, tests}
 use Rattle.logic.proofs.NormalForm.Fits.{bottom-sound, end-sound, find-sound, fits-sub, linked-bottom, linked-none, put-sound, putEvery-sound, remove-sound, sub-sound}
-use Rattle.logic.proofs.Places.Lookup.{excluder, same-rank}
-use Rattle.logic.proofs.Places.Passes.{find-removeEvery, find-removeLacks}
+use Rattle.logic.proofs.PlaceTrees.Lookup.{excluder, same-rank}
+use Rattle.logic.proofs.PlaceTrees.Passes.{find-removeEvery, find-removeLacks}
 use Rattle.logic.proofs.Records.Counting.{every-and, every-ext, every-of}
 use Rattle.logic.specs.Background.{Background, Keeps}
 use Rattle.logic.specs.Normal.{add, atMost, clash, clear, excluded, fill, find, found, insert, isBottom, isEnd, nf, rank, removeEvery, removeLacks, stored, sub, supports, under, within}

@@ -6,8 +6,8 @@ use lib.Dec.{eqb}
 use mathlib.Core.Bool.{_||_, false}
 use mathlib.Core.Path.{_≡_, refl}
 use Rattle.base.proofs.Tests.{bool-cases, both-ways}
-use Rattle.logic.proofs.NormalForm.Fields.{AtomFields, Fields}
-use Rattle.logic.proofs.Places.Thinner.{Thinner, done, dropAtom, dropEvery, keepAtom, keepEvery, thinner-clear, thinner-remove, thinner-removeEvery}
+use Rattle.logic.proofs.NormalForm.NormalFields.{AtomFields, Fields}
+use Rattle.logic.proofs.PlaceTrees.Thinner.{Thinner, done, dropAtom, dropEvery, keepAtom, keepEvery, thinner-clear, thinner-remove, thinner-removeEvery}
 use Rattle.logic.proofs.TreeRows.AllEntries.{AllEntries}
 use Rattle.logic.specs.Background.{Background}
 use Rattle.logic.specs.Normal.{add, before, clash, clear, fill, insert, isBottom, isEnd, nf, put, putEvery, rank, remove, removeEvery, stored, sub, supports, within}

@@ -7,9 +7,9 @@ use mathlib.Core.List.{List}
 use mathlib.Core.Logic.{_↔_}
 use mathlib.Core.Path.{_≡_, refl}
 use Rattle.base.proofs.Tests.{or-none}
-use Rattle.logic.proofs.NormalForm.Normal.{nf-normal}
+use Rattle.logic.proofs.NormalForm.IsNormal.{nf-normal}
 use Rattle.logic.proofs.NormalForm.Sound.{nf-sound}
-use Rattle.logic.proofs.OneMeaning.Holds.{nf-holds-says}
+use Rattle.logic.proofs.OneMeaning.HoldsExactly.{nf-holds-says}
 use Rattle.logic.proofs.OneMeaning.Unique.{one-normal, same-normal, unique}
 use Rattle.logic.proofs.Records.Kept.{kept-unrestricted, lawful-unrestricted}
 use Rattle.logic.specs.Background.{unrestricted}

@@ -7,16 +7,16 @@ use mathlib.Core.List.{List, [], _∷_}
 use mathlib.Core.Logic.{inl, inr}
 use mathlib.Core.Option.{none, some}
 use mathlib.Core.Path.{_∙_, _≡_, ap, refl, sym}
-use Rattle.base.proofs.Cases.{not-true, opt-cases, some-none}
+use Rattle.base.proofs.Missing.{not-true, opt-cases, some-none}
 use Rattle.base.proofs.Tests.{and-both, and-left, bool-cases, both-ways, false-of-not, not-to-true, or-cases, tests}
 use Rattle.logic.proofs.NormalForm.Fits.{find-sound, fits-sub, linked-follows}
-use Rattle.logic.proofs.NormalForm.Normal.{canonical-sub, nf-normal}
+use Rattle.logic.proofs.NormalForm.IsNormal.{canonical-sub, nf-normal}
 use Rattle.logic.proofs.NormalForm.Sound.{nf-sound}
-use Rattle.logic.proofs.OneMeaning.Holds.{holdsAt-complete}
-use Rattle.logic.proofs.Places.Extensional.{extensional}
-use Rattle.logic.proofs.Places.Listed.{not-implied}
-use Rattle.logic.proofs.Places.Lookup.{excluder, find-head, is-end, is-excluded, sub-head}
-use Rattle.logic.proofs.Specimens.WitnessKeeps.{counterexample}
+use Rattle.logic.proofs.OneMeaning.HoldsExactly.{holdsAt-complete}
+use Rattle.logic.proofs.PlaceTrees.Extensional.{extensional}
+use Rattle.logic.proofs.PlaceTrees.Listed.{not-implied}
+use Rattle.logic.proofs.PlaceTrees.Lookup.{excluder, find-head, is-end, is-excluded, sub-head}
+use Rattle.logic.proofs.SpecimenTrees.WitnessKeeps.{counterexample}
 use Rattle.logic.specs.Background.{Background, LawfulBackground}
 use Rattle.logic.specs.Canonical.{Canonical, Clean, Normal, canonical, telling}
 use Rattle.logic.specs.Holds.{holdsAt}

@@ -9,12 +9,12 @@ use mathlib.Core.Logic.{_≢_}
 use mathlib.Core.Path.{_≡_}
 use native.Mathlib.Omega.{arith}
 use Rattle.base.proofs.Tests.{and-left, and-right, eq-cases, ltb-lt, ne-eqb}
-use Rattle.blocks.proofs.Faults.Bounds.{AllBounded}
-use Rattle.blocks.proofs.Faults.Legal.{Legal}
+use Rattle.blocks.proofs.Refusing.Bounds.{AllBounded}
 use Rattle.blocks.specs.Entries.{formOk, kindOk, nameOk, nth, numberOk, zeroEntry}
+use Rattle.blocks.specs.Promise.{Legal}
 use Rattle.blocks.specs.declared.Entry.{Entry}
 use Rattle.blocks.specs.declared.Schema.{Schema}
-use Rattle.logic.proofs.NormalForm.Fields.{AtomFields, Fields}
+use Rattle.logic.proofs.NormalForm.NormalFields.{AtomFields, Fields}
 use Rattle.logic.proofs.TreeRows.AllEntries.{AllRows, OfRow, tree-all}
 use Rattle.logic.specs.Place.{kindOf}
 use Rattle.meaning.specs.Description.{atomOf, placeOf, rowOf}

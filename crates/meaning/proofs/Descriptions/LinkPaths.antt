@@ -8,12 +8,13 @@ use mathlib.Core.List.{List, [], _++_, _∷_}
 use mathlib.Core.Path.{_≡_, refl}
 use native.Mathlib.Omega.{arith}
 use Rattle.base.proofs.Tests.{bool-cases, eq-cases, eq-eqb, ne-eqb}
-use Rattle.blocks.proofs.Faults.Legal.{Legal, owner-earlier, owner-kind}
+use Rattle.blocks.proofs.Refusing.Legal.{owner-earlier, owner-kind}
 use Rattle.blocks.specs.Entries.{nth}
 use Rattle.blocks.specs.Owners.{chain, depthOf, ownerOf}
+use Rattle.blocks.specs.Promise.{Legal}
 use Rattle.blocks.specs.declared.Entry.{Entry}
 use Rattle.blocks.specs.declared.Schema.the-variants.{Description}
-use Rattle.logic.proofs.Specimens.WitnessFields.{AllNames, TargetFields}
+use Rattle.logic.proofs.SpecimenTrees.WitnessFields.{AllNames, TargetFields}
 use Rattle.logic.specs.Witness.{on}
 use Rattle.meaning.proofs.Descriptions.EntryFields.{EntryFields, atom-fields}
 use Rattle.meaning.proofs.Descriptions.PlaceSize.{depth-most}

@@ -10,9 +10,10 @@ use mathlib.Core.Logic.{_≢_}
 use mathlib.Core.Path.{_∙_, _≡_, ap, fun-ext, refl, sym}
 use native.Mathlib.Omega.{arith}
 use Rattle.base.proofs.Tests.{eq-cases, eq-eqb, ne-eqb, tests}
-use Rattle.blocks.proofs.Faults.Legal.{Legal, owner-earlier, owner-kind}
+use Rattle.blocks.proofs.Refusing.Legal.{owner-earlier, owner-kind}
 use Rattle.blocks.specs.Entries.{nth}
 use Rattle.blocks.specs.Owners.{ownerOf}
+use Rattle.blocks.specs.Promise.{Legal}
 use Rattle.blocks.specs.declared.Entry.{Entry}
 use Rattle.blocks.specs.declared.Schema.the-variants.{Description}
 use Rattle.logic.proofs.Records.Along.{along-append, along-follows}
@@ -20,7 +21,7 @@ use Rattle.logic.specs.Place.{Place}
 use Rattle.logic.specs.Record.{Record, along, eachLinked, fits, meets}
 use Rattle.logic.specs.Tree.{end, leaf, node}
 use Rattle.meaning.proofs.Descriptions.Links.{links-into, linksInto}
-use Rattle.meaning.proofs.Descriptions.Owned.{owned-at, owned-of}
+use Rattle.meaning.proofs.Descriptions.OwnedLaws.{owned-at, owned-of}
 use Rattle.meaning.proofs.Descriptions.Places.{allHere, asks, place-owned}
 use Rattle.meaning.specs.Description.{atomOf, linksTo, placeOf}
 use Rattle.meaning.specs.Owned.{allOwned}

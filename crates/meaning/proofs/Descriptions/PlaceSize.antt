@@ -8,20 +8,21 @@ use mathlib.Core.List.{List, [], _∷_, map}
 use mathlib.Core.Path.{_∙_, _≡_, refl}
 use native.Mathlib.Omega.{arith}
 use Rattle.base.proofs.Tests.{bool-cases, eq-cases, eq-eqb, iff-eq, and-both, and-left, and-right, leb-le, ne-eqb, or-none, tests}
-use Rattle.blocks.proofs.Faults.Legal.{Legal, owner-earlier}
-use Rattle.blocks.proofs.Faults.LevelLaws.{depth-under}
+use Rattle.blocks.proofs.Refusing.Legal.{owner-earlier}
+use Rattle.blocks.proofs.Refusing.LevelLaws.{depth-under}
 use Rattle.blocks.specs.Entries.{nth}
 use Rattle.blocks.specs.Owners.{depthOf, depthOk, ownerOf}
+use Rattle.blocks.specs.Promise.{Legal}
 use Rattle.blocks.specs.declared.Entry.{Entry}
 use Rattle.blocks.specs.declared.Schema.{Schema}
 use Rattle.logic.proofs.Records.Counting.{sumIn}
-use Rattle.logic.proofs.Specimens.Names.{Different}
-use Rattle.logic.proofs.Specimens.Sums.{sum-le, sum-once, sum-zero}
+use Rattle.logic.proofs.SpecimenTrees.Names.{Different}
+use Rattle.logic.proofs.SpecimenTrees.Sums.{sum-le, sum-once, sum-zero}
 use Rattle.logic.specs.Place.{Place}
 use Rattle.logic.specs.Size.{levels, measure, nodes}
 use Rattle.logic.specs.Tree.{Row, end, leaf, leafRow, node, nodeRow, tree}
 use Rattle.logic.specs.Witness.{member}
-use Rattle.meaning.proofs.Descriptions.Owned.{owned-of}
+use Rattle.meaning.proofs.Descriptions.OwnedLaws.{owned-of}
 use Rattle.meaning.proofs.Descriptions.Places.{allHere, place-owned}
 use Rattle.meaning.specs.Description.{placeOf, rowOf}
 

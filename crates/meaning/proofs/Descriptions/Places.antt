@@ -8,15 +8,16 @@ use mathlib.Core.List.{List, [], _∷_, map}
 use mathlib.Core.Path.{_∙_, _≡_, refl, sym}
 use native.Mathlib.Omega.{arith}
 use Rattle.base.proofs.Tests.{bool-cases, eqb-sym, tests}
-use Rattle.blocks.proofs.Faults.Legal.{Legal, owner-earlier}
+use Rattle.blocks.proofs.Refusing.Legal.{owner-earlier}
 use Rattle.blocks.specs.Entries.{nth, zeroEntry}
 use Rattle.blocks.specs.Owners.{ownerOf}
+use Rattle.blocks.specs.Promise.{Legal}
 use Rattle.blocks.specs.declared.Entry.{Entry}
 use Rattle.blocks.specs.declared.Schema.{Schema}
 use Rattle.logic.proofs.Records.Counting.{every-from-ext, every-map, everyFrom}
 use Rattle.logic.specs.Place.{Atom, Place}
 use Rattle.logic.specs.Tree.{Early, Row, Tree, end, leaf, leafRow, node, nodeRow, rowOwner, tree}
-use Rattle.meaning.proofs.Descriptions.Owned.{owned-from}
+use Rattle.meaning.proofs.Descriptions.OwnedLaws.{owned-from}
 use Rattle.meaning.specs.Description.{atomOf, placeOf, rowOf}
 use Rattle.meaning.specs.Owned.{allOwned}
 

@@ -11,10 +11,10 @@ use native.Mathlib.Nat.{add-suc, add-zero, suc-add}
 use native.Mathlib.Omega.{arith}
 use native.Mathlib.Numerals.{one-add}
 use Rattle.base.proofs.Tests.{and-both, eq-cases, eq-eqb, le-leb, lt-ltb, ne-eqb, or-left, or-right}
-use Rattle.blocks.proofs.Faults.Legal.{Legal}
-use Rattle.blocks.proofs.Faults.LevelLaws.{depth-top, depth-under}
+use Rattle.blocks.proofs.Refusing.LevelLaws.{depth-top, depth-under}
 use Rattle.blocks.specs.Entries.{formOk, nth, owningKind, zeroEntry}
 use Rattle.blocks.specs.Owners.{depthOf, depthOk, ownerOf, ownerOk}
+use Rattle.blocks.specs.Promise.{Legal}
 use Rattle.blocks.specs.code.ReadingSteps.{levelOf}
 use Rattle.blocks.specs.declared.Entry.{Entry}
 use Rattle.blocks.specs.declared.Schema.{Schema}

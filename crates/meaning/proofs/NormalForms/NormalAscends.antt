@@ -8,11 +8,11 @@ use mathlib.Core.Logic.{inl, inr}
 use mathlib.Core.Path.{_≡_}
 use native.Mathlib.Omega.{arith}
 use Rattle.base.proofs.Tests.{and-both, eqb-self, lt-ltb, or-left, or-right}
-use Rattle.base.specs.Sorted.{AllAfter, Sorted}
+use Rattle.base.specs.Ascending.{AllAfter, Sorted}
 use Rattle.blocks.specs.declared.Entry.{Entry}
 use Rattle.logic.proofs.OneMeaning.Plain.{plain-normal}
-use Rattle.logic.proofs.Places.Lookup.{sub-head}
-use Rattle.logic.proofs.Places.Order.{sub-rest}
+use Rattle.logic.proofs.PlaceTrees.Lookup.{sub-head}
+use Rattle.logic.proofs.PlaceTrees.Order.{sub-rest}
 use Rattle.logic.specs.Background.{Background, unrestricted}
 use Rattle.logic.specs.Canonical.{Above, Ascending, Canonical, Normal, canonical}
 use Rattle.logic.specs.Layout.{Queue, done, job, later, lay, weight, write}
@@ -21,7 +21,7 @@ use Rattle.logic.specs.Place.{Atom, Place, atom}
 use Rattle.logic.specs.Tree.{end, leaf, leafRow, node, nodeRow}
 use Rattle.meaning.specs.Description.{placeOf}
 use Rattle.meaning.specs.NormalEntries.{normalEntries}
-use Rattle.meaning.specs.Rows.{entryBefore, rowEntry}
+use Rattle.meaning.specs.RowEntries.{entryBefore, rowEntry}
 
 -- ---- places
 

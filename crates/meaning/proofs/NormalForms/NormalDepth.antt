@@ -8,17 +8,18 @@ use mathlib.Core.List.{List}
 use mathlib.Core.Path.{_∙_, _≡_, refl, sym}
 use native.Mathlib.Omega.{arith}
 use Rattle.base.proofs.Tests.{eq-cases, eq-eqb, leb-le, leb-self, ne-eqb, tests}
-use Rattle.blocks.proofs.Faults.Legal.{Legal, owner-earlier, owner-kind}
-use Rattle.blocks.proofs.Faults.LevelLaws.{depth-top, depth-under}
+use Rattle.blocks.proofs.Refusing.Legal.{owner-earlier, owner-kind}
+use Rattle.blocks.proofs.Refusing.LevelLaws.{depth-top, depth-under}
 use Rattle.blocks.specs.Entries.{nth}
 use Rattle.blocks.specs.Owners.{depthOf, ownerOf}
+use Rattle.blocks.specs.Promise.{Legal}
 use Rattle.blocks.specs.declared.Entry.{Entry}
 use Rattle.blocks.specs.declared.Schema.the-variants.{Description}
 use Rattle.logic.specs.Size.{levels}
-use Rattle.meaning.proofs.Descriptions.Owned.{owned-at, owned-of}
+use Rattle.meaning.proofs.Descriptions.OwnedLaws.{owned-at, owned-of}
 use Rattle.meaning.proofs.Descriptions.PlaceSize.{depth-owned, levels-here}
 use Rattle.meaning.proofs.Descriptions.Places.{asks, place-owned}
-use Rattle.meaning.proofs.NormalForms.NormalEntries.{normal-levels}
+use Rattle.meaning.proofs.NormalForms.NormalEntriesLaws.{normal-levels}
 use Rattle.meaning.proofs.NormalForms.NormalLegal.{normal-legal}
 use Rattle.meaning.specs.Description.{placeOf}
 use Rattle.meaning.specs.NormalEntries.{normalEntries}

@@ -7,13 +7,14 @@ use mathlib.Core.List.{List, map}
 use mathlib.Core.Path.{_≡_, refl}
 use native.Mathlib.Omega.{arith}
 use Rattle.base.proofs.Tests.{eq-eqb, lt-ltb}
-use Rattle.blocks.proofs.Faults.Bounds.{AllBounded}
-use Rattle.blocks.proofs.Faults.Legal.{Legal, owner-earlier}
+use Rattle.blocks.proofs.Refusing.Bounds.{AllBounded}
+use Rattle.blocks.proofs.Refusing.Legal.{owner-earlier}
 use Rattle.blocks.specs.Entries.{formOk, nameOk, nth, numberOk, zeroEntry}
 use Rattle.blocks.specs.Owners.{ownerOf}
+use Rattle.blocks.specs.Promise.{Legal}
 use Rattle.blocks.specs.declared.Entry.{Entry}
 use Rattle.blocks.specs.declared.Schema.the-variants.{Description}
-use Rattle.logic.proofs.NormalForm.Size.{nf-levels}
+use Rattle.logic.proofs.NormalForm.NormalSize.{nf-levels}
 use Rattle.logic.proofs.NormalForm.Stored.{Stored, nf-stored}
 use Rattle.logic.proofs.TreeRows.AllEntries.{OfRow, row-all, write-all}
 use Rattle.logic.specs.Background.{unrestricted}
@@ -25,10 +26,10 @@ use Rattle.logic.specs.Tree.{Row, leafRow, nodeRow, rowOwner}
 use Rattle.meaning.proofs.Descriptions.EntryFields.{Any, Positive, Word, bounded-words, legal-names, place-fields}
 use Rattle.meaning.proofs.Descriptions.PlaceSize.{place-levels}
 use Rattle.meaning.proofs.NormalForms.LayoutLegal.{EntryRows, write-legal}
-use Rattle.meaning.proofs.NormalForms.NormalEntries.{normal-fewer}
+use Rattle.meaning.proofs.NormalForms.NormalEntriesLaws.{normal-fewer}
 use Rattle.meaning.specs.Description.{placeOf}
 use Rattle.meaning.specs.NormalEntries.{normalEntries}
-use Rattle.meaning.specs.Rows.{rowEntry}
+use Rattle.meaning.specs.RowEntries.{rowEntry}
 
 -- ---- rows as entries
 

@@ -12,13 +12,13 @@ use native.Mathlib.Omega.{arith}
 use Rattle.base.proofs.Tests.{bool-cases, eq-eqb, eqb-self, ne-eqb, tests}
 use Rattle.blocks.specs.Entries.{zeroEntry}
 use Rattle.blocks.specs.declared.Entry.{Entry}
-use Rattle.logic.proofs.Places.Lookup.{same-rank, same-self}
-use Rattle.logic.proofs.Places.Order.{before-cases, find-rest}
+use Rattle.logic.proofs.PlaceTrees.Lookup.{same-rank, same-self}
+use Rattle.logic.proofs.PlaceTrees.Order.{before-cases, find-rest}
 use Rattle.logic.specs.Canonical.{Above, Ascending}
 use Rattle.logic.specs.Normal.{before, find, isEnd, rank, sub}
 use Rattle.logic.specs.Place.{Atom, Kind, Place, atom, has, lacks, least, most, nothing}
 use Rattle.logic.specs.Tree.{Early, Row, end, leafRow, nodeRow, rowOwner, tree}
-use Rattle.meaning.specs.Rows.{rowEntry}
+use Rattle.meaning.specs.RowEntries.{rowEntry}
 
 -- the entry of the row at position i
 abbrev pub entryOfRow : List (Row Atom ℕ) → ℕ → Entry

@@ -11,8 +11,8 @@ use native.Mathlib.Omega.{arith}
 use Rattle.base.proofs.Tests.{both-ways, eq-cases, lt-cases, lt-ltb, neither-left}
 use Rattle.blocks.specs.Entries.{nth}
 use Rattle.blocks.specs.declared.Entry.{Entry}
-use Rattle.logic.proofs.NormalForm.Normal.{nf-normal}
-use Rattle.logic.proofs.Places.Order.{before-not}
+use Rattle.logic.proofs.NormalForm.IsNormal.{nf-normal}
+use Rattle.logic.proofs.PlaceTrees.Order.{before-not}
 use Rattle.logic.proofs.Records.Kept.{lawful-unrestricted}
 use Rattle.logic.proofs.TreeRows.LayoutLaws.{write-early}
 use Rattle.logic.specs.Background.{unrestricted}
@@ -24,7 +24,7 @@ use Rattle.logic.specs.Tree.{end, tree}
 use Rattle.meaning.proofs.NormalForms.RowPlaces.{EveryRow, ascending-rows, entryOfRow, every-row, no-rows, row-listed}
 use Rattle.meaning.proofs.NormalForms.WrittenPlaces.{canonical-ascends, row-canonical}
 use Rattle.meaning.specs.Description.{placeOf}
-use Rattle.meaning.specs.Rows.{rowEntry}
+use Rattle.meaning.specs.RowEntries.{rowEntry}
 use Rattle.meaning.specs.Rules.{AloneSix, Applies, Clashes, Crosses, Equal, HasAndLacks, Is, IsEvery, LeastZero, OwnsNothing, RemovesEvery, SaysNothing, Twice, rule-1, rule-10, rule-2, rule-3, rule-4, rule-5, rule-6, rule-7, rule-8, rule-9}
 
 -- in a normal place nothing is at odds, and each entry tells something

@@ -10,7 +10,7 @@ use native.Mathlib.Numerals.{one-add}
 use native.Mathlib.Omega.{arith}
 use Rattle.blocks.specs.Entries.{nth}
 use Rattle.blocks.specs.declared.Entry.{Entry}
-use Rattle.logic.proofs.NormalForm.Normal.{canonical-sub}
+use Rattle.logic.proofs.NormalForm.IsNormal.{canonical-sub}
 use Rattle.logic.proofs.TreeRows.LayoutLaws.{write-early, write-reads}
 use Rattle.logic.specs.Background.{Background, LawfulBackground}
 use Rattle.logic.specs.Canonical.{Ascending, Canonical, canonical}
@@ -18,7 +18,7 @@ use Rattle.logic.specs.Layout.{Queue, done, job, later, lay, weight, write}
 use Rattle.logic.specs.Place.{Atom, Place, atom}
 use Rattle.logic.specs.Tree.{Early, Row, end, leaf, leafRow, node, nodeRow, tree}
 use Rattle.meaning.proofs.NormalForms.RowPlaces.{EveryRow, entryOfRow, every-row}
-use Rattle.meaning.specs.Rows.{rowEntry}
+use Rattle.meaning.specs.RowEntries.{rowEntry}
 
 -- ---- owners
 

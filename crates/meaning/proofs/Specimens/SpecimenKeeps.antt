@@ -11,9 +11,10 @@ use native.Mathlib.Nat.{add-suc, add-zero, suc-add}
 use native.Mathlib.Numerals.{one-add}
 use native.Mathlib.Omega.{arith}
 use Rattle.base.proofs.Tests.{and-left, and-one, bool-cases, eq-cases, le-leb, leb-le, lt-cases, ne-eqb, tests}
-use Rattle.blocks.proofs.Faults.Legal.{Legal, owner-earlier, owner-kind}
+use Rattle.blocks.proofs.Refusing.Legal.{owner-earlier, owner-kind}
 use Rattle.blocks.specs.Entries.{nth, zeroEntry}
 use Rattle.blocks.specs.Owners.{ownerOf}
+use Rattle.blocks.specs.Promise.{Legal}
 use Rattle.blocks.specs.declared.Entry.{Entry}
 use Rattle.blocks.specs.declared.Schema.the-variants.{Specimen}
 use Rattle.logic.proofs.TreeRows.LayoutLaws.{write-early, write-reads}

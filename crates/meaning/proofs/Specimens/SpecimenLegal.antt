@@ -7,17 +7,18 @@ use mathlib.Core.List.{List, map}
 use mathlib.Core.Path.{_∙_, _≡_, refl}
 use native.Mathlib.Omega.{arith}
 use Rattle.base.proofs.Tests.{lt-ltb}
-use Rattle.blocks.proofs.Faults.Bounds.{AllBounded}
-use Rattle.blocks.proofs.Faults.Legal.{Legal, owner-earlier}
+use Rattle.blocks.proofs.Refusing.Bounds.{AllBounded}
+use Rattle.blocks.proofs.Refusing.Legal.{owner-earlier}
 use Rattle.blocks.specs.Entries.{formOk, nameOk, nth, numberOk, zeroEntry}
 use Rattle.blocks.specs.Owners.{ownerOf}
+use Rattle.blocks.specs.Promise.{Legal}
 use Rattle.blocks.specs.declared.Entry.{Entry}
 use Rattle.blocks.specs.declared.Schema.the-variants.{Description, Specimen}
-use Rattle.logic.proofs.NormalForm.Fields.{nf-fields}
-use Rattle.logic.proofs.NormalForm.Size.{nf-levels, nf-nodes}
-use Rattle.logic.proofs.Specimens.WitnessFields.{GroupFields, SpecimenFields, witness-fields}
-use Rattle.logic.proofs.Specimens.WitnessLevels.{witness-levels}
-use Rattle.logic.proofs.Specimens.WitnessSize.{witness-nodes}
+use Rattle.logic.proofs.NormalForm.NormalFields.{nf-fields}
+use Rattle.logic.proofs.NormalForm.NormalSize.{nf-levels, nf-nodes}
+use Rattle.logic.proofs.SpecimenTrees.WitnessFields.{GroupFields, SpecimenFields, witness-fields}
+use Rattle.logic.proofs.SpecimenTrees.WitnessLevels.{witness-levels}
+use Rattle.logic.proofs.SpecimenTrees.WitnessSize.{witness-nodes}
 use Rattle.logic.proofs.TreeRows.AllEntries.{OfRow, row-all, write-all}
 use Rattle.logic.proofs.TreeRows.LayoutLaws.{write-length}
 use Rattle.logic.specs.Background.{Background}

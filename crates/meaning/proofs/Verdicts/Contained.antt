@@ -2,23 +2,21 @@
 -- Assumes nothing.
 use Prim.Native.Nat.{_<_, _≤_, ℕ}
 use lib.Dec.{eqb}
-use lib.ListN.{length}
 use mathlib.Core.Bool.{false, true}
 use mathlib.Core.List.{List}
 use mathlib.Core.Logic.{_≢_, _↔_}
 use mathlib.Core.Path.{_≡_}
 use native.Mathlib.Omega.{arith}
-use Rattle.base.proofs.Cases.{not-true}
+use Rattle.base.proofs.Missing.{not-true}
 use Rattle.base.proofs.Tests.{both-ways, eq-cases, eq-eqb, eqb-ne, ne-eqb, neither-left}
-use Rattle.blocks.proofs.Faults.Legal.{Legal}
 use Rattle.blocks.specs.Entries.{nth}
+use Rattle.blocks.specs.Promise.{Legal}
 use Rattle.blocks.specs.declared.Entry.{Entry}
 use Rattle.blocks.specs.declared.Schema.the-variants.{Description}
-use Rattle.logic.proofs.OneMeaning.Holds.{nf-holds-says}
+use Rattle.logic.proofs.OneMeaning.HoldsExactly.{nf-holds-says}
 use Rattle.logic.proofs.Records.Kept.{kept-unrestricted, lawful-unrestricted}
-use Rattle.logic.specs.Background.{Background, Keeps, LawfulBackground, unrestricted}
+use Rattle.logic.specs.Background.{Background, LawfulBackground, unrestricted}
 use Rattle.logic.specs.Holds.{holds}
-use Rattle.logic.specs.Meaning.{Says}
 use Rattle.logic.specs.Normal.{nf}
 use Rattle.logic.specs.Place.{Place}
 use Rattle.logic.specs.Record.{Record, along, fits, meets}
@@ -27,22 +25,7 @@ use Rattle.meaning.proofs.Verdicts.FirstLaws.{failing-least, failing-no
 use Rattle.meaning.specs.Description.{atomOf, linksTo, placeOf}
 use Rattle.meaning.specs.Failing.{failing, normalOf}
 use Rattle.meaning.specs.First.{entryHolds, firstFailing}
-
--- every item that fits t fits u, in the records that keep the background
-abbrev pub Within : Background → Place → Place → Type 0
-Within b t u = (r : Record) → Keeps b r → (x : ℕ) → x < r .size → fits r t x ≡ true → fits r u x ≡ true
-
--- the place t says entry n of d: each item that the links to the entry lead to, from an item that fits t, meets it
-abbrev pub SaysEntry : Background → Place → List Entry → ℕ → Type 0
-SaysEntry b t d n = Says b t (linksTo d n) (atomOf (nth d n))
-
--- entry n of d is the first, apart from 'every' entries, that t does not say
-pub record FirstUnsaid (b : Background) (t : Place) (d : List Entry) (n : ℕ) : Type 0 where
-  pub low : 1 ≤ n
-  pub high : n ≤ length d
-  pub kind : nth d n .kind ≢ 5
-  pub unsaid : SaysEntry b t d n → ⊥
-  pub before : (j : ℕ) → 1 ≤ j → j < n → nth d j .kind ≢ 5 → SaysEntry b t d j
+use Rattle.meaning.specs.Promise.{FirstUnsaid, SaysEntry, Within}
 
 module _ {b : Background} (law : LawfulBackground b) (t : Place) (d : List Entry) where
   -- an entry that is no 'every' holds exactly if the place says it

@@ -8,7 +8,7 @@ use mathlib.Core.Logic.{_≢_}
 use mathlib.Core.Path.{_≡_, refl, sym}
 use native.Mathlib.Numerals.{add-one}
 use native.Mathlib.Omega.{arith}
-use Rattle.base.proofs.Range.{none-left, one-left}
+use Rattle.base.proofs.RangeLaws.{none-left, one-left}
 use Rattle.base.proofs.Tests.{bool-cases, eq-cases}
 use Rattle.base.specs.Search.{firstFrom}
 use Rattle.blocks.specs.declared.Entry.{Entry}

@@ -8,25 +8,24 @@ use mathlib.Core.List.{List}
 use mathlib.Core.Logic.{_≢_}
 use mathlib.Core.Path.{_∙_, _≡_, refl, sym}
 use native.Mathlib.Omega.{arith}
-use Rattle.base.proofs.Cases.{not-true}
+use Rattle.base.proofs.Missing.{not-true}
 use Rattle.base.proofs.Tests.{both-ways, neither-left, neither-right}
-use Rattle.blocks.proofs.Faults.Bounds.{AllBounded}
-use Rattle.blocks.proofs.Faults.Legal.{Legal}
+use Rattle.blocks.proofs.Refusing.Bounds.{AllBounded}
 use Rattle.blocks.specs.Entries.{nth}
+use Rattle.blocks.specs.Promise.{Legal}
 use Rattle.blocks.specs.declared.Entry.{Entry}
-use Rattle.blocks.specs.declared.Schema.the-variants.{Description, Specimen}
-use Rattle.logic.proofs.NormalForm.Normal.{alive, nf-normal}
+use Rattle.blocks.specs.declared.Schema.the-variants.{Description}
+use Rattle.logic.proofs.NormalForm.IsNormal.{alive, nf-normal}
 use Rattle.logic.proofs.NormalForm.Sound.{nf-sound}
 use Rattle.logic.proofs.Records.Kept.{lawful-unrestricted}
-use Rattle.logic.proofs.Specimens.TreeRecord.{top-along, top-below, top-fits, tree-keeps, treeRecord}
-use Rattle.logic.proofs.Specimens.Witness.{witness-fits, witness-refutes}
-use Rattle.logic.proofs.Specimens.WitnessKeeps.{witness-keeps}
+use Rattle.logic.proofs.SpecimenTrees.TreeRecord.{top-along, top-below, top-fits, tree-keeps, treeRecord}
+use Rattle.logic.proofs.SpecimenTrees.WitnessKeeps.{witness-keeps}
+use Rattle.logic.proofs.SpecimenTrees.WitnessShows.{witness-fits, witness-refutes}
 use Rattle.logic.specs.Background.{Background, Keeps, LawfulBackground}
 use Rattle.logic.specs.Canonical.{Canonical}
 use Rattle.logic.specs.Holds.{holds, holdsAt}
 use Rattle.logic.specs.Normal.{isBottom, nf}
 use Rattle.logic.specs.Place.{Atom, Place}
-use Rattle.logic.specs.Record.{fits}
 use Rattle.logic.specs.SpecimenTree.{SpecimenTree, fitsTop}
 use Rattle.logic.specs.Witness.{on, witness}
 use Rattle.meaning.proofs.Descriptions.Paths.{fits-paths}
@@ -38,16 +37,9 @@ use Rattle.meaning.proofs.Verdicts.FirstLaws.{failing-least}
 use Rattle.meaning.specs.Description.{atomOf, linksTo, placeOf}
 use Rattle.meaning.specs.Failing.{failing, normalOf, specimenOf}
 use Rattle.meaning.specs.First.{entryHolds, firstFailing}
+use Rattle.meaning.specs.Promise.{Shown}
 use Rattle.meaning.specs.Specimen.{recordOf}
 use Rattle.meaning.specs.SpecimenFor.{specimenFor}
-
--- a specimen, as entries, that is accepted and whose top item fits C and does not fit D
-pub record Shown (c d sp : List Entry) : Type 0 where
-  pub legal : Legal Specimen sp
-  pub fitting : fits (recordOf sp) (placeOf c 0) 0 ≡ true
-  pub missing : fits (recordOf sp) (placeOf d 0) 0 ≡ false
-  -- "Entries never exceed those of C and D together."
-  pub size : length sp ≤ length c + length d
 
 module _ {b : Background} (law : LawfulBackground b) (c d : List Entry) (Ld : Legal Description d) (n : ℕ) (lo : 1 ≤ n) (hi : n ≤ length d)
     (fails : entryHolds b (nf b (placeOf c 0)) d n ≡ false) where

@@ -8,7 +8,7 @@ use mathlib.Core.Option.{Option}
 use mathlib.Core.Path.{_∙_, _≡_, ap, refl, sym}
 use native.Mathlib.Nat.{add-assoc, add-zero}
 use native.Mathlib.Omega.{arith}
-use Rattle.base.proofs.Cases.{opt-cases}
+use Rattle.base.proofs.Missing.{opt-cases}
 use Rattle.base.proofs.Tests.{bool-cases}
 use Rattle.logic.specs.Layout.{Queue, done, job, later}
 use Rattle.logic.specs.Place.{Atom, Kind, atom, has, lacks, least, most}

@@ -11,11 +11,11 @@ use Rattle.logic.specs.Layout.{write}
 use Rattle.logic.specs.Normal.{nf}
 use Rattle.logic.specs.Place.{Atom}
 use Rattle.logic.specs.Tree.{Row, tree}
-use Rattle.normal.proofs.ordering.RunLaws.{run-part}
+use Rattle.normal.proofs.ordering.PlaceRuns.{run-part}
 use Rattle.normal.proofs.ordering.TagLaws.{tags-table}
 use Rattle.normal.proofs.ordering.TagOrder.{numbers-many, places-rise, tags-same, tags-same-back, tags-sorted}
 use Rattle.normal.specs.code.Ordered.{firstOfPlace, runFrom, runOf, tagIn, tagNumbers}
-use Rattle.passes.proofs.Rows.Parts.{normal-sorted}
+use Rattle.passes.proofs.Emission.TagParts.{normal-sorted}
 use Rattle.passes.specs.code.Pipeline.{enoughFor, part, rowsFrom}
 use Rattle.passes.specs.code.Slots.{settled, slots}
 use Rattle.slots.specs.code.Tables.{keyIn, slotsFrom}

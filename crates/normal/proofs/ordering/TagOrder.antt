@@ -8,17 +8,17 @@ use mathlib.Core.List.{List, List·Memᴰ, List·Memᴰ·cases-cons, List·Mem�
 use mathlib.Core.Logic.{_≢_, ⊎-elim}
 use mathlib.Core.Path.{_∙_, _≡_, ap, sym}
 use native.Mathlib.Omega.{arith}
-use Rattle.base.proofs.SortedLaws.{Within}
+use Rattle.base.proofs.AscendingLaws.{Within}
 use Rattle.base.proofs.Tests.{bool-cases, both-ways, ltb-lt, tests}
-use Rattle.base.specs.Sorted.{Sorted}
+use Rattle.base.specs.Ascending.{Sorted}
 use Rattle.normal.proofs.ordering.Rising.{Different, sorted-map, sorted-rising, within-map}
 use Rattle.normal.proofs.ordering.TagLaws.{length-numbers, number-key, number-slot}
 use Rattle.normal.specs.code.Ordered.{tagCell, tagIn, tagNumber, tagNumbers, tagPlace, tagSlot}
-use Rattle.passes.proofs.Slots.KeyLaws.{key-below, key-parts}
+use Rattle.passes.proofs.SlotLists.KeyLaws.{key-below, key-parts}
 use Rattle.passes.specs.code.Pipeline.{beforeTag}
 use Rattle.slots.specs.code.Tables.{keyIn}
-use Rattle.sorting.proofs.Elements.{member-of-sorted, member-sorted}
-use Rattle.sorting.proofs.Sorted.{length-sorted, sorted-ascending}
+use Rattle.sorting.proofs.SortedElements.{member-of-sorted, member-sorted}
+use Rattle.sorting.proofs.SortedList.{length-sorted, sorted-ascending}
 use Rattle.sorting.specs.Sorted.{sorted}
 
 -- x is the number of one of n slots from slot i on

@@ -24,18 +24,18 @@ use Rattle.meaning.specs.Description.{placeOf, rowOf}
 use Rattle.normal.proofs.ordering.NormalOrdered.{normal-ordered}
 use Rattle.normal.proofs.ordering.TagLaws.{number-key, number-slot}
 use Rattle.normal.proofs.ordering.TagOrder.{Numbers, numbers-many, numbers-slot}
-use Rattle.normal.proofs.walk.WalkingLaws.{run-from}
+use Rattle.normal.proofs.walk.PlaceWalk.{run-from}
 use Rattle.normal.specs.code.Emitted.{Walkable, allRows, keepIn}
 use Rattle.normal.specs.code.Ordered.{firstOfPlace, otherPlace, runFrom, runOf, tagNumbers, tagPlace, tagSlot}
-use Rattle.passes.proofs.Rows.Exact.{normal-exact, normal-length}
-use Rattle.passes.proofs.Rows.WalkLaws.{places}
-use Rattle.passes.proofs.Slots.KeyLaws.{slots-small}
-use Rattle.passes.proofs.Slots.SlotLaws.{slots-early, slots-length}
+use Rattle.passes.proofs.Emission.Exact.{normal-exact, normal-length}
+use Rattle.passes.proofs.Emission.WalkRows.{places}
+use Rattle.passes.proofs.SlotLists.KeyLaws.{slots-small}
+use Rattle.passes.proofs.SlotLists.SlotLaws.{slots-early, slots-length}
 use Rattle.passes.specs.code.Pipeline.{enoughFor, keeping, normalRows, rowsFrom}
 use Rattle.passes.specs.code.Slots.{inconsistent, low, nonempty, settled, slot, slots}
 use Rattle.slots.proofs.PassLaws.{all-bounded, low-at, nonempty-far, rows-small, small-settled}
 use Rattle.slots.specs.code.Tables.{Settled, keyIn, lowPart}
-use Rattle.sorting.proofs.Elements.{member-of-sorted}
+use Rattle.sorting.proofs.SortedElements.{member-of-sorted}
 use Rattle.sorting.specs.Sorted.{sorted}
 
 -- ---- the ordered slots

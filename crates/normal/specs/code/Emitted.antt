@@ -15,7 +15,7 @@ use Rattle.logic.specs.Normal.{atMost, nf}
 use Rattle.logic.specs.Place.{Atom, Kind, atom, has, lacks, least, most}
 use Rattle.logic.specs.Tree.{Row, leafRow, nodeRow}
 use Rattle.meaning.specs.Description.{placeOf}
-use Rattle.meaning.specs.Rows.{rowEntry}
+use Rattle.meaning.specs.RowEntries.{rowEntry}
 use Rattle.normal.specs.code.Filling.{Filled, Joined}
 use Rattle.normal.specs.code.Ordered.{tagNumbers, tagPlace, tagSlot}
 use Rattle.passes.specs.code.Pipeline.{walk}

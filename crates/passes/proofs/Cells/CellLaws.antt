@@ -8,14 +8,14 @@ use mathlib.Core.Logic.{⊎-elim}
 use mathlib.Core.Option.{Option, none, some}
 use mathlib.Core.Path.{_∙_, _≡_, ap, ap₂, refl, sym}
 use native.Mathlib.Omega.{arith}
-use Rattle.base.proofs.Cases.{not-true}
-use Rattle.base.proofs.SortedLaws.{AllApart, sort-sorted}
+use Rattle.base.proofs.AscendingLaws.{AllApart, sort-sorted}
+use Rattle.base.proofs.Missing.{not-true}
 use Rattle.base.proofs.Tests.{and-swap, bool-cases, eqb-eq, eqb-sym, neither-left, neither-right, tests}
-use Rattle.base.specs.Sorted.{Sorted, insertIn, sort}
-use Rattle.logic.proofs.Places.Order.{before-not, before-total, before-trans}
+use Rattle.base.specs.Ascending.{Sorted, insertIn, sort}
+use Rattle.logic.proofs.PlaceTrees.Order.{before-not, before-total, before-trans}
 use Rattle.logic.specs.Record.{bit}
 use Rattle.passes.proofs.Cells.WrittenPasses.{allCells}
-use Rattle.passes.proofs.Slots.SlotLaws.{exchange, name-class, name-eq}
+use Rattle.passes.proofs.SlotLists.SlotLaws.{exchange, name-class, name-eq}
 use Rattle.passes.specs.code.Pipeline.{beforeCell}
 use Rattle.passes.specs.code.Slots.{Cell, DistinctSlots, Slot, cell, cells, lookup, sameKey, sameName, slot, standsAt, taken}
 

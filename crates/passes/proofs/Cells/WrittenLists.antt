@@ -8,15 +8,15 @@ use mathlib.Core.Option.{Option, none, some}
 use mathlib.Core.Path.{_∙_, _≡_, refl, sym}
 use native.Mathlib.Omega.{arith}
 use Rattle.base.proofs.Tests.{and-zero, bool-cases, eqb-eq, eqb-sym, tests}
-use Rattle.base.specs.Sorted.{AllAfter, Sorted}
-use Rattle.logic.proofs.Places.Lookup.{is-end, same-self}
-use Rattle.logic.proofs.Places.Order.{before-cases}
+use Rattle.base.specs.Ascending.{AllAfter, Sorted}
+use Rattle.logic.proofs.PlaceTrees.Lookup.{is-end, same-self}
+use Rattle.logic.proofs.PlaceTrees.Order.{before-cases}
 use Rattle.logic.specs.Normal.{atMost, before, find, isEnd, rank, same, sub}
 use Rattle.logic.specs.Place.{Kind, Place, has, lacks, least, most, nothing}
 use Rattle.logic.specs.Record.{bit}
 use Rattle.logic.specs.Tree.{end}
-use Rattle.passes.proofs.Cells.Written.{kept, leafIf, ofEvery, ofKind, written}
-use Rattle.passes.proofs.Slots.SlotLaws.{class-eq}
+use Rattle.passes.proofs.Cells.CellsWritten.{kept, leafIf, ofEvery, ofKind, written}
+use Rattle.passes.proofs.SlotLists.SlotLaws.{class-eq}
 use Rattle.passes.specs.code.Pipeline.{beforeCell}
 use Rattle.passes.specs.code.Slots.{Cell, cell, highOf, isLink, lookup, lowOf, sameClass, sameName, value}
 

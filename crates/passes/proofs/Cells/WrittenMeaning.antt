@@ -6,16 +6,16 @@ use mathlib.Core.Bool.{Bool, _&&_, _||_, and-assoc, false, not, true}
 use mathlib.Core.List.{List}
 use mathlib.Core.Option.{Option, none, some}
 use mathlib.Core.Path.{_∙_, _≡_, refl, sym}
-use Rattle.base.proofs.Cases.{and-cong}
+use Rattle.base.proofs.Missing.{and-cong}
 use Rattle.base.proofs.Tests.{bool-cases, tests}
 use Rattle.logic.proofs.NormalForm.Fits.{end-sound, linked-none}
 use Rattle.logic.specs.Normal.{atMost, found, isEnd}
 use Rattle.logic.specs.Place.{Place, has, lacks, least, most}
 use Rattle.logic.specs.Record.{Record, eachLinked, fits, meets, successors}
 use Rattle.logic.specs.Tree.{end, leaf, node}
-use Rattle.passes.proofs.Cells.Written.{kept, written}
+use Rattle.passes.proofs.Cells.CellsWritten.{kept, written}
 use Rattle.passes.proofs.Cells.WrittenPasses.{allCells, cellPasses, cells-ext, ifListed, passes, written-passes}
-use Rattle.passes.proofs.Slots.SlotBounds.{below-true, capped, eachBelow, inside}
+use Rattle.passes.proofs.SlotLists.SlotBounds.{below-true, capped, eachBelow, inside}
 use Rattle.passes.specs.code.Slots.{Cell, cell, value}
 
 -- ---- when it is empty

@@ -7,19 +7,19 @@ use mathlib.Core.List.{List, List·Memᴰ, List·Memᴰ·cases-cons, List·Mem�
 use mathlib.Core.Logic.{⊎-elim}
 use mathlib.Core.Option.{Option, none, some}
 use mathlib.Core.Path.{_∙_, _≡_, ap, refl, sym}
-use Rattle.base.proofs.Cases.{some-none}
+use Rattle.base.proofs.Missing.{some-none}
 use Rattle.base.proofs.Tests.{and-both, and-left, and-right, bool-cases, false-of-not, not-to-true, tests}
-use Rattle.base.specs.Sorted.{Sorted}
+use Rattle.base.specs.Ascending.{Sorted}
 use Rattle.logic.proofs.OneMeaning.Plain.{clash-plain, excluded-plain, supports-plain}
 use Rattle.logic.specs.Background.{unrestricted}
 use Rattle.logic.specs.Canonical.{Canonical, Clean, canonical}
 use Rattle.logic.specs.Normal.{atMost, found, isEnd, over, sub, supports, under}
 use Rattle.logic.specs.Place.{Place, atom, has, lacks, least, most, nothing}
+use Rattle.passes.proofs.CellPlaces.FormMeaning.{cellWhole}
 use Rattle.passes.proofs.Cells.CellLaws.{lookup-cases}
-use Rattle.passes.proofs.Cells.Written.{kept, written, written-ascending}
+use Rattle.passes.proofs.Cells.CellsWritten.{kept, written, written-ascending}
 use Rattle.passes.proofs.Cells.WrittenLists.{below, written-find, written-sub}
 use Rattle.passes.proofs.Cells.WrittenPasses.{allCells}
-use Rattle.passes.proofs.Places.FormMeaning.{cellWhole}
 use Rattle.passes.specs.code.Pipeline.{beforeCell}
 use Rattle.passes.specs.code.Slots.{Cell, broken, cell, highOf, lookup, lowOf, value}
 

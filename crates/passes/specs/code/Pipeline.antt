@@ -6,7 +6,7 @@ use lib.ListN.{length}
 use mathlib.Core.Bool.{Bool, _&&_, _||_, cond, not}
 use mathlib.Core.List.{List, [], _∷_}
 use mathlib.Core.Option.{Option, none, some}
-use Rattle.base.specs.Sorted.{sort}
+use Rattle.base.specs.Ascending.{sort}
 use Rattle.logic.specs.Layout.{Queue, done, job, later}
 use Rattle.logic.specs.Normal.{atMost, before}
 use Rattle.logic.specs.Place.{Atom, Kind, atom, has, lacks, least, most, nothing}

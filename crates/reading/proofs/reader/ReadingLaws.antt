@@ -9,8 +9,8 @@ use mathlib.Core.Logic.{_≢_}
 use mathlib.Core.Path.{_∙_, _≡_, ap, sym}
 use native.Mathlib.Omega.{arith}
 use Rattle.base.proofs.Tests.{bool-cases, eq-cases, eq-eqb, ne-eqb, neither-left, neither-right, tests, true-of-not}
-use Rattle.blocks.proofs.Faults.FirstFault.{first-append, orElse}
 use Rattle.blocks.proofs.Format.EntryBytes.{length-entries}
+use Rattle.blocks.proofs.Refusing.FirstFault.{first-append, orElse}
 use Rattle.blocks.specs.Entries.{entriesOf, limitOf}
 use Rattle.blocks.specs.Faults.{blockFaults, entryFaults, faults, first, lengthWrong}
 use Rattle.blocks.specs.Frame.{blocksIn, plain, totalIn, usedIn}

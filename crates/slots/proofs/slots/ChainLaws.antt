@@ -5,7 +5,7 @@ use lib.Dec.{eqb}
 use mathlib.Core.Bool.{false, true}
 use mathlib.Core.Path.{_∙_, _≡_, ap, sym}
 use native.Mathlib.Omega.{arith}
-use Rattle.base.proofs.Cases.{not-true}
+use Rattle.base.proofs.Missing.{not-true}
 use Rattle.base.proofs.Tests.{bool-cases, both-ways, eq-cases, eqb-eq, eqb-self, eqb-sym, tests}
 use Rattle.slots.specs.code.Chain.{Chains, changed, scan}
 

@@ -13,8 +13,8 @@ use native.Mathlib.Nat.{add-suc, add-zero, suc-add}
 use native.Mathlib.Omega.{arith}
 use Rattle.base.proofs.Split.{place-of, row-of}
 use Rattle.base.proofs.Tests.{and-both, eq-cases, eq-eqb, eqb-self, ge-ltb, lt-cases, lt-ltb, tests}
-use Rattle.passes.proofs.Slots.KeyLaws.{class-of, key-parts, key-same, name-of-key, place-of-key}
-use Rattle.passes.proofs.Slots.SlotLaws.{class-self}
+use Rattle.passes.proofs.SlotLists.KeyLaws.{class-of, key-parts, key-same, name-of-key, place-of-key}
+use Rattle.passes.proofs.SlotLists.SlotLaws.{class-self}
 use Rattle.passes.specs.code.Keys.{keyNumber}
 use Rattle.passes.specs.code.Slots.{Slot, position, sameKey, slot, smaller, tighten}
 use Rattle.slots.specs.code.Tables.{highIn, highPart, keyIn, lowPart, slotIn, slotNumber, slotsFrom}

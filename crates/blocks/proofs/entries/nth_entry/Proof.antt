@@ -1,6 +1,6 @@
 -- `nth_entry` meets its contract, one law for each way through the code.
 use borrow.Author.Needs.{needs}
-use Rattle.blocks.proofs.Faults.EntryLaws.{of-above, of-found, of-none, of-past}
+use Rattle.blocks.proofs.Refusing.EntryLaws.{of-above, of-found, of-none, of-past}
 use Rattle.blocks.proofs.entries.nth_entry.Statement.{statement}
 use Rattle.blocks.proofs.entries.nth_entry.Tie as tie
 

@@ -4,7 +4,7 @@ use borrow.Author.Needs.{needs}
 use lib.ListN.{getD, length, length-replicate, length-set}
 use mathlib.Core.Path.{_∙_, _≡_, ap}
 use native.Mathlib.Omega.{arith}
-use Rattle.blocks.proofs.Faults.EntryLaws.{of-nth}
+use Rattle.blocks.proofs.Refusing.EntryLaws.{of-nth}
 use Rattle.blocks.specs.Entries.{entriesOf, nth}
 use Rattle.blocks.specs.Owners.{ownerOf}
 use Rattle.blocks.specs.declared.Entry.{Entry}

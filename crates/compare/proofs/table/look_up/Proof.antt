@@ -3,7 +3,7 @@ use borrow.Author.Needs.{needs}
 use mathlib.Core.Path.{_∙_, sym}
 use native.Mathlib.Numerals.{add-one}
 use native.Mathlib.Omega.{arith}
-use Rattle.compare.proofs.table.TableLaws.{listed-here, listed-other, not-listed}
+use Rattle.compare.proofs.table.FormTable.{listed-here, listed-other, not-listed}
 use Rattle.compare.proofs.table.look_up.Statement.{statement}
 use Rattle.compare.proofs.table.look_up.Tie as tie
 

@@ -3,7 +3,7 @@ use Prim.Native.Nat.{_+_, _-_, _/_, _≤_}
 use borrow.Author.Needs.{needs}
 use mathlib.Core.Path.{refl}
 use native.Mathlib.Omega.{arith}
-use Rattle.compare.proofs.table.TableLaws.{Between, between-half, between-last, between-start, ranked-none}
+use Rattle.compare.proofs.table.FormTable.{Between, between-half, between-last, between-start, ranked-none}
 use Rattle.compare.specs.code.Table.{Rising}
 use Rattle.compare.proofs.table.rank.Statement.{statement}
 use Rattle.compare.proofs.table.rank.Tie as tie

@@ -4,9 +4,9 @@ use borrow.Author.Needs.{needs}
 use lib.ListN.{length, length-set}
 use mathlib.Core.Path.{_∙_, _≡_, ap}
 use native.Mathlib.Omega.{arith}
-use Rattle.blocks.proofs.Faults.EntryLaws.{of-nth}
+use Rattle.blocks.proofs.Refusing.EntryLaws.{of-nth}
 use Rattle.blocks.specs.Entries.{Bounded, entriesOf, nth}
-use Rattle.compare.proofs.table.TableLaws.{unpacked-more, unpacked-none}
+use Rattle.compare.proofs.table.FormTable.{unpacked-more, unpacked-none}
 use Rattle.compare.specs.code.Table.{Unpacked, wordOf}
 use Rattle.compare.proofs.table.unpack.Statement.{statement}
 use Rattle.compare.proofs.table.unpack.Tie as tie

@@ -8,7 +8,7 @@ use Rattle.blocks.proofs.RoundTrip.ByNumber.{total-accepted}
 use Rattle.blocks.specs.declared.Schema.the-variants.{Description}
 use Rattle.compare.proofs.verdict.VerdictLaws.{buffer-normal, buffer-taken, denied-fails, denied-prepared, denied-same}
 use Rattle.compare.specs.code.Prepared.{NormalOf}
-use Rattle.normal.proofs.Answer.{normalised-means}
+use Rattle.normal.proofs.PromiseKept.{normalised-means}
 use Rattle.normal.specs.Answer.{normaliseOf}
 use Rattle.normal.specs.declared.NormalAnswer.the-variants as normal
 use Rattle.compare.proofs.verdict.show.Statement.{statement}

@@ -4,7 +4,7 @@ use borrow.Author.Needs.{needs}
 use lib.ListN.{length-replicate}
 use mathlib.Core.Path.{_∙_, _≡_, refl}
 use native.Mathlib.Omega.{arith}
-use Rattle.blocks.proofs.Faults.EntryLaws.{of-nth}
+use Rattle.blocks.proofs.Refusing.EntryLaws.{of-nth}
 use Rattle.blocks.specs.Entries.{Bounded, entriesOf, nth}
 use Rattle.compare.proofs.verdict.VerdictLaws.{failing-within, prepared-first, prepared-links, prepared-owned, prepared-second, verdict-shown, verdict-writable}
 use Rattle.compare.specs.code.Codes.{Writable}

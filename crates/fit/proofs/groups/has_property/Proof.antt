@@ -10,7 +10,7 @@ use Rattle.blocks.specs.Entries.{entriesOf}
 use Rattle.blocks.specs.declared.Schema.the-variants.{Specimen}
 use Rattle.fit.proofs.groups.GroupLaws.{property-bucket, property-else, property-here, withoutProperty}
 use Rattle.fit.proofs.index.BucketLaws.{hash-below}
-use Rattle.fit.proofs.index.WalkLaws.{Standing, all-ends, all-goes, all-no, all-starts, walk-falls, walk-goes, walk-starts}
+use Rattle.fit.proofs.index.BucketWalk.{Standing, all-ends, all-goes, all-no, all-starts, walk-falls, walk-goes, walk-starts}
 use Rattle.fit.specs.code.Groups.{hasProperty}
 use Rattle.fit.specs.code.Index.{bucketOf, hashOf}
 use Rattle.meaning.specs.Owned.{allWhere}

@@ -3,10 +3,10 @@ use Prim.Native.Nat.{_+_, _-_, _<_, _≤_}
 use borrow.Author.Needs.{needs}
 use mathlib.Core.Path.{_∙_, _≡_}
 use native.Mathlib.Omega.{arith}
-use Rattle.blocks.proofs.Faults.EntryLaws.{of-nth}
+use Rattle.blocks.proofs.Refusing.EntryLaws.{of-nth}
 use Rattle.blocks.specs.Entries.{entriesOf}
 use Rattle.fit.proofs.index.BucketLaws.{bucket-below, bucket-read}
-use Rattle.fit.proofs.index.WalkLaws.{index-more, index-starts}
+use Rattle.fit.proofs.index.BucketWalk.{index-more, index-starts}
 use Rattle.fit.specs.code.Index.{Indexed, bucketOf}
 use Rattle.fit.proofs.index.index_entries.Statement.{statement}
 use Rattle.fit.proofs.index.index_entries.Tie as tie

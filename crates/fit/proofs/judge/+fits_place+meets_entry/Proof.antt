@@ -7,12 +7,12 @@ use borrow.Author.Needs.{needs}
 use borrow.Fn.Kinds.{In}
 use borrow.Fn.PlainCycle.{Measures, is, falls, and}
 use Rattle.base.proofs.Tests.{confirmed, refuted, true-of-not, false-of-not}
-use Rattle.blocks.proofs.Faults.EntryLaws.{of-nth}
+use Rattle.blocks.proofs.Refusing.EntryLaws.{of-nth}
 use Rattle.blocks.specs.Entries.{entriesOf}
 use Rattle.blocks.specs.Owners.{ownerOf}
 use Rattle.blocks.specs.declared.Schema.the-variants.{Specimen}
 use Rattle.fit.proofs.index.BucketLaws.{hash-below}
-use Rattle.fit.proofs.index.WalkLaws.{Standing, walk-starts, walk-goes, walk-falls, all-starts, all-goes, all-no, all-ends}
+use Rattle.fit.proofs.index.BucketWalk.{Standing, walk-starts, walk-goes, walk-falls, all-starts, all-goes, all-no, all-ends}
 use Rattle.fit.proofs.judge.MeetLaws.{meets-bottom, meets-atoms, ownFits, meets-bucket, other-passes, group-decides}
 use Rattle.fit.specs.code.Groups.{meetsEntry, fitsPlace}
 use Rattle.fit.specs.code.Index.{bucketOf, hashOf}

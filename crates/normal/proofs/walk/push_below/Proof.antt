@@ -3,7 +3,7 @@ use borrow.Author.Needs.{needs}
 use lib.ListN.{getD}
 use mathlib.Core.Path.{_∙_, _≡_, refl}
 use native.Mathlib.Omega.{arith}
-use Rattle.normal.proofs.walk.WalkingLaws.{run-from}
+use Rattle.normal.proofs.walk.PlaceWalk.{run-from}
 use Rattle.normal.specs.code.Ordered.{firstOfPlace}
 use Rattle.normal.proofs.walk.push_below.Statement.{statement}
 use Rattle.normal.proofs.walk.push_below.Tie as tie

@@ -6,7 +6,7 @@ use mathlib.Core.List.{[]}
 use mathlib.Core.Path.{_∙_, _≡_, ap}
 use native.Mathlib.Omega.{arith}
 use Rattle.base.proofs.Tests.{eq-cases}
-use Rattle.normal.proofs.walk.WalkingLaws.{Walking, cells-slotlike, run-from, top-room, walking-done, walking-few, walking-next, walking-place, walking-room, walking-start}
+use Rattle.normal.proofs.walk.PlaceWalk.{Walking, cells-slotlike, run-from, top-room, walking-done, walking-few, walking-next, walking-place, walking-room, walking-start}
 use Rattle.normal.specs.code.Emitted.{allRows, keepIn}
 use Rattle.normal.specs.code.Ordered.{firstOfPlace, runOf}
 use Rattle.normal.proofs.walk.write_rows.Statement.{statement}

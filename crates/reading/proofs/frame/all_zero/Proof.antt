@@ -3,7 +3,7 @@ use Prim.Native.Nat.{_-_, _≤_}
 use borrow.Author.Needs.{needs}
 use mathlib.Core.Path.{_∙_, _≡_, refl, sym}
 use native.Mathlib.Omega.{arith}
-use Rattle.base.proofs.Range.{all-end, all-no, all-yes}
+use Rattle.base.proofs.RangeLaws.{all-end, all-no, all-yes}
 use Rattle.base.proofs.Tests.{eq-eqb, ne-eqb}
 use Rattle.base.specs.Range.{all}
 use Rattle.blocks.specs.Frame.{zeroAt}

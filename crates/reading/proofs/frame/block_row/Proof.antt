@@ -1,7 +1,7 @@
 -- `block_row` meets its contract: 2 before 3.
 use borrow.Author.Needs.{needs}
 use native.Mathlib.Omega.{arith}
-use Rattle.blocks.proofs.Faults.BlockLaws.{block-sound, check-fails, frame-fails}
+use Rattle.blocks.proofs.Refusing.BlockLaws.{block-sound, check-fails, frame-fails}
 use Rattle.reading.proofs.frame.block_row.Statement.{statement}
 use Rattle.reading.proofs.frame.block_row.Tie as tie
 

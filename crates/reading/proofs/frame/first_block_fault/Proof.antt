@@ -4,7 +4,7 @@ use borrow.Author.Needs.{needs}
 use mathlib.Core.Path.{_∙_, _≡_, sym}
 use native.Mathlib.Nat.{sub-zero}
 use native.Mathlib.Omega.{arith}
-use Rattle.blocks.proofs.Faults.BlockLaws.{blocks-end, blocks-found, blocks-more}
+use Rattle.blocks.proofs.Refusing.BlockLaws.{blocks-end, blocks-found, blocks-more}
 use Rattle.blocks.specs.Faults.{blockFaults, first}
 use Rattle.blocks.specs.Frame.{plain}
 use Rattle.reading.proofs.frame.first_block_fault.Statement.{statement}

@@ -2,7 +2,7 @@
 use borrow.Author.Needs.{needs}
 use native.Mathlib.Omega.{arith}
 use Rattle.base.proofs.Tests.{confirmed, refuted}
-use Rattle.blocks.proofs.Faults.BlockLaws.{number-wrong, rest-decides, second-wrong, used-at-most, used-wrong}
+use Rattle.blocks.proofs.Refusing.BlockLaws.{number-wrong, rest-decides, second-wrong, used-at-most, used-wrong}
 use Rattle.reading.proofs.frame.frame_wrong.Statement.{statement}
 use Rattle.reading.proofs.frame.frame_wrong.Tie as tie
 

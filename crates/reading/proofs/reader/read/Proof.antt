@@ -2,7 +2,7 @@
 use borrow.Author.Needs.{needs}
 use mathlib.Core.Path.{_∙_, sym}
 use native.Mathlib.Omega.{arith}
-use Rattle.blocks.proofs.Faults.BlockLaws.{last-used}
+use Rattle.blocks.proofs.Refusing.BlockLaws.{last-used}
 use Rattle.reading.proofs.reader.ReadingLaws.{blocks-are, read-block, read-entry, read-length}
 use Rattle.reading.proofs.reader.read.Statement.{statement}
 use Rattle.reading.proofs.reader.read.Tie as tie

@@ -5,8 +5,8 @@ use borrow.Author.Needs.{needs}
 use mathlib.Core.Path.{_∙_, _≡_, sym}
 use native.Mathlib.Nat.{add-sub-cancel}
 use native.Mathlib.Omega.{arith}
-use Rattle.blocks.proofs.Faults.EntryLaws.{nth-read}
-use Rattle.blocks.proofs.Faults.LevelLaws.{Levels, entries-end, entries-found, entries-more, level-small, levels-more, levels-start}
+use Rattle.blocks.proofs.Refusing.EntryLaws.{nth-read}
+use Rattle.blocks.proofs.Refusing.LevelLaws.{Levels, entries-end, entries-found, entries-more, level-small, levels-more, levels-start}
 use Rattle.blocks.specs.Entries.{entriesOf, nth}
 use Rattle.blocks.specs.Faults.{entryFaults, first}
 use Rattle.reading.proofs.rules.first_entry_fault.Statement.{statement}

@@ -5,7 +5,7 @@ use lib.ListN.{length}
 use mathlib.Core.Path.{_∙_, _≡_, sym}
 use native.Mathlib.Omega.{arith}
 use Rattle.blocks.specs.Frame.{blocksIn}
-use Rattle.report.proofs.SearchLaws.{search-end, search-found, search-more, search-start}
+use Rattle.report.proofs.DivisionLaws.{search-end, search-found, search-more, search-start}
 use Rattle.report.specs.Division.{divisionFrom, firstLength}
 use Rattle.report.proofs.split.first_length.Statement.{statement}
 use Rattle.report.proofs.split.first_length.Tie as tie

@@ -6,12 +6,12 @@ use mathlib.Core.List.{map}
 use mathlib.Core.Path.{_∙_, _≡_, ap}
 use native.Mathlib.Omega.{arith}
 use Rattle.base.proofs.Tests.{eq-cases}
-use Rattle.blocks.proofs.Faults.EntryLaws.{of-nth}
+use Rattle.blocks.proofs.Refusing.EntryLaws.{of-nth}
 use Rattle.blocks.specs.Entries.{Bounded, entriesOf, nth}
 use Rattle.blocks.specs.Owners.{ownerOf}
 use Rattle.blocks.specs.declared.Entry.{Entry}
 use Rattle.meaning.specs.Description.{rowOf}
-use Rattle.passes.proofs.Cells.Written.{kept}
+use Rattle.passes.proofs.Cells.CellsWritten.{kept}
 use Rattle.passes.specs.code.Slots as slot-build
 use Rattle.passes.specs.code.Slots.{slots}
 use Rattle.slots.proofs.build.BuildLaws.{build-ends, build-goes, build-starts, kept-starts, nodes-more, nodes-start}

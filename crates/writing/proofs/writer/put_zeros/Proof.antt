@@ -4,7 +4,7 @@ use borrow.Author.Needs.{needs}
 use lib.ListN.{length, length-set, replicate}
 use mathlib.Core.Path.{_∙_, _≡_, refl}
 use native.Mathlib.Omega.{arith}
-use Rattle.base.proofs.Stores.{stored-none}
+use Rattle.base.proofs.StoresLaws.{stored-none}
 use Rattle.base.specs.Stores.{stored}
 use Rattle.writing.proofs.WritingLaws.{zeros-step}
 use Rattle.writing.proofs.writer.put_zeros.Statement.{statement}

@@ -1,0 +1,131 @@
+-- Laws of the rows that blocks break.
+-- Assumes nothing.
+use Prim.Native.Nat.{_*_, _+_, _-_, _<_, _≤_, suc, zero, ℕ}
+use lib.Dec.{eqb, leb, ltb}
+use mathlib.Core.Bool.{Bool, _||_, false, not, true}
+use mathlib.Core.List.{List}
+use mathlib.Core.Logic.{_≢_}
+use mathlib.Core.Path.{_∙_, _≡_, ap, sym}
+use native.Mathlib.Numerals.{add-one}
+use native.Mathlib.Omega.{arith}
+use Rattle.base.proofs.RangeLaws.{none-left, one-left}
+use Rattle.base.proofs.Tests.{and-left, bool-cases, both-ways, eq-cases, eq-eqb, ne-eqb, tests}
+use Rattle.base.specs.Range.{all}
+use Rattle.blocks.proofs.Refusing.FirstFault.{clean-none, step, step-found, step-more}
+use Rattle.blocks.specs.Faults.{blockFaults, first}
+use Rattle.blocks.specs.Frame.{Frame, checkWrong, frameWrong, plain, restZero, secondOk, usedIn, usedOk, zeroAt}
+use Rattle.blocks.specs.Promise.{None}
+use Rattle.blocks.specs.Words.{checkOf, wordAt}
+use Rattle.blocks.specs.code.ReadingSteps.{blockRow}
+use Rattle.blocks.specs.declared.Finding.the-variants.{Clean, Faulty}
+
+-- ---- row 3, one law for each way through its tests
+
+module _ (s : List ℕ) (n i : ℕ) where
+  pub number-wrong : {w : ℕ} → w ≡ wordAt s (512 * i) → w ≢ i + 1 → true ≡ frameWrong plain s n i
+  unfolding frameWrong
+  number-wrong e h = simp (frameWrong, ← e, ne-eqb (λ q. h (q ∙ sym (add-one i))))
+
+  module _ {w u : ℕ} (e : w ≡ wordAt s (512 * i)) (number : w ≡ i + 1) (f : u ≡ wordAt s (512 * i + 2)) where
+    number-right : eqb (wordAt s (512 * i)) (suc i) ≡ true
+    number-right = eq-eqb (sym e ∙ number ∙ add-one i)
+
+    used-is : usedIn s i ≡ u
+    unfolding usedIn
+    used-is = sym f
+
+    pub used-wrong : usedOk plain n i u ≡ false → true ≡ frameWrong plain s n i
+    unfolding frameWrong
+    used-wrong h = simp (frameWrong, number-right, used-is, h)
+
+    module _ (used : usedOk plain n i u ≡ true) {v : ℕ} (g : v ≡ wordAt s (512 * i + 508)) where
+      pub second-wrong : v ≢ 0 → true ≡ frameWrong plain s n i
+      unfolding frameWrong secondOk
+      second-wrong h = simp (frameWrong, secondOk, number-right, used-is, used, ← g, ne-eqb h)
+
+      pub rest-decides : v ≡ 0 → {z : Bool} → z ≡ all (zeroAt s) (512 * i + 4 + 8 * u) (512 * i + 508 - (512 * i + 4 + 8 * u))
+          → not z ≡ frameWrong plain s n i
+      unfolding frameWrong secondOk restZero
+      rest-decides h p =
+          let k : 512 * i + 508 - (512 * i + 4 + 8 * u) ≡ 504 - 8 * u = omega arith in
+          simp (frameWrong, secondOk, restZero, number-right, used-is, used, ← g, eq-eqb h) (ap not (p ∙ ap (all (zeroAt s) (512 * i + 4 + 8 * u)) k))
+
+-- an allowed used count is at most 63
+pub used-at-most : (n i : ℕ) {u : ℕ} → usedOk plain n i u ≡ true → u ≤ 63
+unfolding usedOk
+used-at-most n i {u} h =
+    bool-cases (ltb (suc i) n)
+    (λ q. omega (tests, rw (usedOk, q) at h))
+    (λ q. omega (tests, and-left (leb u 63) (ltb 0 u || eqb n 1) (rw (usedOk, q) at h)))
+
+-- ---- the row of a block
+
+pub check-fails : (s : List ℕ) (n i : ℕ) {c w : ℕ} → w ≡ wordAt s (512 * i + 510) → c ≡ checkOf s (512 * i) → w ≢ c → 2 ≡ blockRow s n i
+unfolding blockRow checkWrong
+check-fails s n i e f h = simp (blockRow, checkWrong, ← e, ← f, ne-eqb h)
+
+check-holds : (s : List ℕ) (i : ℕ) {c w : ℕ} → w ≡ wordAt s (512 * i + 510) → c ≡ checkOf s (512 * i) → w ≡ c → checkWrong plain s i ≡ false
+unfolding checkWrong
+check-holds s i e f h = simp (checkWrong, ← e, ← f, eq-eqb h)
+
+pub frame-fails : (s : List ℕ) (n i : ℕ) {c w : ℕ} {r : Bool} → w ≡ wordAt s (512 * i + 510) → c ≡ checkOf s (512 * i) → w ≡ c
+    → r ≡ frameWrong plain s n i → r ≡ true → 3 ≡ blockRow s n i
+unfolding blockRow
+frame-fails s n i e f h g t = simp (blockRow, check-holds s i e f h, ← g, t)
+
+pub block-sound : (s : List ℕ) (n i : ℕ) {c w : ℕ} {r : Bool} → w ≡ wordAt s (512 * i + 510) → c ≡ checkOf s (512 * i) → w ≡ c
+    → r ≡ frameWrong plain s n i → r ≡ false → 0 ≡ blockRow s n i
+unfolding blockRow
+block-sound s n i e f h g t = simp (blockRow, check-holds s i e f h, ← g, t)
+
+-- ---- the pass over the blocks
+
+block-step : (s : List ℕ) (n i left : ℕ) → first (blockFaults plain s n i (suc left)) ≡ step (blockRow s n i) (suc i) (first (blockFaults plain s n (suc i) left))
+unfolding blockFaults first blockRow
+block-step s n i left =
+    bool-cases (checkWrong plain s i)
+    (λ q. simp (blockRow, q))
+    (λ q. bool-cases (frameWrong plain s n i) (λ r. simp (blockRow, q, r)) (λ r. simp (blockRow, q, r)))
+
+pub blocks-end : (s : List ℕ) (n i : ℕ) → n ≤ i → first (blockFaults plain s n i (n - i)) ≡ Clean
+unfolding blockFaults first
+blocks-end s n i h = rw (none-left i n h)
+
+module _ (s : List ℕ) (n i : ℕ) {row : ℕ} (l : i < n) (e : row ≡ blockRow s n i) where
+  pub blocks-more : row ≡ 0 → first (blockFaults plain s n i (n - i)) ≡ first (blockFaults plain s n (i + 1) (n - (i + 1)))
+  blocks-more z = rw (one-left i n l, add-one i) (block-step s n i (n - suc i) ∙ step-more _ _ _ (sym e ∙ z))
+
+  pub blocks-found : row ≢ 0 → first (blockFaults plain s n i (n - i)) ≡ Faulty row (i + 1)
+  blocks-found z =
+      rw (one-left i n l, add-one i) (block-step s n i (n - suc i) ∙ step-found _ _ _ (λ q. z (e ∙ q)) ∙ ap (λ (k : ℕ). Faulty k (suc i)) (sym e))
+
+-- blocks in which no fault is found break neither row
+pub blocks-none : (F : Frame) (s : List ℕ) (n i left : ℕ) → None (blockFaults F s n i left) → (k : ℕ) → i ≤ k → k < i + left
+    → (checkWrong F s k ≡ false) × (frameWrong F s n k ≡ false)
+unfolding blockFaults None
+blocks-none F s n i zero h k lo hi = absurd (omega arith)
+blocks-none F s n i (suc left) h k lo hi =
+    eq-cases k i
+    (λ q. rw q (h .0, h .1 .0))
+    (λ q. blocks-none F s n (suc i) left (h .1 .1) k (omega arith) (omega arith))
+
+pub none-blocks : (F : Frame) (s : List ℕ) (n i left : ℕ) → ((k : ℕ) → i ≤ k → k < i + left → (checkWrong F s k ≡ false) × (frameWrong F s n k ≡ false))
+    → None (blockFaults F s n i left)
+unfolding blockFaults None
+none-blocks F s n i zero h = tt
+none-blocks F s n i (suc left) h =
+    let g = h i (omega arith) (omega arith) in
+    (g .0, (g .1, none-blocks F s n (suc i) left (λ k lo hi. h k (omega arith) (omega arith))))
+
+-- a block that does not break row 3 has an allowed used count
+pub frame-used : (F : Frame) (s : List ℕ) (n i : ℕ) → frameWrong F s n i ≡ false → usedOk F n i (usedIn s i) ≡ true
+unfolding frameWrong
+frame-used F s n i e =
+    bool-cases (usedOk F n i (usedIn s i))
+    (λ q. q)
+    (λ q. both-ways (bool-cases (eqb (wordAt s (512 * i)) (suc i)) (λ p. simp (frameWrong, p, q)) (λ p. simp (frameWrong, p))) e)
+
+-- the last block of a sound input uses at most 63 entries
+pub last-used : (s : List ℕ) (n : ℕ) → 1 ≤ n → first (blockFaults plain s n 0 n) ≡ Clean → usedIn s (n - 1) ≤ 63
+last-used s n h e =
+    used-at-most n (n - 1) (frame-used plain s n (n - 1) (blocks-none plain s n 0 n (clean-none _ e) (n - 1) (omega arith) (omega arith) .1))

@@ -1,0 +1,166 @@
+-- Owners, depths, and the table of levels that stands in for them.
+-- Assumes nothing.
+use Prim.Native.Nat.{_+_, _-_, _<_, _≤_, suc, zero, ℕ}
+use borrow.Author.Count.{below-more}
+use lib.Dec.{eqb, leb}
+use lib.ListN.{getD, length, length-replicate, length-set, replicate, set}
+use lib.Seq.{getD-set-other, getD-set-same}
+use mathlib.Core.Bool.{cond, false, true}
+use mathlib.Core.List.{List}
+use mathlib.Core.Logic.{_≢_}
+use mathlib.Core.Path.{_∙_, _≡_, ap, refl, sym}
+use native.Mathlib.Nat.{ne-of-lt}
+use native.Mathlib.Numerals.{add-one}
+use native.Mathlib.Omega.{arith}
+use Rattle.base.proofs.RangeLaws.{none-left, one-left}
+use Rattle.base.proofs.Tests.{bool-cases, eq-cases, eq-eqb, ge-ltb, lt-cases, lt-ltb, ne-eqb, tests}
+use Rattle.blocks.proofs.Refusing.FirstFault.{step, step-found, step-more}
+use Rattle.blocks.specs.Entries.{formOk, nth, owningKind}
+use Rattle.blocks.specs.Faults.{entryFaults, first}
+use Rattle.blocks.specs.Owners.{chain, depthOf, depthOk, ownerOf, ownerOk}
+use Rattle.blocks.specs.code.ReadingSteps.{entryRow, levelBy, levelOf, levelUnder}
+use Rattle.blocks.specs.declared.Entry.{Entry}
+use Rattle.blocks.specs.declared.Finding.the-variants.{Clean, Faulty}
+use Rattle.blocks.specs.declared.Schema.{Schema}
+
+-- ---- depths of entries whose owners stand earlier
+
+chain-steps : (es : List Entry) (n : ℕ) → ((k : ℕ) → 1 ≤ k → k < n → ownerOf es k < k)
+    → (f g k : ℕ) → 1 ≤ k → k < n → k ≤ f → k ≤ g → chain es f k ≡ chain es g k
+unfolding chain
+chain-steps es n early zero g k h l hf hg = absurd (omega arith)
+chain-steps es n early (suc f) zero k h l hf hg = absurd (omega arith)
+chain-steps es n early (suc f) (suc g) k h l hf hg =
+    let o = early k h l in
+    eq-cases (ownerOf es k) 0
+    (λ z. rw (chain, eq-eqb z))
+    (λ z.
+    let r = chain-steps es n early f g (ownerOf es k) (omega arith) (omega arith) (omega arith) (omega arith) in
+    rw (chain, ne-eqb z, r))
+
+pub depth-top : (es : List Entry) (n : ℕ) → ownerOf es n ≡ 0 → depthOf es n ≡ 0
+unfolding depthOf chain
+depth-top es zero z = refl
+depth-top es (suc m) z = rw (depthOf, chain, eq-eqb z)
+
+pub depth-under : (es : List Entry) (n : ℕ) → ((k : ℕ) → 1 ≤ k → k < n → ownerOf es k < k) → ownerOf es n < n → ownerOf es n ≢ 0
+    → depthOf es n ≡ suc (depthOf es (ownerOf es n))
+unfolding depthOf chain
+depth-under es zero early l z = absurd (omega arith)
+depth-under es (suc m) early l z =
+    let r = chain-steps es (suc m) early m (ownerOf es (suc m)) (ownerOf es (suc m)) (omega arith) l (omega arith) (omega arith) in
+    rw (depthOf, chain, ne-eqb z, r)
+
+-- ---- the table of levels
+
+-- the table holds the level of each entry before n, and their owners stand earlier
+pub record Levels (σ : Schema) (es : List Entry) (t : List ℕ) (n : ℕ) : Type 0 where
+  pub size : length t ≡ 2017
+  pub right : (k : ℕ) → k < n → getD t k 0 ≡ levelOf σ es k
+  pub early : (k : ℕ) → 1 ≤ k → k < n → ownerOf es k < k
+
+pub levels-start : (σ : Schema) (es : List Entry) → Levels σ es (set (replicate 2017 0) 0 1) 1
+unfolding levelOf
+levels-start σ es =
+    let zeros : List ℕ = replicate 2017 0 in
+    let size : length zeros ≡ 2017 = length-replicate {A = ℕ} 2017 0 in
+    record {
+      size = length-set zeros 0 1 ∙ size;
+      right = λ k l. let z : k ≡ 0 = omega arith in rw z (getD-set-same zeros 0 1 0 (omega arith));
+      early = λ k h l. absurd (omega arith);
+    }
+
+-- the level of an owner that is an entry before n
+level-of-owner : (σ : Schema) (es : List Entry) (o : ℕ) → o ≢ 0 → levelOf σ es o ≡ cond (eqb (nth es o .kind) (owningKind σ)) (2 + depthOf es o) 0
+unfolding levelOf
+level-of-owner σ es zero h = absurd (h refl)
+level-of-owner σ es (suc k) h = refl
+
+-- A level of 0: the owner is refused. Any other: it stands earlier, and the level is one more than the entry's depth.
+level-cases : {A : Type 0} (σ : Schema) (es : List Entry) (t : List ℕ) (n : ℕ) {l : ℕ} → Levels σ es t n → 1 ≤ n → l ≡ levelBy t n (ownerOf es n)
+    → (l ≡ 0 → ownerOk σ es n ≡ false → A) → (l ≢ 0 → ownerOk σ es n ≡ true → ownerOf es n < n → l ≡ suc (depthOf es n) → A) → A
+unfolding levelBy ownerOk
+level-cases σ es t n {l} T one e refused allowed =
+    let o = ownerOf es n in
+    lt-cases o n
+    (λ lt.
+    let g : l ≡ levelOf σ es o = e ∙ rw (levelBy, lt-ltb lt) (T .right o lt) in
+    eq-cases o 0
+    (λ z.
+    let d = depth-top es n z in
+    let one′ : levelOf σ es o ≡ 1 = unfold levelOf in rw z in
+    allowed (omega arith) (rw (ownerOk, eq-eqb z)) lt (omega arith))
+    (λ z.
+    let d = depth-under es n (T .early) lt z in
+    let h = level-of-owner σ es o z in
+    bool-cases (eqb (nth es o .kind) (owningKind σ))
+    (λ q. let h′ = rw q at h in allowed (omega arith) (simp (ownerOk, ne-eqb z, lt-ltb lt, q)) lt (omega arith))
+    (λ q. let h′ = rw q at h in refused (omega arith) (simp (ownerOk, ne-eqb z, lt-ltb lt, q)))))
+    (λ ge.
+    let z : o ≢ 0 = λ q. omega arith in
+    refused (e ∙ rw (levelBy, ge-ltb ge)) (simp (ownerOk, ne-eqb z, ge-ltb ge)))
+
+-- an entry that breaks no row: its form is allowed, and its owner has a level from 1 to 33
+row-none : (σ : Schema) (e : Entry) (l : ℕ) → entryRow σ e l ≡ 0 → (formOk σ e ≡ true) × ((l ≢ 0) × (l ≤ 33))
+unfolding entryRow
+row-none σ e l h =
+    bool-cases (formOk σ e)
+    (λ p. eq-cases l 0
+    (λ z. let g = rw (entryRow, p, eq-eqb z) at h in absurd (omega arith))
+    (λ z. lt-cases 33 l
+    (λ d. let g = rw (entryRow, p, ne-eqb z, lt-ltb d) at h in absurd (omega arith))
+    (λ d. (p, (z, d)))))
+    (λ p. let g = rw (entryRow, p) at h in absurd (omega arith))
+
+module _ (σ : Schema) (es : List Entry) (t : List ℕ) (n : ℕ) {e : Entry} {l row : ℕ} (T : Levels σ es t n) (one : 1 ≤ n) (at : e ≡ nth es n)
+    (lv : l ≡ levelBy t n (e .owner)) (r : row ≡ entryRow σ e l) where
+  owner-level : l ≡ levelBy t n (ownerOf es n)
+  unfolding ownerOf
+  owner-level = lv ∙ ap (λ (x : Entry). levelBy t n (x .owner)) at
+
+  row-here : row ≡ entryRow σ (nth es n) l
+  row-here = r ∙ ap (λ (x : Entry). entryRow σ x l) at
+
+  entry-step : (left : ℕ) → first (entryFaults σ es n (suc left)) ≡ step row n (first (entryFaults σ es (suc n) left))
+  unfolding entryFaults first entryRow depthOk
+  entry-step left =
+      rw row-here (bool-cases (formOk σ (nth es n))
+      (λ p. level-cases σ es t n T one owner-level
+      (λ z o. simp (entryRow, p, o, eq-eqb z))
+      (λ z o lt d. lt-cases 33 l
+      (λ h. let k : leb (depthOf es n) 32 ≡ false = omega tests in simp (entryRow, p, o, ne-eqb z, lt-ltb h, depthOk, k))
+      (λ h. let k : leb (depthOf es n) 32 ≡ true = omega tests in simp (entryRow, p, o, ne-eqb z, ge-ltb h, depthOk, k))))
+      (λ p. simp (entryRow, p)))
+
+  pub level-small : row ≡ 0 → l ≤ 33
+  level-small z = row-none σ e l (sym r ∙ z) .1 .1
+
+  pub entries-more : (total : ℕ) → n ≤ total → row ≡ 0
+      → first (entryFaults σ es n (total + 1 - n)) ≡ first (entryFaults σ es (n + 1) (total + 1 - (n + 1)))
+  entries-more total h z =
+      rw (one-left n (total + 1) (omega arith), add-one n) (entry-step (total + 1 - suc n) ∙ step-more _ _ _ z)
+
+  pub entries-found : (total : ℕ) → n ≤ total → row ≢ 0 → first (entryFaults σ es n (total + 1 - n)) ≡ Faulty row n
+  entries-found total h z =
+      rw (one-left n (total + 1) (omega arith)) (entry-step (total + 1 - (n + 1)) ∙ step-found _ _ _ z)
+
+  pub levels-more : {v : ℕ} → row ≡ 0 → n < 2017 → v ≡ levelUnder σ (e .kind) l → Levels σ es (set t n v) (n + 1)
+  unfolding levelUnder
+  levels-more {v} z h u =
+      let same = getD-set-same t n v 0 (omega (arith, T .size)) in
+      level-cases σ es t n T one owner-level
+      (λ y o. absurd (row-none σ e l (sym r ∙ z) .1 .0 y))
+      (λ y o lt d.
+      let w : v ≡ levelOf σ es n = u ∙ bool-cases (eqb (nth es n .kind) (owningKind σ))
+      (λ q. rw (at, levelUnder, q, level-of-owner σ es n (λ k. omega arith), q) (omega arith))
+      (λ q. rw (at, levelUnder, q, level-of-owner σ es n (λ k. omega arith), q)) in
+      record {
+        size = length-set t n v ∙ T .size;
+        right = below-more (λ k. getD (set t n v) k 0 ≡ levelOf σ es k) n
+            (λ k k<. getD-set-other t n k v 0 (ne-of-lt k<) ∙ T .right k k<) (same ∙ w);
+        early = λ k k≥ k<. below-more (λ j. 1 ≤ j → ownerOf es j < j) n (λ j j< j≥. T .early j j≥ j<) (λ g. lt) k k< k≥;
+      })
+
+pub entries-end : (σ : Schema) (es : List Entry) (n total : ℕ) → total < n → first (entryFaults σ es n (total + 1 - n)) ≡ Clean
+unfolding entryFaults first
+entries-end σ es n total h = rw (none-left n (total + 1) (omega arith))

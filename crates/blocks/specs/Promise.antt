@@ -1,0 +1,30 @@
+-- What the promises of the block layer speak of: the first fault that applies, and lists of entries that no rule refuses.
+-- Assumes nothing.
+use Prim.Native.Nat.{_≤_, ℕ}
+use lib.ListN.{length}
+use mathlib.Core.Bool.{false, true}
+use mathlib.Core.List.{List, [], _++_, _∷_}
+use mathlib.Core.Path.{_≡_}
+use Rattle.blocks.specs.Entries.{formOk, nth}
+use Rattle.blocks.specs.Faults.{Fault, fault}
+use Rattle.blocks.specs.Owners.{depthOk, ownerOk}
+use Rattle.blocks.specs.declared.Entry.{Entry}
+use Rattle.blocks.specs.declared.Schema.{Schema}
+
+-- none of the faults applies
+unfoldable pub None : List Fault → Type 0
+None [] = Unit {0}
+None (f ∷ fs) = (f .applies ≡ false) × None fs
+
+-- the first that applies returns the number k and gives the place p: none before it applies
+pub record FirstOf (fs : List Fault) (k p : ℕ) : Type 0 where
+  pub before : List Fault
+  pub after : List Fault
+  pub listed : fs ≡ before ++ (fault true k p ∷ after)
+  pub none : None before
+
+-- each entry has an allowed form, an allowed owner, and an allowed depth
+pub record Legal (σ : Schema) (es : List Entry) : Type 0 where
+  pub form : (n : ℕ) → 1 ≤ n → n ≤ length es → formOk σ (nth es n) ≡ true
+  pub owner : (n : ℕ) → 1 ≤ n → n ≤ length es → ownerOk σ es n ≡ true
+  pub depth : (n : ℕ) → 1 ≤ n → n ≤ length es → depthOk es n ≡ true

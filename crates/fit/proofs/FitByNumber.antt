@@ -1,0 +1,123 @@
+-- Fitting by entry numbers, down from the top and for 33 levels, is fitting in the record of the specimen.
+-- Assumes nothing.
+use Prim.Native.Nat.{_+_, _≤_, suc, zero, ℕ}
+use lib.Dec.{eqb, leb}
+use lib.ListN.{length}
+use mathlib.Core.Bool.{Bool, _&&_, _||_, cond, false, not, true}
+use mathlib.Core.List.{List, [], _∷_}
+use mathlib.Core.Path.{_∙_, _≡_, ap, fun-ext, refl, sym}
+use native.Mathlib.Omega.{arith}
+use Rattle.base.proofs.Tests.{and-swap, bool-cases, eq-cases, eqb-sym, leb-le, ne-eqb}
+use Rattle.blocks.proofs.Refusing.Legal.{owner-earlier}
+use Rattle.blocks.proofs.Refusing.LevelLaws.{depth-under}
+use Rattle.blocks.specs.Entries.{nth}
+use Rattle.blocks.specs.Owners.{depthOf, depthOk, ownerOf}
+use Rattle.blocks.specs.Promise.{Legal}
+use Rattle.blocks.specs.declared.Entry.{Entry}
+use Rattle.blocks.specs.declared.Schema.the-variants.{Description}
+use Rattle.fit.specs.code.Groups.{fitsPlace, groupsBy, hasProperty, meetsEntry, totalBy}
+use Rattle.logic.proofs.Records.Counting.{every-from-ext, everyFrom, sumIn}
+use Rattle.logic.specs.Place.{Place, kindOf}
+use Rattle.logic.specs.Record.{fits}
+use Rattle.logic.specs.Tree.{end, leaf, node}
+use Rattle.meaning.proofs.Descriptions.OwnedLaws.{owned-ext, owned-from, sum-from}
+use Rattle.meaning.proofs.Descriptions.Places.{allHere, asks, place-owned}
+use Rattle.meaning.proofs.Specimens.Items.{eachGroup, fits-groups, fitsBy, groupUnder, linkedItems, meetsBy}
+use Rattle.meaning.specs.Description.{placeOf}
+use Rattle.meaning.specs.Owned.{allOwned}
+use Rattle.meaning.specs.Specimen.{owns, recordOf}
+
+-- ---- the specimen's groups, by number and by list
+
+-- an owner's test before two others, in the order of the list's test
+owner-last : (o k n : Bool) → (not o || not (k && n)) ≡ not (k && (o && n))
+owner-last true k n = refl
+owner-last false true n = refl
+owner-last false false n = refl
+
+-- a group of owner g by link l, in the order of the numbers' test
+under-owner : (g l : ℕ) (e : Entry) → groupUnder g l e ≡ eqb (e .owner) g && (eqb (e .kind) 7 && eqb (e .name) l)
+under-owner g l e = rw (eqb-sym g (e .owner), eqb-sym l (e .name)) (and-swap (eqb (e .kind) 7) (eqb (e .owner) g) (eqb (e .name) l))
+
+-- a property that a group owns, by the list
+owns-from : (g p k : ℕ) (es : List Entry) → owns g p es ≡ not (everyFrom (λ n e. not (eqb (e .owner) g) || not (eqb (e .kind) 1 && eqb (e .name) p)) k es)
+unfolding owns everyFrom
+owns-from g p k [] = refl
+owns-from g p k (e ∷ es) =
+    rw (owns-from g p (suc k) es, eqb-sym g (e .owner), eqb-sym p (e .name), owner-last (eqb (e .owner) g) (eqb (e .kind) 1) (eqb (e .name) p))
+    (bool-cases (eqb (e .kind) 1 && (eqb (e .owner) g && eqb (e .name) p)) (λ q. rw q) (λ q. rw q))
+
+module _ (s : List Entry) (g : ℕ) where
+  -- the properties of a group
+  property-owns : (p : ℕ) → hasProperty s g p ≡ owns g p s
+  unfolding hasProperty
+  property-owns p = ap not (owned-from (λ k e. not (eqb (e .kind) 1 && eqb (e .name) p)) s g) ∙ sym (owns-from g p 1 s)
+
+  -- the items that the items of a group are linked to
+  total-linked : (l : ℕ) → totalBy s g l ≡ linkedItems s g l
+  unfolding totalBy linkedItems
+  total-linked l =
+      sum-from (λ e. cond (eqb (e .kind) 7 && eqb (e .name) l) (suc (e .number)) 0) s g
+      ∙ ap (λ (f : Entry → ℕ). sumIn f s)
+      (fun-ext (λ e. rw (under-owner g l e) (bool-cases (eqb (e .owner) g) (λ q. rw q) (λ q. rw q))))
+
+  -- the groups of a group by a link
+  groups-each : (p : ℕ → Bool) (l : ℕ) → groupsBy p s g l ≡ eachGroup p s g l
+  unfolding groupsBy eachGroup
+  groups-each p l =
+      owned-from (λ k e. not (eqb (e .kind) 7 && eqb (e .name) l) || p k) s g
+      ∙ every-from-ext _ _ 1 s (λ k e. rw (under-owner g l e) (bool-cases (eqb (e .owner) g) (λ q. rw q) (λ q. rw q)))
+
+-- ---- the description's entries
+
+-- a place by the entries there
+here-groups : (s : List Entry) (t : Place) (g : ℕ) → fitsBy s t g ≡ allHere (λ a. meetsBy s a g) (λ l u. eachGroup (fitsBy s u) s g l) t
+unfolding fitsBy allHere
+here-groups s end g = refl
+here-groups s (leaf a r) g = rw (here-groups s r g)
+here-groups s (node l t r) g = rw (here-groups s r g)
+
+-- an entry that may be followed down asks of a group what the table of kinds says
+meets-asks : (left : ℕ) (s d : List Entry) (g n : ℕ) → ((h : ℕ) → fitsPlace left s d h n ≡ fitsBy s (placeOf d n) h)
+    → meetsEntry (suc left) s d g n ≡ asks (λ a. meetsBy s a g) (λ l u. eachGroup (fitsBy s u) s g l) d n (nth d n)
+unfolding meetsEntry kindOf
+meets-asks left s d g n below =
+    eq-cases (nth d n .kind) 1 (λ z. rw z (property-owns s g (nth d n .name))) (λ z₁.
+    eq-cases (nth d n .kind) 2 (λ z. rw z (ap not (property-owns s g (nth d n .name)))) (λ z₂.
+    eq-cases (nth d n .kind) 3 (λ z. rw z (ap (λ (t : ℕ). leb (nth d n .number) t) (total-linked s g (nth d n .name)))) (λ z₃.
+    eq-cases (nth d n .kind) 4 (λ z. rw z (ap (λ (t : ℕ). leb t (nth d n .number)) (total-linked s g (nth d n .name)))) (λ z₄.
+    eq-cases (nth d n .kind) 5
+    (λ z. rw z (ap (λ (p : ℕ → Bool). groupsBy p s g (nth d n .name)) (fun-ext below) ∙ groups-each s g (fitsBy s (placeOf d n)) (nth d n .name)))
+    (λ z₅. rw (ne-eqb z₁, ne-eqb z₂, ne-eqb z₃, ne-eqb z₄, ne-eqb z₅))))))
+
+-- ---- the theorem
+
+module _ (s d : List Entry) (L : Legal Description d) where
+  -- what the entries of a place ask of a group
+  fits-asks : (o g : ℕ) → fitsBy s (placeOf d o) g
+      ≡ allOwned (λ n. asks (λ a. meetsBy s a g) (λ l u. eachGroup (fitsBy s u) s g l) d n (nth d n)) d o (length d)
+  fits-asks o g = here-groups s (placeOf d o) g ∙ place-owned d L (λ a. meetsBy s a g) (λ l u. eachGroup (fitsBy s u) s g l) o
+
+  -- no entry is deeper than 32
+  at-most-32 : (n : ℕ) → 1 ≤ n → n ≤ length d → depthOf d n ≤ 32
+  unfolding depthOk
+  at-most-32 n lo hi = leb-le (L .depth n lo hi)
+
+  -- what an entry owns is one deeper
+  one-deeper : (m n : ℕ) → 1 ≤ n → 1 ≤ m → m ≤ length d → ownerOf d m ≡ n → depthOf d m ≡ suc (depthOf d n)
+  one-deeper m n pos lo hi q =
+      let r = depth-under d m (λ k a b. owner-earlier L k a (omega arith)) (owner-earlier L m lo hi) (λ z. omega arith) in rw q at r
+
+  -- a place whose entries are so deep that they can be followed down far enough
+  fits-left : (left o : ℕ) → ((n : ℕ) → 1 ≤ n → n ≤ length d → ownerOf d n ≡ o → 33 ≤ left + depthOf d n)
+      → (g : ℕ) → fitsPlace left s d g o ≡ fitsBy s (placeOf d o) g
+  fits-left zero o deep g =
+      owned-ext _ _ d o (length d) (λ n lo hi q. absurd (omega (arith, deep n lo hi q, at-most-32 n lo hi))) ∙ sym (fits-asks o g)
+  fits-left (suc left) o deep g =
+      owned-ext _ _ d o (length d)
+      (λ n lo hi q. meets-asks left s d g n (fits-left left n (λ m lo′ hi′ r. omega (arith, deep n lo hi q, one-deeper m n lo lo′ hi′ r))))
+      ∙ sym (fits-asks o g)
+
+  -- the top item fits the description if the top does by entry numbers
+  pub fit-by-groups : fits (recordOf s) (placeOf d 0) 0 ≡ fitsPlace 33 s d 0 0
+  fit-by-groups = fits-groups s (placeOf d 0) 0 ∙ sym (fits-left 33 0 (λ n lo hi q. omega arith) 0)

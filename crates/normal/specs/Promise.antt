@@ -1,0 +1,48 @@
+-- What the promises of the normal form speak of: the same items, and what the answer says of the output.
+-- Assumes nothing.
+use Prim.Native.Nat.{_*_, _<_, _≤_, ℕ}
+use lib.ListN.{drop, length}
+use mathlib.Core.List.{List, _++_}
+use mathlib.Core.Path.{_≡_}
+use Rattle.base.specs.Ascending.{Sorted}
+use Rattle.blocks.specs.Encoding.{blocksFor, encode, firstBlocks}
+use Rattle.blocks.specs.Entries.{entriesOf}
+use Rattle.blocks.specs.Frame.{plain}
+use Rattle.blocks.specs.Reading.{readingOf}
+use Rattle.blocks.specs.declared.Reading.the-variants as reading
+use Rattle.blocks.specs.declared.Schema.the-variants.{Description}
+use Rattle.logic.specs.Record.{Record, fits}
+use Rattle.meaning.specs.Description.{placeOf}
+use Rattle.meaning.specs.NormalCases.{Line, normalises}
+use Rattle.meaning.specs.NormalEntries.{normalEntries}
+use Rattle.meaning.specs.RowEntries.{entryBefore}
+use Rattle.normal.specs.Answer.{normaliseOf, normalisedOf}
+use Rattle.normal.specs.declared.NormalAnswer.the-variants.{Normalised}
+
+-- the same items fit both inputs, in every finite record
+abbrev pub SameItems : List ℕ → List ℕ → Type 0
+SameItems c d = (r : Record) (x : ℕ) → x < r .size → fits r (placeOf (entriesOf c) 0) x ≡ fits r (placeOf (entriesOf d) 0) x
+
+-- What the answer that the normal form has k entries says of the output.
+pub record Normalises (d out : List ℕ) (k : ℕ) : Type 0 where
+  -- the blocks fit the output, are no more than those of the input, and later bytes are unchanged
+  pub room : 512 * blocksFor plain k ≤ length out
+  pub shorter : 512 * blocksFor plain k ≤ length d
+  pub later : drop (512 * blocksFor plain k) (normalisedOf d out) ≡ drop (512 * blocksFor plain k) out
+  -- they are a description of k entries, no more than the input has
+  pub blocks : firstBlocks k (normalisedOf d out) ≡ encode (normalEntries (entriesOf d))
+  pub accepted : readingOf Description 1 (firstBlocks k (normalisedOf d out)) ≡ reading.Accepted k
+  pub few : k ≤ length (entriesOf d)
+  pub ascending : Sorted entryBefore (entriesOf (firstBlocks k (normalisedOf d out)))
+  -- the same items fit them as the input
+  pub same : SameItems (firstBlocks k (normalisedOf d out)) d
+  -- they are normalised to themselves, into any output that is as long
+  pub again : (out′ : List ℕ) → 512 * blocksFor plain k ≤ length out′
+      → (normaliseOf (firstBlocks k (normalisedOf d out)) out′ ≡ Normalised k)
+      × (firstBlocks k (normalisedOf (firstBlocks k (normalisedOf d out)) out′) ≡ firstBlocks k (normalisedOf d out))
+
+-- what a line says: the entries as blocks give the number of entries, and their blocks at the start of each output that is long enough
+abbrev pub Right : Line → Type 0
+Right (normalises c n) =
+    (out : List ℕ) → length (encode c) ≤ length out
+    → (normaliseOf (encode c) out ≡ Normalised (length n)) × (normalisedOf (encode c) out ≡ encode n ++ drop (512 * blocksFor plain (length n)) out)

@@ -1,0 +1,67 @@
+-- The lines that the paper gives.
+-- Assumes nothing.
+use Prim.Native.Nat.{_+_, _≤_, ℕ}
+use lib.ListN.{length}
+use mathlib.Core.List.{List, List·Memᴰ·head, List·Memᴰ·tail, [], _++_, _∷_, map}
+use mathlib.Core.Path.{_∙_, _≡_, ap, refl}
+use native.Mathlib.Omega.{arith}
+use Rattle.blocks.proofs.RoundTrip.Decoding.{length-encode}
+use Rattle.blocks.specs.Encoding.{blocksFor, encode}
+use Rattle.blocks.specs.declared.Entry.{Entry}
+use Rattle.compare.proofs.AnswerLaws.{not-contained-ready}
+use Rattle.compare.proofs.Cases.{lines-right}
+use Rattle.meaning.specs.CompareCases.{compares, lines, outside}
+use Rattle.report.proofs.Printed.{joined-printed, linesFor, printed}
+use Rattle.report.proofs.WrittenLines.{lines-written}
+use Rattle.report.specs.Lines.{Piece, count, entryLine, entryLines, field, group, has, link, linesOf, notContained, owner, pieces, property}
+use Rattle.report.specs.declared.Line.the-variants.{NotContained}
+
+-- an entry of kind k, owner o, a name and a number
+abbrev entry : ℕ → ℕ → ℕ → ℕ → Entry
+entry k o name number = record { kind = k; reserved = 0; owner = o; name = name; number = number }
+
+-- "A property line reads `has 1 owner 0 property 7`"
+pub property-line : pieces (entryLine 1 (entry 1 0 7 0)) ≡ has ∷ field 1 ∷ owner ∷ field 0 ∷ property ∷ field 7 ∷ []
+unfolding entryLine
+property-line = refl
+
+-- ---- the second example: "C: 5,1 [3,2,1]. D: 5,1 [3,2,1; 4,2,1]."
+
+abbrev c₂ : List Entry
+c₂ = entry 5 0 1 0 ∷ entry 3 1 2 1 ∷ []
+
+abbrev d₂ : List Entry
+d₂ = entry 5 0 1 0 ∷ entry 3 1 2 1 ∷ entry 4 1 2 1 ∷ []
+
+abbrev shown₂ : List Entry
+shown₂ = entry 7 0 1 0 ∷ entry 7 1 2 1 ∷ []
+
+-- "For the second example it prints exactly:
+--  not contained 3
+--  group 1 owner 0 link 1 count 1
+--  group 2 owner 1 link 2 count 2"
+abbrev lines₂ : List (List Piece)
+lines₂ =
+    (notContained ∷ field 3 ∷ [])
+    ∷ (group ∷ field 1 ∷ owner ∷ field 0 ∷ link ∷ field 1 ∷ count ∷ field 1 ∷ [])
+    ∷ (group ∷ field 2 ∷ owner ∷ field 1 ∷ link ∷ field 2 ∷ count ∷ field 2 ∷ [])
+    ∷ []
+
+entry-lines : map pieces (NotContained 3 ∷ entryLines 1 shown₂) ≡ lines₂
+unfolding entryLines entryLine
+entry-lines = refl
+
+room-for : (out : List ℕ) → 1024 ≤ length out → length (encode c₂) + length (encode d₂) ≤ length out
+unfolding blocksFor
+room-for out h = rw (length-encode c₂, length-encode d₂) (omega arith)
+
+-- of the two descriptions, as blocks, joined on standard input
+pub second-example : (out : List ℕ) → 1024 ≤ length out → map pieces (printed (encode c₂ ++ encode d₂) out) ≡ lines₂
+unfolding lines linesOf
+second-example out h =
+    let c = encode c₂ in
+    let d = encode d₂ in
+    let right = lines-right (compares c₂ d₂ (outside 3 shown₂)) (List·Memᴰ·tail (List·Memᴰ·tail (List·Memᴰ·head refl))) out (room-for out h) in
+    let ready = not-contained-ready c d out (right .0) in
+    let shown : linesFor c d out ≡ NotContained 3 ∷ entryLines 1 shown₂ = rw (linesOf, right .0, right .1, lines-written shown₂) in
+    ap (map pieces) (joined-printed c d out (ready .first-read) (ready .second-read) ∙ shown) ∙ entry-lines
