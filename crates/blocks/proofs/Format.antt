@@ -12,7 +12,7 @@ pub mod Sequence
 pub mod Counts
 -- Entries and their bytes, and the list of the entries of an input.
 pub mod EntryBytes
--- Row 1 of the table of refusals: whole blocks, at least one and at most the limit.
+-- Number 1 of the table of refusals: whole blocks, at least one and at most the limit.
 pub mod Lengths
 -- Rows of one length, and the rows one after the other.
 pub mod ByteRows

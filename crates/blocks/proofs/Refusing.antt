@@ -8,7 +8,7 @@ pub mod FirstFault
 pub mod BlockLaws
 -- Owners, depths, and the table of levels that stands in for them.
 pub mod LevelLaws
--- Lists of entries that break none of rows 4 to 6 of the table of refusals.
+-- Lists of entries that break none of numbers 4 to 6 of the table of refusals.
 pub mod Legal
 -- An encoding is made of bytes, and the fields of entries read from bytes fit theirs.
 pub mod Bounds

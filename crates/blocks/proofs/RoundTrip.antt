@@ -2,9 +2,9 @@
 
 -- Decoding undoes encoding: the blocks, the count and the rows of an encoding, and its entries.
 pub mod Decoding
--- Inputs that break none of rows 1 to 3 of the table of refusals.
+-- Inputs that break none of numbers 1 to 3 of the table of refusals.
 pub mod Unbroken
--- An input that breaks none of rows 1 to 3 of the table of refusals is the encoding of its rows.
+-- An input that breaks none of numbers 1 to 3 of the table of refusals is the encoding of its rows.
 pub mod Faithful
 -- What reading means.
 pub mod Accepting
@@ -12,5 +12,5 @@ pub mod Accepting
 pub mod ByNumber
 -- The worked example of the section on blocks.
 pub mod EmptyBlock
--- An encoding breaks none of rows 1 to 3 of the table of refusals.
+-- An encoding breaks none of numbers 1 to 3 of the table of refusals.
 pub mod EncodedBlocks

@@ -1,4 +1,4 @@
--- The table of refusals: one predicate for each row, listed in the order in which they are looked for.
+-- The table of refusals: one predicate for each number, listed in the order in which they are looked for.
 -- Assumes nothing.
 use Prim.Native.Nat.{ℕ, zero, suc, _*_, _%_}
 use mathlib.Core.Bool.{Bool, true, false, not, _||_}
@@ -13,7 +13,7 @@ use Rattle.blocks.specs.declared.Schema.{Schema}
 use Rattle.blocks.specs.declared.Finding.{Finding}
 use Rattle.blocks.specs.declared.Finding.the-variants.{Clean, Faulty}
 
--- a row of the table at one place: whether it applies, the number returned, and the place given
+-- a line of the table at one place: whether it applies, the number returned, and the place given
 pub record Fault : Type 0 where
   pub applies : Bool
   pub number : ℕ
@@ -22,17 +22,17 @@ pub record Fault : Type 0 where
 abbrev pub fault : Bool → ℕ → ℕ → Fault
 fault b k p = record { applies = b; number = k; place = p }
 
--- row 1: "input length 0, no multiple of 512, or over the limit"
+-- number 1: "input length 0, no multiple of 512, or over the limit"
 unfoldable pub lengthWrong : Schema → List ℕ → Bool
 lengthWrong σ s = eqb (length s) 0 || (not (eqb (length s % 512) 0) || ltb (512 * limitOf σ) (length s))
 
--- rows 2 and 3 of `left` blocks from block i on, of n: "the lowest block that breaks 2 or 3 decides, 2 before 3"
+-- numbers 2 and 3 of `left` blocks from block i on, of n: "the lowest block that breaks 2 or 3 decides, 2 before 3"
 unfoldable pub blockFaults : Frame → List ℕ → ℕ → ℕ → ℕ → List Fault
 blockFaults F s n i zero = []
 blockFaults F s n i (suc left) =
     fault (checkWrong F s i) 2 (suc i) ∷ fault (frameWrong F s n i) 3 (suc i) ∷ blockFaults F s n (suc i) left
 
--- rows 4, 5 and 6 of `left` entries from entry n on: "the lowest entry that breaks 4, 5 or 6, in that order"
+-- numbers 4, 5 and 6 of `left` entries from entry n on: "the lowest entry that breaks 4, 5 or 6, in that order"
 unfoldable pub entryFaults : Schema → List Entry → ℕ → ℕ → List Fault
 entryFaults σ es n zero = []
 entryFaults σ es n (suc left) =

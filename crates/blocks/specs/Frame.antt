@@ -1,4 +1,4 @@
--- The frame of a block: where its entries stand, and which rows of the table of refusals it breaks.
+-- The frame of a block: where its entries stand, and which numbers of the table of refusals refuse it.
 -- Assumes nothing.
 use Prim.Native.Nat.{ℕ, suc, _+_, _*_, _-_, _/_, _%_}
 use mathlib.Core.Bool.{Bool, not, cond, _&&_, _||_}
@@ -9,16 +9,16 @@ use Rattle.base.specs.Range.{all}
 use Rattle.blocks.specs.Words.{wordAt, checkOf}
 
 -- What block formats may differ in: the bytes of an entry, the entries that a block has room for, the word due in bytes
--- 508-509 of the block at an offset, and the row of the table that another word there breaks.
+-- 508-509 of the block at an offset, and the number of the table that refuses another word there.
 pub record Frame : Type 0 where
   pub width : ℕ
   pub room : ℕ
   pub second : List ℕ → ℕ → ℕ
-  pub secondRow : ℕ
+  pub secondRefusal : ℕ
 
 -- "Bytes 4-507: 63 entries of 8 bytes. Bytes 508-509: zero."
 abbrev pub plain : Frame
-plain = record { width = 8; room = 63; second = λ s at. 0; secondRow = 3 }
+plain = record { width = 8; room = 63; second = λ s at. 0; secondRefusal = 3 }
 
 -- whole blocks of 512 bytes
 unfoldable pub blocksIn : List ℕ → ℕ
@@ -53,11 +53,11 @@ module _ (F : Frame) where
   unfoldable pub secondOk : List ℕ → ℕ → Bool
   secondOk s i = eqb (wordAt s (512 * i + 508)) (F .second s (512 * i))
 
-  -- row 2, "a check is wrong": block i
+  -- number 2, "a check is wrong": block i
   unfoldable pub checkWrong : List ℕ → ℕ → Bool
-  checkWrong s i = not (eqb (wordAt s (512 * i + 510)) (checkOf s (512 * i))) || (eqb (F .secondRow) 2 && not (secondOk s i))
+  checkWrong s i = not (eqb (wordAt s (512 * i + 510)) (checkOf s (512 * i))) || (eqb (F .secondRefusal) 2 && not (secondOk s i))
 
-  -- row 3, "block number, used count or a byte due to be zero in frame or unused entries is wrong": block i of n
+  -- number 3, "block number, used count or a byte due to be zero in frame or unused entries is wrong": block i of n
   unfoldable pub frameWrong : List ℕ → ℕ → ℕ → Bool
   frameWrong s n i =
-      not (eqb (wordAt s (512 * i)) (suc i)) || (not (usedOk n i (usedIn s i)) || ((eqb (F .secondRow) 3 && not (secondOk s i)) || not (restZero s i)))
+      not (eqb (wordAt s (512 * i)) (suc i)) || (not (usedOk n i (usedIn s i)) || ((eqb (F .secondRefusal) 3 && not (secondOk s i)) || not (restZero s i)))

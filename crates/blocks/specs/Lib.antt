@@ -1,12 +1,12 @@
 -- Numbers of two bytes, and the sum that checks a block.
 pub mod Words
--- The frame of a block: where its entries stand, and which rows of the table of refusals it breaks.
+-- The frame of a block: where its entries stand, and which numbers of the table of refusals refuse it.
 pub mod Frame
 -- Entries: their bytes, and the table of kinds.
 pub mod Entries
 -- Owners and depths of the entries of a list.
 pub mod Owners
--- The table of refusals: one predicate for each row, listed in the order in which they are looked for.
+-- The table of refusals: one predicate for each number, listed in the order in which they are looked for.
 pub mod Faults
 -- What reading an input answers.
 pub mod Reading

@@ -3,7 +3,7 @@ ghost use mathlib.Core.Path.{_≡_};
 ghost use Prim.Native.Nat.{_+_, _*_, _/_, _^_, _≤_};
 ghost use lib.ListN.{length};
 ghost use Rattle.blocks.specs.Frame.{plain, entryPos};
-ghost use Rattle.blocks.specs.Entries.{entryFrom, entryOf, packed, zeroEntry};
+ghost use Rattle.blocks.specs.Entries.{entryAt, entryFrom, entryOf, packed, zeroEntry};
 use crate::Entry;
 use crate::Link;
 use crate::Property;
@@ -28,7 +28,7 @@ impl Entry {
 }
 
 // The index of the first byte of entry n, counted from 1, which lies in the block of that entry.
-pub(crate) fn entry_pos(n: usize) -> usize
+fn entry_pos(n: usize) -> usize
     requires { ⌜ (1 ≤ n) × (n ≤ 2 ^ 60 + 1) ⌝ }
     ensures { λ r. ⌜ (r ≡ entryPos plain n) × (r + 12 ≤ 512 * ((n + 62) / 63)) ⌝ }
 {
@@ -36,7 +36,7 @@ pub(crate) fn entry_pos(n: usize) -> usize
 }
 
 // The entry whose 8 bytes start at an index.
-pub(crate) fn entry_from(s: &[u8], at: usize) -> Entry
+fn entry_from(s: &[u8], at: usize) -> Entry
     requires { ⌜ at + 8 ≤ length (now s) ⌝ }
     ensures { λ r. ⌜ r ≡ entryFrom (now (s .entry)) at ⌝ }
 {
@@ -90,6 +90,18 @@ pub fn nth_entry(s: &[u8], total: usize, n: usize) -> Entry
         return zero_entry();
     }
     let at = entry_pos(n);
+    if at + 8 <= s.len() {
+        return entry_from(s, at);
+    }
+    entry_near_end(s, at)
+}
+
+// The entry before which so many others stand, whatever the total; a byte past the end reads 0. For a reader that goes over all entries
+// of blocks that it has counted: one test an entry.
+pub fn entry_after(s: &[u8], others: u16) -> Entry
+    ensures { λ r. ⌜ r ≡ entryAt (now (s .entry)) (others + 1) ⌝ }
+{
+    let at = entry_pos(others as usize + 1);
     if at + 8 <= s.len() {
         return entry_from(s, at);
     }

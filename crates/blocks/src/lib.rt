@@ -6,10 +6,11 @@
 mod entries;
 mod words;
 
+pub use entries::entry_after;
 pub use entries::nth_entry;
 pub use entries::pack;
+pub use words::block_check;
 pub use words::byte;
-pub use words::check_at;
 pub use words::word;
 
 // A property's number. Properties and links are numbered apart, so each has a type of its own.

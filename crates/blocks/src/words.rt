@@ -1,8 +1,8 @@
 // Bytes and words of a slice, and the sum that checks a block.
 ghost use mathlib.Core.Path.{_≡_};
-ghost use Prim.Native.Nat.{_+_, _*_, _≤_, _<_};
+ghost use Prim.Native.Nat.{_+_, _*_, _%_, _≤_, _<_};
 ghost use lib.ListN.{length, getD};
-ghost use Rattle.blocks.specs.Words.{wordAt, checkOf};
+ghost use Rattle.blocks.specs.Words.{checkOf, wordAt, wordSum};
 
 // The byte at an index; 0 past the end.
 pub fn byte(s: &[u8], at: usize) -> u8
@@ -22,7 +22,7 @@ pub fn word(s: &[u8], at: usize) -> u16
 }
 
 // A byte as a word.
-pub(crate) fn wide(x: u8) -> u16
+fn wide(x: u8) -> u16
     ensures { λ r. ⌜ (r ≡ x) × (r < 256) ⌝ }
 {
     x as u16
@@ -36,29 +36,32 @@ pub(crate) fn word_at(s: &[u8], at: usize) -> u16
     wide(s[at]) + 256 * wide(s[at + 1])
 }
 
-// The check of the block that starts at an index: its first 255 words added, wrapping at 65,536.
-pub(crate) fn block_check(s: &[u8], at: usize) -> u16
-    requires { ⌜ at + 510 ≤ length (now s) ⌝ }
-    ensures { λ r. ⌜ r ≡ checkOf (now (s .entry)) at ⌝ }
+// The first n words from an index on, all there, added: "this sum wraps at 65,536".
+fn sum_words(s: &[u8], at: usize, n: usize) -> u16
+    requires { ⌜ (at + 2 * n ≤ length (now s)) × (n ≤ 255) ⌝ }
+    ensures { λ r. ⌜ r ≡ wordSum (now (s .entry)) at n % 65536 ⌝ }
 {
     let mut sum: u16 = 0;
     let mut i: usize = 0;
-    while i < 255 {
+    while i < n {
         sum = std::num::wrapping_add_u16(sum, word_at(s, at + 2 * i));
         i += 1;
     }
     sum
 }
 
-// The check of the block that starts at an index, for other crates: 0 where fewer than 510 bytes stand there.
-pub fn check_at(s: &[u8], at: usize) -> u16
-    ensures { λ r. ⌜ (at + 510 ≤ length (now (s .entry)) → r ≡ checkOf (now (s .entry)) at) ⌝ }
+// The check of block i, counted from 0: its first 255 words added, wrapping at 65,536. Bytes past the end count as 0: then the whole
+// words that are there are added, and the half one after them.
+pub fn block_check(s: &[u8], i: u16) -> u16
+    ensures { λ r. ⌜ r ≡ checkOf (now (s .entry)) (512 * i) ⌝ }
 {
-    if s.len() < 510 {
+    let at = 512 * (i as usize);
+    if at + 510 <= s.len() {
+        return sum_words(s, at, 255);
+    }
+    if s.len() <= at {
         return 0;
     }
-    if s.len() - 510 < at {
-        return 0;
-    }
-    block_check(s, at)
+    let n = (s.len() - at) / 2;
+    std::num::wrapping_add_u16(sum_words(s, at, n), word(s, at + 2 * n))
 }

@@ -28,7 +28,7 @@ use Rattle.blocks.specs.declared.Reading.the-variants as reading
 use Rattle.blocks.specs.declared.Schema.the-variants.{Description, Specimen}
 use Rattle.compare.proofs.AnswerLaws.{compare-cases, compared, contained-ready, contained-verdict, not-contained-ready, not-verdict, verdict-contained, verdict-not}
 use Rattle.compare.specs.Answer.{compareOf, outputAfter, outputOf}
-use Rattle.compare.specs.Promise.{Comparable, Refuted, WithinAll}
+use Rattle.compare.specs.Promise.{Comparable, Refuted, ContainedInAll}
 use Rattle.compare.specs.declared.Comparison.the-variants.{Contained, NotContained, Refused}
 use Rattle.fit.proofs.AnswerLaws.{first-accepted, second-no, second-yes}
 use Rattle.fit.specs.Answer.{fitOf, topFits}
@@ -60,7 +60,7 @@ module _ (c d out : List ℕ) (r : Comparable c d out) where
   service = sound-of-accepted Description 2 d (r .second-read)
 
   -- contained exactly if every item of every finite record that fits C fits D
-  pub contained-exactly : (compareOf c d out ≡ Contained) ↔ WithinAll c d
+  pub contained-exactly : (compareOf c d out ≡ Contained) ↔ ContainedInAll c d
   contained-exactly =
       let w = contained-all (entriesOf c) (entriesOf d) (service .entries) in (
         λ e. w .0 (contained-verdict (entriesOf c) (entriesOf d) (sym (compared c d out r) ∙ e)),
@@ -135,7 +135,7 @@ module _ (c d out : List ℕ) (r : Comparable c d out) where
 
 module _ (c d out : List ℕ) where
   -- 'contained' says that every item of every finite record that fits C fits D, and leaves the output
-  pub contained-means : compareOf c d out ≡ Contained → WithinAll c d × (outputOf c d out ≡ out)
+  pub contained-means : compareOf c d out ≡ Contained → ContainedInAll c d × (outputOf c d out ≡ out)
   unfolding outputOf
   contained-means e = (contained-exactly c d out (contained-ready c d out e) .0 e, ap (outputAfter c d out) e)
 

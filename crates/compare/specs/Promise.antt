@@ -23,7 +23,7 @@ use Rattle.logic.specs.Record.{Record, fits}
 use Rattle.meaning.specs.CompareCases.{Line, Outcome, compares, impossible, inside, normalises, outside}
 use Rattle.meaning.specs.Description.{placeOf, rowOf}
 use Rattle.meaning.specs.Failing.{normalOf, specimenOf}
-use Rattle.meaning.specs.Promise.{FirstUnsaid}
+use Rattle.meaning.specs.Promise.{FirstNotEntailed}
 
 -- both inputs are accepted, and the output is at least as long as both
 pub record Comparable (c d out : List ℕ) : Type 0 where
@@ -34,13 +34,13 @@ pub record Comparable (c d out : List ℕ) : Type 0 where
   pub room : length c + length d ≤ length out
 
 -- every item that fits C fits D, in every finite record
-abbrev pub WithinAll : List ℕ → List ℕ → Type 0
-WithinAll c d = (r : Record) (x : ℕ) → x < r .size → fits r (placeOf (entriesOf c) 0) x ≡ true → fits r (placeOf (entriesOf d) 0) x ≡ true
+abbrev pub ContainedInAll : List ℕ → List ℕ → Type 0
+ContainedInAll c d = (r : Record) (x : ℕ) → x < r .size → fits r (placeOf (entriesOf c) 0) x ≡ true → fits r (placeOf (entriesOf d) 0) x ≡ true
 
 -- What the answer 'not contained', with the numbers j and k, says of the output.
 pub record Refuted (c d out : List ℕ) (j k : ℕ) : Type 0 where
   -- j is the number of the first entry of D, apart from 'every' entries, that C does not say
-  pub number : FirstUnsaid unrestricted (placeOf (entriesOf c) 0) (entriesOf d) j
+  pub number : FirstNotEntailed unrestricted (placeOf (entriesOf c) 0) (entriesOf d) j
   -- the blocks fit the output, and later bytes are unchanged
   pub room : 512 * blocksFor plain k ≤ length out
   pub later : drop (512 * blocksFor plain k) (outputOf c d out) ≡ drop (512 * blocksFor plain k) out

@@ -96,7 +96,7 @@ fn deny(c: &[u8], d: &[u8], n: usize, out: &mut [u8]) -> Comparison
 pub fn compare(c: &[u8], d: &[u8], out: &mut [u8]) -> Comparison
     ensures { λ r. ⌜ (r ≡ compareOf (now (c .entry)) (now (d .entry)) (now (out .entry))) × (now (out .exit) ≡ outputOf (now (c .entry)) (now (d .entry)) (now (out .entry))) ⌝ }
 {
-    let holding = slots::first_unheld(c, d);
+    let holding = slots::first_failing(c, d);
     match holding {
         Holding::Refused(number, input, place) => Comparison::Refused(number, input, place),
         Holding::All => agree(c, d, out),

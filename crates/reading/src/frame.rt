@@ -1,14 +1,14 @@
-// The frames of blocks: which of them breaks row 2 or row 3 of the table.
+// The frames of blocks: which of them breaks number 2 or number 3 of the table.
 ghost use mathlib.Core.Path.{_≡_};
 ghost use Prim.Native.Nat.{_+_, _-_, _*_, _≤_, _<_};
 ghost use lib.ListN.{length};
 ghost use Rattle.base.specs.Range.{all};
 ghost use Rattle.blocks.specs.Frame.{plain, zeroAt, usedOk, frameWrong};
 ghost use Rattle.blocks.specs.Faults.{blockFaults, first};
-ghost use Rattle.blocks.specs.code.ReadingSteps.{blockRow};
-use crate::bytes::word_at;
+ghost use Rattle.blocks.specs.code.ReadingSteps.{blockRefusal};
 use blocks::Finding;
-use blocks::check_at;
+use blocks::block_check;
+use blocks::word;
 
 // Whether the bytes from one index up to another are zero.
 fn all_zero(s: &[u8], from: usize, to: usize) -> bool
@@ -42,32 +42,32 @@ fn used_ok(n: usize, i: usize, used: usize) -> bool
     n == 1
 }
 
-// Whether block i of n breaks row 3: its number, its used count, or a byte due to be zero is wrong.
+// Whether block i of n breaks number 3: its number, its used count, or a byte due to be zero is wrong.
 fn frame_wrong(s: &[u8], n: usize, i: usize) -> bool
     requires { ⌜ (i < n) × (512 * n ≤ length (now s)) ⌝ }
     ensures { λ r. ⌜ r ≡ frameWrong plain (now (s .entry)) n i ⌝ }
 {
     let at = 512 * i;
-    if word_at(s, at) as usize != i + 1 {
+    if word(s, at) as usize != i + 1 {
         return true;
     }
-    let used = word_at(s, at + 2) as usize;
+    let used = word(s, at + 2) as usize;
     if !used_ok(n, i, used) {
         return true;
     }
-    if word_at(s, at + 508) != 0 {
+    if word(s, at + 508) != 0 {
         return true;
     }
     !all_zero(s, at + 4 + 8 * used, at + 508)
 }
 
-// The row that block i of n breaks, 2 before 3; 0 where it breaks none.
-fn block_row(s: &[u8], n: usize, i: usize) -> u8
-    requires { ⌜ (i < n) × (512 * n ≤ length (now s)) ⌝ }
-    ensures { λ r. ⌜ r ≡ blockRow (now (s .entry)) n i ⌝ }
+// The number that block i of n is refused by, 2 before 3; 0 where none applies.
+fn block_refusal(s: &[u8], n: usize, i: usize) -> u8
+    requires { ⌜ (i < n) × (n ≤ 32) × (512 * n ≤ length (now s)) ⌝ }
+    ensures { λ r. ⌜ r ≡ blockRefusal (now (s .entry)) n i ⌝ }
 {
     let at = 512 * i;
-    if word_at(s, at + 510) != check_at(s, at) {
+    if word(s, at + 510) != block_check(s, i as u16) {
         return 2;
     }
     if frame_wrong(s, n, i) {
@@ -76,7 +76,7 @@ fn block_row(s: &[u8], n: usize, i: usize) -> u8
     0
 }
 
-// The lowest of n blocks that breaks row 2 or 3.
+// The lowest of n blocks that breaks number 2 or 3.
 pub(crate) fn first_block_fault(s: &[u8], n: usize) -> Finding
     requires { ⌜ (512 * n ≤ length (now s)) × (n ≤ 32) ⌝ }
     ensures { λ r. ⌜ r ≡ first (blockFaults plain (now (s .entry)) n 0 n) ⌝ }
@@ -86,9 +86,9 @@ pub(crate) fn first_block_fault(s: &[u8], n: usize) -> Finding
         if n <= i {
             break Finding::Clean;
         }
-        let row = block_row(s, n, i);
-        if row != 0 {
-            break Finding::Faulty(row, (i + 1) as u16);
+        let number = block_refusal(s, n, i);
+        if number != 0 {
+            break Finding::Faulty(number, (i + 1) as u16);
         }
         i += 1;
     }

@@ -1,4 +1,4 @@
-// Reading an input: row 1 by its length, then its blocks, then its entries.
+// Reading an input: number 1 by its length, then its blocks, then its entries.
 ghost use mathlib.Core.Path.{_≡_};
 ghost use Prim.Native.Nat.{_*_, _-_, _≤_};
 ghost use lib.ListN.{length};
@@ -8,12 +8,12 @@ ghost use Rattle.blocks.specs.Faults.{entryFaults, first};
 ghost use Rattle.blocks.specs.Reading.{answer, readingOf};
 ghost use Rattle.blocks.specs.code.ReadingSteps.{blocksRead};
 ghost use Rattle.blocks.specs.declared.Schema.{Schema};
-use crate::bytes::word_at;
 use crate::frame::first_block_fault;
 use crate::rules::first_entry_fault;
 use blocks::Finding;
 use blocks::Reading;
 use blocks::Schema;
+use blocks::word;
 
 // The most blocks that an input may have.
 fn limit_of(schema: Schema) -> usize
@@ -25,7 +25,7 @@ fn limit_of(schema: Schema) -> usize
     }
 }
 
-// The blocks of an input; 0 where row 1 refuses its length.
+// The blocks of an input; 0 where number 1 refuses its length.
 fn blocks_read(s: &[u8], schema: Schema) -> usize
     ensures { λ r. ⌜ (r ≡ blocksRead schema (now (s .entry))) × (r ≤ 32) × (512 * r ≤ length (now (s .entry))) ⌝ }
 {
@@ -39,7 +39,7 @@ fn blocks_read(s: &[u8], schema: Schema) -> usize
     n / 512
 }
 
-// Reads an input as a description or a specimen: its number of entries, or the refusal by the first row that applies. The
+// Reads an input as a description or a specimen: its number of entries, or the refusal by the first number that applies. The
 // input's own number is only handed on, into the refusal.
 pub fn read(s: &[u8], schema: Schema, input: u16) -> Reading
     ensures { λ r. ⌜ r ≡ readingOf schema input (now (s .entry)) ⌝ }
@@ -50,7 +50,7 @@ pub fn read(s: &[u8], schema: Schema, input: u16) -> Reading
     }
     let found = first_block_fault(s, n);
     match found {
-        Finding::Faulty(row, place) => Reading::Refused(row, input, place),
+        Finding::Faulty(number, place) => Reading::Refused(number, input, place),
         Finding::Clean => read_entries(s, schema, input, n),
     }
 }
@@ -61,10 +61,10 @@ fn read_entries(s: &[u8], schema: Schema, input: u16, n: usize) -> Reading
     ensures { λ r. ⌜ r ≡ answer input (totalIn plain (now (s .entry))) (first (entryFaults schema (entriesOf (now (s .entry))) 1 (length (entriesOf (now (s .entry)))))) ⌝ }
 {
     let last = n - 1;
-    let total = 63 * last + word_at(s, 512 * last + 2) as usize;
+    let total = 63 * last + word(s, 512 * last + 2) as usize;
     let found = first_entry_fault(s, schema, total);
     match found {
-        Finding::Faulty(row, place) => Reading::Refused(row, input, place),
+        Finding::Faulty(number, place) => Reading::Refused(number, input, place),
         Finding::Clean => Reading::Accepted(total as u16),
     }
 }

@@ -1,15 +1,14 @@
-// The rules of single entries: the table of kinds, owners and depths, rows 4, 5 and 6 of the table of refusals.
+// The rules of single entries: the table of kinds, owners and depths, numbers 4, 5 and 6 of the table of refusals.
 ghost use mathlib.Core.Path.{_≡_};
 ghost use Prim.Native.Nat.{_+_, _*_, _/_, _≤_, _<_};
 ghost use lib.ListN.{length};
 ghost use Rattle.blocks.specs.Entries.{kindOk, nameOk, numberOk, formOk, owningKind, entriesOf};
 ghost use Rattle.blocks.specs.Faults.{entryFaults, first};
-ghost use Rattle.blocks.specs.code.ReadingSteps.{levelBy, entryRow, levelUnder};
-use crate::bytes::entry_from;
-use crate::bytes::entry_pos;
+ghost use Rattle.blocks.specs.code.ReadingSteps.{levelBy, entryRefusal, levelUnder};
 use blocks::Entry;
 use blocks::Finding;
 use blocks::Schema;
+use blocks::entry_after;
 
 // Whether a kind stands in the schema's table.
 fn kind_ok(schema: Schema, kind: u8) -> bool
@@ -50,7 +49,7 @@ fn number_ok(kind: u8, number: u16) -> bool
     }
 }
 
-// Whether an entry by itself is as the table has it: the contrary of row 4.
+// Whether an entry by itself is as the table has it: the contrary of number 4.
 fn form_ok(schema: Schema, e: Entry) -> bool
     ensures { λ r. ⌜ r ≡ formOk schema e ⌝ }
 {
@@ -75,9 +74,9 @@ fn level_by(level: &[u8; 2017], n: usize, o: u16) -> u8
     if at < n { level[at] } else { 0 }
 }
 
-// The row that an entry breaks whose owner has level l, 4 before 5 before 6; 0 where it breaks none.
-fn entry_row(schema: Schema, e: Entry, l: u8) -> u8
-    ensures { λ r. ⌜ r ≡ entryRow schema e l ⌝ }
+// The number that an entry is refused by whose owner has level l, 4 before 5 before 6; 0 where none applies.
+fn entry_refusal(schema: Schema, e: Entry, l: u8) -> u8
+    ensures { λ r. ⌜ r ≡ entryRefusal schema e l ⌝ }
 {
     if !form_ok(schema, e) {
         return 4;
@@ -103,7 +102,7 @@ fn level_under(schema: Schema, kind: u8, l: u8) -> u8
     }
 }
 
-// The lowest of `total` entries that breaks row 4, 5 or 6. One pass: each entry is decoded once, and a table holds the level
+// The lowest of `total` entries that breaks number 4, 5 or 6. One pass: each entry is decoded once, and a table holds the level
 // of each entry before it, so that neither its owner nor its chain of owners is looked up again.
 pub(crate) fn first_entry_fault(s: &[u8], schema: Schema, total: usize) -> Finding
     requires { ⌜ (total ≡ length (entriesOf (now s))) × (total ≤ 2016) × (512 * ((total + 62) / 63) ≤ length (now s)) ⌝ }
@@ -116,11 +115,11 @@ pub(crate) fn first_entry_fault(s: &[u8], schema: Schema, total: usize) -> Findi
         if total < n {
             break Finding::Clean;
         }
-        let e = entry_from(s, entry_pos(n));
+        let e = entry_after(s, (n - 1) as u16);
         let l = level_by(&level, n, e.owner);
-        let row = entry_row(schema, e, l);
-        if row != 0 {
-            break Finding::Faulty(row, n as u16);
+        let number = entry_refusal(schema, e, l);
+        if number != 0 {
+            break Finding::Faulty(number, n as u16);
         }
         level[n] = level_under(schema, e.kind, l);
         n += 1;

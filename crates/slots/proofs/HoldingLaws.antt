@@ -34,7 +34,7 @@ use Rattle.passes.proofs.Cells.WrittenLists.{value-none}
 use Rattle.passes.proofs.SlotLists.SlotLaws.{position-from}
 use Rattle.passes.proofs.SlotLists.SlotNumbers.{no-link-slot, no-slot, position-range, slot-lists, slot-owns}
 use Rattle.passes.specs.code.Slots.{Slot, inconsistent, isLink, position, slots, taken, value}
-use Rattle.slots.specs.code.States.{entrySlot, heldAt, heldIn, highAt, linkName, lowAt, slotFor, stateBelow, stateOf, supportedBy}
+use Rattle.slots.specs.code.States.{entrySlot, holdsInState, holdsBySlots, highAt, linkName, lowAt, slotFor, stateBelow, stateOf, supportedBy}
 
 -- ---- the states
 
@@ -238,8 +238,8 @@ module _ (rs : List (Row Atom ℕ)) (few : length (slots rs) ≤ 1008) (d : List
 
   -- an entry holds by the slots exactly if their places hold it
   pub slots-hold : (n : ℕ) → 1 ≤ n → n ≤ length d
-      → heldIn (slots rs) d n ≡ (eqb (nth d n .kind) 5 || holdsAt unrestricted (form (slots rs) 0) (linksTo d n) (atomOf (nth d n)))
-  unfolding heldIn heldAt holdsAt
+      → holdsBySlots (slots rs) d n ≡ (eqb (nth d n .kind) 5 || holdsAt unrestricted (form (slots rs) 0) (linksTo d n) (atomOf (nth d n)))
+  unfolding holdsBySlots holdsInState holdsAt
   slots-hold n lo hi =
       let o : ℕ = ownerOf d n in
       let s : ℕ = stateOf (slots rs) d o o in
@@ -264,7 +264,7 @@ module _ (rs : List (Row Atom ℕ)) (few : length (slots rs) ≤ 1008) (d : List
 module _ (c d : List Entry) where
   -- where the top is possible, the first entry that fails by the slots is the first that the normal form does not hold
   pub slots-first : length (slots (map rowOf c)) ≤ 1008 → Legal Description d → inconsistent 1 (slots (map rowOf c)) 0 ≡ false
-      → firstFrom (heldIn (slots (map rowOf c)) d) 1 (length d) ≡ firstFailing unrestricted (nf unrestricted (placeOf c 0)) d
+      → firstFrom (holdsBySlots (slots (map rowOf c)) d) 1 (length d) ≡ firstFailing unrestricted (nf unrestricted (placeOf c 0)) d
   unfolding firstFailing entryHolds holds placeOf
   slots-first few lawful z =
       first-same _ _ 1 (length d) (λ j lo hi.

@@ -17,24 +17,24 @@ use Rattle.slots.specs.declared.Holding.{Holding}
 use Rattle.slots.specs.declared.Holding.the-variants.{All, Fails, Refused}
 
 -- the number of the first entry of d that the normal form of c does not hold, 0 where it holds all
-unfoldable pub unheld : List ℕ → List ℕ → ℕ
-unheld c d = firstFailing unrestricted (nf unrestricted (placeOf (entriesOf c) 0)) (entriesOf d)
+unfoldable pub failingIn : List ℕ → List ℕ → ℕ
+failingIn c d = firstFailing unrestricted (nf unrestricted (placeOf (entriesOf c) 0)) (entriesOf d)
 
 -- the answer where both are accepted, by that number
-abbrev pub heldBy : ℕ → Holding
-heldBy n = cond (eqb n 0) All (Fails n)
+abbrev pub holdingBy : ℕ → Holding
+holdingBy n = cond (eqb n 0) All (Fails n)
 
 -- "input 1 in full, input 2 in full"
-abbrev pub secondHeld : List ℕ → List ℕ → Reading → Holding
-secondHeld c d (reading.Refused k i p) = Refused k i p
-secondHeld c d (reading.Accepted m) = heldBy (unheld c d)
+abbrev pub secondHolding : List ℕ → List ℕ → Reading → Holding
+secondHolding c d (reading.Refused k i p) = Refused k i p
+secondHolding c d (reading.Accepted m) = holdingBy (failingIn c d)
 
-abbrev pub firstHeld : List ℕ → List ℕ → Reading → Holding
-firstHeld c d (reading.Refused k i p) = Refused k i p
-firstHeld c d (reading.Accepted n) = secondHeld c d (readingOf Description 2 d)
+abbrev pub firstHolding : List ℕ → List ℕ → Reading → Holding
+firstHolding c d (reading.Refused k i p) = Refused k i p
+firstHolding c d (reading.Accepted n) = secondHolding c d (readingOf Description 2 d)
 
 unfoldable pub holdingOf : List ℕ → List ℕ → Holding
-holdingOf c d = firstHeld c d (readingOf Description 1 c)
+holdingOf c d = firstHolding c d (readingOf Description 1 c)
 
 -- The paper's numbers for each case: whether all hold, the number of the first that fails; the number returned, the input and the
 -- place. 0 where a case has none.

@@ -4,18 +4,18 @@
 //
 // The contracts cite specs/: Holding says what is answered; the others mirror the code. What slots are, on lists, is said in `passes`.
 mod build;
+mod failing;
 mod filling;
 mod settle;
 mod slots;
 mod states;
-mod unheld;
 
+pub use failing::first_failing;
 pub use filling::fill;
 pub use slots::high_in;
 pub use slots::key_in;
 pub use slots::low_in;
 pub use slots::wide;
-pub use unheld::first_unheld;
 
 // What filling tables with the slots of an input answers: how many there are; or the refusal's number, the input and the place.
 pub enum Slotting {

@@ -9,7 +9,7 @@ ghost use lib.ListN.{getD, length};
 ghost use Rattle.blocks.specs.Entries.{entriesOf};
 ghost use Rattle.base.specs.Search.{firstFrom};
 ghost use Rattle.passes.specs.code.Slots.{Slot};
-ghost use Rattle.slots.specs.code.States.{Indexed, entrySlot, heldAt, heldIn, slotFor, stateBelow, supportedBy};
+ghost use Rattle.slots.specs.code.States.{Indexed, entrySlot, holdsInState, holdsBySlots, slotFor, stateBelow, supportedBy};
 ghost use Rattle.slots.specs.code.Tables.{Kept, highIn};
 ghost use Rattle.meaning.specs.Owned.{Owned};
 use crate::slots::high_in;
@@ -97,7 +97,7 @@ fn supported(kind: u8, number: u16, lo: u64, hi: u64) -> bool
 }
 
 // Whether an entry holds in a place of this state.
-fn held(
+fn holds(
     table: &[u64; 1009],
     next: &[u16; 1009],
     head: &[u16; 1021],
@@ -106,7 +106,7 @@ fn held(
     e: Entry,
 ) -> bool
     requires { ⌜ Kept (now table) (now next) (now head) used × (used ≤ 1008) × (state ≤ 1024) ⌝ }
-    ensures { λ r. ⌜ ((ss : List Slot) → Indexed ss (now (table .entry)) (now (next .entry)) (now (head .entry)) used → r ≡ heldAt ss state e) ⌝ }
+    ensures { λ r. ⌜ ((ss : List Slot) → Indexed ss (now (table .entry)) (now (next .entry)) (now (head .entry)) used → r ≡ holdsInState ss state e) ⌝ }
 {
     if e.kind == 5 {
         return true;
@@ -162,7 +162,7 @@ fn leads_to(
 }
 
 // The number of the first entry of a description with `total` entries that fails; 0 where all hold.
-pub(crate) fn first_failing(
+pub(crate) fn first_failing_entry(
     table: &[u64; 1009],
     next: &[u16; 1009],
     head: &[u16; 1021],
@@ -171,7 +171,7 @@ pub(crate) fn first_failing(
     total: usize,
 ) -> usize
     requires { ⌜ Kept (now table) (now next) (now head) used × (used ≤ 1008) × (total ≡ length (entriesOf (now d))) × (total ≤ 1008) × Owned (entriesOf (now d)) ⌝ }
-    ensures { λ r. ⌜ (r ≤ total) × ((ss : List Slot) → Indexed ss (now (table .entry)) (now (next .entry)) (now (head .entry)) used → r ≡ firstFrom (heldIn ss (entriesOf (now (d .entry)))) 1 total) ⌝ }
+    ensures { λ r. ⌜ (r ≤ total) × ((ss : List Slot) → Indexed ss (now (table .entry)) (now (next .entry)) (now (head .entry)) used → r ≡ firstFrom (holdsBySlots ss (entriesOf (now (d .entry)))) 1 total) ⌝ }
 {
     let mut states = [0u16; 1009];
     let mut n: usize = 1;
@@ -181,7 +181,7 @@ pub(crate) fn first_failing(
         }
         let e = blocks::nth_entry(d, total, n);
         let s = long(states[wide(e.owner)]);
-        if !held(table, next, head, used, s, e) {
+        if !holds(table, next, head, used, s, e) {
             break n;
         }
         states[n] = leads_to(table, next, head, used, s, e) as u16;

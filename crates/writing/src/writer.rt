@@ -8,7 +8,7 @@ ghost use Rattle.blocks.specs.Words.{wordBytes};
 ghost use Rattle.blocks.specs.Frame.{plain};
 ghost use Rattle.blocks.specs.Encoding.{joined, rowBytes, blockBytes, blocksFor, encodeFrom, bytesWritten, written};
 ghost use Rattle.writing.specs.code.WritingSteps.{usedFor};
-use blocks::check_at;
+use blocks::block_check;
 
 // Stores two bytes.
 fn put_pair(out: &mut [u8], at: usize, a: u8, b: u8)
@@ -73,7 +73,7 @@ fn put_block(out: &mut [u8], i: usize, rows: &[u64], used: usize)
     put_rows(out, at + 4, rows, 63 * i, used);
     put_zeros(out, at + 4 + 8 * used, 504 - 8 * used);
     put_word(out, at + 508, 0);
-    let check = check_at(out, at);
+    let check = block_check(out, i as u16);
     put_word(out, at + 510, check);
 }
 

@@ -16,7 +16,7 @@ use Rattle.blocks.proofs.Format.Sequence.{rowsIn}
 use Rattle.blocks.specs.Encoding.{blocksFor}
 use Rattle.blocks.specs.Frame.{Frame, usedOk, entryPos}
 
--- ---- what row 3 asks of the used count of block i of n
+-- ---- what number 3 asks of the used count of block i of n
 
 module _ (F : Frame) (n i u : ℕ) where
   -- a block before the last is full

@@ -1,4 +1,4 @@
--- Row 1 of the table of refusals: whole blocks, at least one and at most the limit.
+-- Number 1 of the table of refusals: whole blocks, at least one and at most the limit.
 -- Assumes nothing.
 use native.Mathlib.Omega.{arith}
 use mathlib.Core.Path.{_≡_}
@@ -20,7 +20,7 @@ pub limit-pos : (σ : Schema) → 0 < limitOf σ
 limit-pos Description = omega arith
 limit-pos Specimen = omega arith
 
--- such a length does not break row 1
+-- such a length does not break number 1
 pub length-right : (σ : Schema) (s : List ℕ) (n : ℕ) → length s ≡ 512 * n → 0 < n → n ≤ limitOf σ → lengthWrong σ s ≡ false
 unfolding lengthWrong
 length-right σ s n e pos h =
@@ -31,7 +31,7 @@ length-right σ s n e pos h =
 
 -- a length that does not break it is such a length
 module _ (σ : Schema) (s : List ℕ) (right : lengthWrong σ s ≡ false) where
-  -- the tests of row 1 after the first
+  -- the tests of number 1 after the first
   abbrev part : Bool
   part = not (eqb (length s % 512) 0)
 

@@ -16,10 +16,10 @@ use Rattle.blocks.specs.Faults.{blockFaults, first}
 use Rattle.blocks.specs.Frame.{Frame, checkWrong, frameWrong, plain, restZero, secondOk, usedIn, usedOk, zeroAt}
 use Rattle.blocks.specs.Promise.{None}
 use Rattle.blocks.specs.Words.{checkOf, wordAt}
-use Rattle.blocks.specs.code.ReadingSteps.{blockRow}
+use Rattle.blocks.specs.code.ReadingSteps.{blockRefusal}
 use Rattle.blocks.specs.declared.Finding.the-variants.{Clean, Faulty}
 
--- ---- row 3, one law for each way through its tests
+-- ---- number 3, one law for each way through its tests
 
 module _ (s : List ℕ) (n i : ℕ) where
   pub number-wrong : {w : ℕ} → w ≡ wordAt s (512 * i) → w ≢ i + 1 → true ≡ frameWrong plain s n i
@@ -58,48 +58,48 @@ used-at-most n i {u} h =
     (λ q. omega (tests, rw (usedOk, q) at h))
     (λ q. omega (tests, and-left (leb u 63) (ltb 0 u || eqb n 1) (rw (usedOk, q) at h)))
 
--- ---- the row of a block
+-- ---- the number of a block
 
-pub check-fails : (s : List ℕ) (n i : ℕ) {c w : ℕ} → w ≡ wordAt s (512 * i + 510) → c ≡ checkOf s (512 * i) → w ≢ c → 2 ≡ blockRow s n i
-unfolding blockRow checkWrong
-check-fails s n i e f h = simp (blockRow, checkWrong, ← e, ← f, ne-eqb h)
+pub check-fails : (s : List ℕ) (n i : ℕ) {c w : ℕ} → w ≡ wordAt s (512 * i + 510) → c ≡ checkOf s (512 * i) → w ≢ c → 2 ≡ blockRefusal s n i
+unfolding blockRefusal checkWrong
+check-fails s n i e f h = simp (blockRefusal, checkWrong, ← e, ← f, ne-eqb h)
 
 check-holds : (s : List ℕ) (i : ℕ) {c w : ℕ} → w ≡ wordAt s (512 * i + 510) → c ≡ checkOf s (512 * i) → w ≡ c → checkWrong plain s i ≡ false
 unfolding checkWrong
 check-holds s i e f h = simp (checkWrong, ← e, ← f, eq-eqb h)
 
 pub frame-fails : (s : List ℕ) (n i : ℕ) {c w : ℕ} {r : Bool} → w ≡ wordAt s (512 * i + 510) → c ≡ checkOf s (512 * i) → w ≡ c
-    → r ≡ frameWrong plain s n i → r ≡ true → 3 ≡ blockRow s n i
-unfolding blockRow
-frame-fails s n i e f h g t = simp (blockRow, check-holds s i e f h, ← g, t)
+    → r ≡ frameWrong plain s n i → r ≡ true → 3 ≡ blockRefusal s n i
+unfolding blockRefusal
+frame-fails s n i e f h g t = simp (blockRefusal, check-holds s i e f h, ← g, t)
 
 pub block-sound : (s : List ℕ) (n i : ℕ) {c w : ℕ} {r : Bool} → w ≡ wordAt s (512 * i + 510) → c ≡ checkOf s (512 * i) → w ≡ c
-    → r ≡ frameWrong plain s n i → r ≡ false → 0 ≡ blockRow s n i
-unfolding blockRow
-block-sound s n i e f h g t = simp (blockRow, check-holds s i e f h, ← g, t)
+    → r ≡ frameWrong plain s n i → r ≡ false → 0 ≡ blockRefusal s n i
+unfolding blockRefusal
+block-sound s n i e f h g t = simp (blockRefusal, check-holds s i e f h, ← g, t)
 
 -- ---- the pass over the blocks
 
-block-step : (s : List ℕ) (n i left : ℕ) → first (blockFaults plain s n i (suc left)) ≡ step (blockRow s n i) (suc i) (first (blockFaults plain s n (suc i) left))
-unfolding blockFaults first blockRow
+block-step : (s : List ℕ) (n i left : ℕ) → first (blockFaults plain s n i (suc left)) ≡ step (blockRefusal s n i) (suc i) (first (blockFaults plain s n (suc i) left))
+unfolding blockFaults first blockRefusal
 block-step s n i left =
     bool-cases (checkWrong plain s i)
-    (λ q. simp (blockRow, q))
-    (λ q. bool-cases (frameWrong plain s n i) (λ r. simp (blockRow, q, r)) (λ r. simp (blockRow, q, r)))
+    (λ q. simp (blockRefusal, q))
+    (λ q. bool-cases (frameWrong plain s n i) (λ r. simp (blockRefusal, q, r)) (λ r. simp (blockRefusal, q, r)))
 
 pub blocks-end : (s : List ℕ) (n i : ℕ) → n ≤ i → first (blockFaults plain s n i (n - i)) ≡ Clean
 unfolding blockFaults first
 blocks-end s n i h = rw (none-left i n h)
 
-module _ (s : List ℕ) (n i : ℕ) {row : ℕ} (l : i < n) (e : row ≡ blockRow s n i) where
-  pub blocks-more : row ≡ 0 → first (blockFaults plain s n i (n - i)) ≡ first (blockFaults plain s n (i + 1) (n - (i + 1)))
+module _ (s : List ℕ) (n i : ℕ) {number : ℕ} (l : i < n) (e : number ≡ blockRefusal s n i) where
+  pub blocks-more : number ≡ 0 → first (blockFaults plain s n i (n - i)) ≡ first (blockFaults plain s n (i + 1) (n - (i + 1)))
   blocks-more z = rw (one-left i n l, add-one i) (block-step s n i (n - suc i) ∙ step-more _ _ _ (sym e ∙ z))
 
-  pub blocks-found : row ≢ 0 → first (blockFaults plain s n i (n - i)) ≡ Faulty row (i + 1)
+  pub blocks-found : number ≢ 0 → first (blockFaults plain s n i (n - i)) ≡ Faulty number (i + 1)
   blocks-found z =
       rw (one-left i n l, add-one i) (block-step s n i (n - suc i) ∙ step-found _ _ _ (λ q. z (e ∙ q)) ∙ ap (λ (k : ℕ). Faulty k (suc i)) (sym e))
 
--- blocks in which no fault is found break neither row
+-- blocks in which no fault is found break neither number
 pub blocks-none : (F : Frame) (s : List ℕ) (n i left : ℕ) → None (blockFaults F s n i left) → (k : ℕ) → i ≤ k → k < i + left
     → (checkWrong F s k ≡ false) × (frameWrong F s n k ≡ false)
 unfolding blockFaults None
@@ -117,7 +117,7 @@ none-blocks F s n i (suc left) h =
     let g = h i (omega arith) (omega arith) in
     (g .0, (g .1, none-blocks F s n (suc i) left (λ k lo hi. h k (omega arith) (omega arith))))
 
--- a block that does not break row 3 has an allowed used count
+-- a block that does not break number 3 has an allowed used count
 pub frame-used : (F : Frame) (s : List ℕ) (n i : ℕ) → frameWrong F s n i ≡ false → usedOk F n i (usedIn s i) ≡ true
 unfolding frameWrong
 frame-used F s n i e =

@@ -63,10 +63,14 @@ pub of-found : (s : List ℕ) (total n : ℕ) {at : ℕ} {r : Entry} → n ≢ 0
 unfolding entryAt
 of-found s total n z h p e = (rw p at e) ∙ sym (of-within s total n z h)
 
--- the entry that was read at its place is that of the list
-pub nth-read : (s : List ℕ) (n : ℕ) {at : ℕ} {e : Entry} → 1 ≤ n → n ≤ length (entriesOf s) → at ≡ entryPos plain n → e ≡ entryFrom s at → e ≡ nth (entriesOf s) n
+-- an entry that was read at its place
+pub at-found : (s : List ℕ) (n : ℕ) {at : ℕ} {r : Entry} → at ≡ entryPos plain n → r ≡ entryFrom s at → r ≡ entryAt s n
 unfolding entryAt
-nth-read s n h le p e = (rw p at e) ∙ sym (nth-entries s n h (omega (arith, length-entries s)))
+at-found s n p e = rw p at e
+
+-- the entry after k others is that of the list
+pub nth-after : (s : List ℕ) (n k : ℕ) {e : Entry} → n ≡ k + 1 → n ≤ length (entriesOf s) → e ≡ entryAt s (k + 1) → e ≡ nth (entriesOf s) n
+nth-after s n k h le e = (rw (← h) at e) ∙ sym (nth-entries s n (omega arith) (omega (arith, length-entries s)))
 
 -- by number from the blocks, and by number from the list
 pub of-nth : (s : List ℕ) (total n : ℕ) → total ≡ length (entriesOf s) → entryOf s total n ≡ nth (entriesOf s) n

@@ -62,12 +62,12 @@ unfolding first
 first-append [] gs = refl
 first-append (f ∷ fs) gs = bool-cases (f .applies) (λ q. rw q) (λ q. rw q (first-append fs gs))
 
--- what a step of a search finds, by the row of the faults at one place, where 0 is none
+-- what a step of a search finds, by the number of the faults at one place, where 0 is none
 abbrev pub step : ℕ → ℕ → Finding → Finding
-step row p g = elim (eqb row 0) [ true ↦ g | false ↦ Faulty row p ]
+step number p g = elim (eqb number 0) [ true ↦ g | false ↦ Faulty number p ]
 
-pub step-more : (row p : ℕ) (g : Finding) → row ≡ 0 → step row p g ≡ g
-step-more row p g e = rw (step, eq-eqb e)
+pub step-more : (number p : ℕ) (g : Finding) → number ≡ 0 → step number p g ≡ g
+step-more number p g e = rw (step, eq-eqb e)
 
-pub step-found : (row p : ℕ) (g : Finding) → row ≢ 0 → step row p g ≡ Faulty row p
-step-found row p g h = rw (step, ne-eqb h)
+pub step-found : (number p : ℕ) (g : Finding) → number ≢ 0 → step number p g ≡ Faulty number p
+step-found number p g h = rw (step, ne-eqb h)

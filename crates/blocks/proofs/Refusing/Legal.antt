@@ -1,4 +1,4 @@
--- Lists of entries that break none of rows 4 to 6 of the table of refusals.
+-- Lists of entries that break none of numbers 4 to 6 of the table of refusals.
 -- Assumes nothing.
 use Prim.Native.Nat.{_+_, _<_, _≤_, suc, zero, ℕ}
 use lib.Dec.{eqb, ltb}

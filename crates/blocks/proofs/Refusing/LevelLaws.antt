@@ -18,7 +18,7 @@ use Rattle.blocks.proofs.Refusing.FirstFault.{step, step-found, step-mo
 use Rattle.blocks.specs.Entries.{formOk, nth, owningKind}
 use Rattle.blocks.specs.Faults.{entryFaults, first}
 use Rattle.blocks.specs.Owners.{chain, depthOf, depthOk, ownerOf, ownerOk}
-use Rattle.blocks.specs.code.ReadingSteps.{entryRow, levelBy, levelOf, levelUnder}
+use Rattle.blocks.specs.code.ReadingSteps.{entryRefusal, levelBy, levelOf, levelUnder}
 use Rattle.blocks.specs.declared.Entry.{Entry}
 use Rattle.blocks.specs.declared.Finding.the-variants.{Clean, Faulty}
 use Rattle.blocks.specs.declared.Schema.{Schema}
@@ -100,56 +100,56 @@ level-cases σ es t n {l} T one e refused allowed =
     let z : o ≢ 0 = λ q. omega arith in
     refused (e ∙ rw (levelBy, ge-ltb ge)) (simp (ownerOk, ne-eqb z, ge-ltb ge)))
 
--- an entry that breaks no row: its form is allowed, and its owner has a level from 1 to 33
-row-none : (σ : Schema) (e : Entry) (l : ℕ) → entryRow σ e l ≡ 0 → (formOk σ e ≡ true) × ((l ≢ 0) × (l ≤ 33))
-unfolding entryRow
-row-none σ e l h =
+-- an entry that breaks no number: its form is allowed, and its owner has a level from 1 to 33
+unrefused : (σ : Schema) (e : Entry) (l : ℕ) → entryRefusal σ e l ≡ 0 → (formOk σ e ≡ true) × ((l ≢ 0) × (l ≤ 33))
+unfolding entryRefusal
+unrefused σ e l h =
     bool-cases (formOk σ e)
     (λ p. eq-cases l 0
-    (λ z. let g = rw (entryRow, p, eq-eqb z) at h in absurd (omega arith))
+    (λ z. let g = rw (entryRefusal, p, eq-eqb z) at h in absurd (omega arith))
     (λ z. lt-cases 33 l
-    (λ d. let g = rw (entryRow, p, ne-eqb z, lt-ltb d) at h in absurd (omega arith))
+    (λ d. let g = rw (entryRefusal, p, ne-eqb z, lt-ltb d) at h in absurd (omega arith))
     (λ d. (p, (z, d)))))
-    (λ p. let g = rw (entryRow, p) at h in absurd (omega arith))
+    (λ p. let g = rw (entryRefusal, p) at h in absurd (omega arith))
 
-module _ (σ : Schema) (es : List Entry) (t : List ℕ) (n : ℕ) {e : Entry} {l row : ℕ} (T : Levels σ es t n) (one : 1 ≤ n) (at : e ≡ nth es n)
-    (lv : l ≡ levelBy t n (e .owner)) (r : row ≡ entryRow σ e l) where
+module _ (σ : Schema) (es : List Entry) (t : List ℕ) (n : ℕ) {e : Entry} {l number : ℕ} (T : Levels σ es t n) (one : 1 ≤ n) (at : e ≡ nth es n)
+    (lv : l ≡ levelBy t n (e .owner)) (r : number ≡ entryRefusal σ e l) where
   owner-level : l ≡ levelBy t n (ownerOf es n)
   unfolding ownerOf
   owner-level = lv ∙ ap (λ (x : Entry). levelBy t n (x .owner)) at
 
-  row-here : row ≡ entryRow σ (nth es n) l
-  row-here = r ∙ ap (λ (x : Entry). entryRow σ x l) at
+  refusal-here : number ≡ entryRefusal σ (nth es n) l
+  refusal-here = r ∙ ap (λ (x : Entry). entryRefusal σ x l) at
 
-  entry-step : (left : ℕ) → first (entryFaults σ es n (suc left)) ≡ step row n (first (entryFaults σ es (suc n) left))
-  unfolding entryFaults first entryRow depthOk
+  entry-step : (left : ℕ) → first (entryFaults σ es n (suc left)) ≡ step number n (first (entryFaults σ es (suc n) left))
+  unfolding entryFaults first entryRefusal depthOk
   entry-step left =
-      rw row-here (bool-cases (formOk σ (nth es n))
+      rw refusal-here (bool-cases (formOk σ (nth es n))
       (λ p. level-cases σ es t n T one owner-level
-      (λ z o. simp (entryRow, p, o, eq-eqb z))
+      (λ z o. simp (entryRefusal, p, o, eq-eqb z))
       (λ z o lt d. lt-cases 33 l
-      (λ h. let k : leb (depthOf es n) 32 ≡ false = omega tests in simp (entryRow, p, o, ne-eqb z, lt-ltb h, depthOk, k))
-      (λ h. let k : leb (depthOf es n) 32 ≡ true = omega tests in simp (entryRow, p, o, ne-eqb z, ge-ltb h, depthOk, k))))
-      (λ p. simp (entryRow, p)))
+      (λ h. let k : leb (depthOf es n) 32 ≡ false = omega tests in simp (entryRefusal, p, o, ne-eqb z, lt-ltb h, depthOk, k))
+      (λ h. let k : leb (depthOf es n) 32 ≡ true = omega tests in simp (entryRefusal, p, o, ne-eqb z, ge-ltb h, depthOk, k))))
+      (λ p. simp (entryRefusal, p)))
 
-  pub level-small : row ≡ 0 → l ≤ 33
-  level-small z = row-none σ e l (sym r ∙ z) .1 .1
+  pub level-small : number ≡ 0 → l ≤ 33
+  level-small z = unrefused σ e l (sym r ∙ z) .1 .1
 
-  pub entries-more : (total : ℕ) → n ≤ total → row ≡ 0
+  pub entries-more : (total : ℕ) → n ≤ total → number ≡ 0
       → first (entryFaults σ es n (total + 1 - n)) ≡ first (entryFaults σ es (n + 1) (total + 1 - (n + 1)))
   entries-more total h z =
       rw (one-left n (total + 1) (omega arith), add-one n) (entry-step (total + 1 - suc n) ∙ step-more _ _ _ z)
 
-  pub entries-found : (total : ℕ) → n ≤ total → row ≢ 0 → first (entryFaults σ es n (total + 1 - n)) ≡ Faulty row n
+  pub entries-found : (total : ℕ) → n ≤ total → number ≢ 0 → first (entryFaults σ es n (total + 1 - n)) ≡ Faulty number n
   entries-found total h z =
       rw (one-left n (total + 1) (omega arith)) (entry-step (total + 1 - (n + 1)) ∙ step-found _ _ _ z)
 
-  pub levels-more : {v : ℕ} → row ≡ 0 → n < 2017 → v ≡ levelUnder σ (e .kind) l → Levels σ es (set t n v) (n + 1)
+  pub levels-more : {v : ℕ} → number ≡ 0 → n < 2017 → v ≡ levelUnder σ (e .kind) l → Levels σ es (set t n v) (n + 1)
   unfolding levelUnder
   levels-more {v} z h u =
       let same = getD-set-same t n v 0 (omega (arith, T .size)) in
       level-cases σ es t n T one owner-level
-      (λ y o. absurd (row-none σ e l (sym r ∙ z) .1 .0 y))
+      (λ y o. absurd (unrefused σ e l (sym r ∙ z) .1 .0 y))
       (λ y o lt d.
       let w : v ≡ levelOf σ es n = u ∙ bool-cases (eqb (nth es n .kind) (owningKind σ))
       (λ q. rw (at, levelUnder, q, level-of-owner σ es n (λ k. omega arith), q) (omega arith))

@@ -97,7 +97,7 @@ unfolding None
 none-both [] gs p q = q
 none-both (f ∷ fs) gs p q = (p .0, none-both fs gs (p .1) q)
 
--- what an input that is accepted keeps, row by row
+-- what an input that is accepted keeps, number by number
 pub record Sound (σ : Schema) (s : List ℕ) : Type 0 where
   pub blocks : Unbroken plain σ s
   pub entries : Legal σ (entriesOf s)

@@ -1,4 +1,4 @@
--- An encoding breaks none of rows 1 to 3 of the table of refusals.
+-- An encoding breaks none of numbers 1 to 3 of the table of refusals.
 -- Assumes nothing.
 use native.Mathlib.Omega.{arith}
 use mathlib.Core.Path.{_≡_}
@@ -50,7 +50,7 @@ rows-passing F L {rows} wide i h =
     let b = blocks-rows F L wide in
     parts-passing (parts-at F L wide i (omega arith)) (rw (b, n) (used-right F L rows p i (omega arith)))
 
--- the encoding of rows that fit the limit breaks none of rows 1 to 3
+-- the encoding of rows that fit the limit breaks none of numbers 1 to 3
 pub rows-sound : (F : Frame) → Lawful F → (σ : Schema) {rows : List (List ℕ)} → Rows (F .width) rows
     → length rows ≤ F .room * limitOf σ → Unbroken F σ (encodeRows F rows)
 rows-sound F L σ {rows} wide h =
@@ -62,7 +62,7 @@ rows-sound F L σ {rows} wide h =
       frame = λ i l. frame-right (rows-passing F L wide i l);
     }
 
--- the encoding of entries that fit the limit breaks none of rows 1 to 3
+-- the encoding of entries that fit the limit breaks none of numbers 1 to 3
 pub encode-sound : (σ : Schema) (es : List Entry) → length es ≤ 63 * limitOf σ → Unbroken plain σ (encode es)
 unfolding encode
 encode-sound σ es h = rows-sound plain plain-lawful σ (rows-entries es) (rw length-map h)

@@ -1,4 +1,4 @@
--- An input that breaks none of rows 1 to 3 of the table of refusals is the encoding of its rows.
+-- An input that breaks none of numbers 1 to 3 of the table of refusals is the encoding of its rows.
 -- Assumes nothing.
 use native.Mathlib.Omega.{arith}
 use mathlib.Core.Path.{_≡_, sym, fun-ext, _∙_}
@@ -37,7 +37,7 @@ pub rows-wide : (F : Frame) (s : List ℕ) → Rows (F .width) (rowsOf F s)
 rows-wide F s = rows-listed (rowAt F s) (λ n. length-listed (λ k. getD s k 0) (entryPos F n) (F .width)) 1 (totalIn F s)
 
 module _ (F : Frame) (L : Lawful F) {σ : Schema} {s : List ℕ} (unbroken : Unbroken F σ s) where
-  -- each block passes rows 2 and 3
+  -- each block passes numbers 2 and 3
   pass : (i : ℕ) → i < blocksIn s → Passing F s (blocksIn s) i
   pass i h = passing L (unbroken .check i h) (unbroken .frame i h)
 
@@ -138,7 +138,7 @@ entry-row : {s : List ℕ} → Bytes s → (n : ℕ) → entryBytes (entryAt s n
 unfolding entryAt
 entry-row {s} b n = sym (rw (length-entry (entryAt s n)) at (part-eq (entry-held (entryPos plain n) b)))
 
--- an input that breaks none of rows 1 to 3 is the encoding of its entries
+-- an input that breaks none of numbers 1 to 3 is the encoding of its entries
 pub encode-decode : {σ : Schema} {s : List ℕ} → Bytes s → Unbroken plain σ s → encode (entriesOf s) ≡ s
 unfolding encode
 encode-decode {σ} {s} b unbroken =

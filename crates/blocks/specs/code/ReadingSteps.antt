@@ -13,11 +13,11 @@ use Rattle.blocks.specs.Owners.{depthOf}
 use Rattle.blocks.specs.declared.Entry.{Entry}
 use Rattle.blocks.specs.declared.Schema.{Schema}
 
--- the row that block i of n breaks, 2 before 3, or 0
-unfoldable pub blockRow : List ℕ → ℕ → ℕ → ℕ
-blockRow s n i = cond (checkWrong plain s i) 2 (cond (frameWrong plain s n i) 3 0)
+-- the number that block i of n is refused by, 2 before 3, or 0
+unfoldable pub blockRefusal : List ℕ → ℕ → ℕ → ℕ
+blockRefusal s n i = cond (checkWrong plain s i) 2 (cond (frameWrong plain s n i) 3 0)
 
--- the blocks of an input whose length row 1 allows, or 0
+-- the blocks of an input whose length number 1 allows, or 0
 unfoldable pub blocksRead : Schema → List ℕ → ℕ
 blocksRead σ s = cond (lengthWrong σ s) 0 (length s / 512)
 
@@ -30,9 +30,9 @@ levelOf σ es (suc k) = cond (eqb (nth es (suc k) .kind) (owningKind σ)) (2 + d
 unfoldable pub levelBy : List ℕ → ℕ → ℕ → ℕ
 levelBy t n o = cond (ltb o n) (getD t o 0) 0
 
--- the row that an entry breaks whose owner has level l, 4 before 5 before 6, or 0
-unfoldable pub entryRow : Schema → Entry → ℕ → ℕ
-entryRow σ e l = cond (formOk σ e) (cond (eqb l 0) 5 (cond (ltb 33 l) 6 0)) 4
+-- the number that an entry is refused by whose owner has level l, 4 before 5 before 6, or 0
+unfoldable pub entryRefusal : Schema → Entry → ℕ → ℕ
+entryRefusal σ e l = cond (formOk σ e) (cond (eqb l 0) 5 (cond (ltb 33 l) 6 0)) 4
 
 -- the level of an entry of this kind whose owner has level l
 unfoldable pub levelUnder : Schema → ℕ → ℕ → ℕ

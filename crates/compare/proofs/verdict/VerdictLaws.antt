@@ -56,8 +56,8 @@ use Rattle.normal.proofs.AnswerLaws.{normalised, normalised-ready}
 use Rattle.normal.proofs.PromiseKept.{normalised-means}
 use Rattle.normal.specs.Answer.{normaliseOf, normalisedOf}
 use Rattle.normal.specs.declared.NormalAnswer.the-variants as normal
-use Rattle.slots.proofs.UnheldLaws.{BothRead, all-held, one-fails, refused-by}
-use Rattle.slots.specs.Holding.{holdingOf, unheld}
+use Rattle.slots.proofs.FailingLaws.{BothRead, all-hold, one-fails, refused-by}
+use Rattle.slots.specs.Holding.{holdingOf, failingIn}
 use Rattle.slots.specs.declared.Holding.the-variants as holding
 
 -- an accepted description is short
@@ -223,9 +223,9 @@ module _ {c normal : List ℕ} {k : ℕ} (f : NormalOf c normal k) where
 
 -- ---- what the normal form's layer answers
 
-unheld-failing : (c d : List ℕ) → unheld c d ≡ failing (entriesOf c) (entriesOf d)
-unfolding unheld failing normalOf
-unheld-failing c d = refl
+failing-in : (c d : List ℕ) → failingIn c d ≡ failing (entriesOf c) (entriesOf d)
+unfolding failingIn failing normalOf
+failing-in c d = refl
 
 module _ (c d out : List ℕ) where
   -- a refusal is the refusal
@@ -244,18 +244,18 @@ module _ (c d out : List ℕ) where
 
   module _ (h : holdingOf c d ≡ holding.All) where
     pub all-lengths : length c + length d ≤ 16384
-    all-lengths = read-lengths (all-held c d h .0)
+    all-lengths = read-lengths (all-hold c d h .0)
 
     pub all-short : length out < length c + length d → (Refused 7 0 0 ≡ compareOf c d out) × (out ≡ outputOf c d out)
-    all-short l = read-short (all-held c d h .0) l
+    all-short l = read-short (all-hold c d h .0) l
 
     -- all hold
     pub all-contained : length c + length d ≤ length out → (Contained ≡ compareOf c d out) × (out ≡ outputOf c d out)
     unfolding outputOf
     all-contained l =
-        let r = all-held c d h in
+        let r = all-hold c d h in
         let both : Comparable c d out = record { first = r .0 .first; second = r .0 .second; first-read = r .0 .first-read; second-read = r .0 .second-read; room = l } in
-        let e = compared c d out both ∙ verdict-contained (entriesOf c) (entriesOf d) (sym (unheld-failing c d) ∙ r .1) in
+        let e = compared c d out both ∙ verdict-contained (entriesOf c) (entriesOf d) (sym (failing-in c d) ∙ r .1) in
         (sym e, sym (ap (outputAfter c d out) e))
 
   module _ {n : ℕ} (h : holdingOf c d ≡ holding.Fails n) where
@@ -275,7 +275,7 @@ module _ (c d out : List ℕ) where
           first-read = r .0 .first-read;
           second-read = r .0 .second-read;
           room = l;
-          fails = sym (unheld-failing c d) ∙ r .1;
+          fails = sym (failing-in c d) ∙ r .1;
           some′ = r .2;
         }
 

@@ -14,13 +14,13 @@ use Rattle.logic.proofs.SpecimenTrees.WitnessKeeps.{counterexample}
 use Rattle.logic.specs.Background.{Background, LawfulBackground}
 use Rattle.logic.specs.Canonical.{Canonical, Normal}
 use Rattle.logic.specs.Holds.{holds, holdsAt}
-use Rattle.logic.specs.Meaning.{Says}
+use Rattle.logic.specs.Meaning.{Entails}
 use Rattle.logic.specs.Normal.{bottom, isBottom, nf, sub, supports}
 use Rattle.logic.specs.Place.{Atom, Place, atom, most}
 use Rattle.logic.specs.Record.{along, fits, meets, successors}
 
 -- what a place holds, it says
-pub holdsAt-sound : {b : Background} (t : Place) (w : List ℕ) (a : Atom) → holdsAt b t w a ≡ true → Says b t w a
+pub holdsAt-sound : {b : Background} (t : Place) (w : List ℕ) (a : Atom) → holdsAt b t w a ≡ true → Entails b t w a
 unfolding holdsAt along
 holdsAt-sound t [] a e c kept x i h = supports-sound c kept t a x i e h
 holdsAt-sound {b} t (l ∷ w) a e c kept x i h =
@@ -33,7 +33,7 @@ holdsAt-sound {b} t (l ∷ w) a e c kept x i h =
 
 module _ {b : Background} (law : LawfulBackground b) where
   -- what a normal place that is alive says, it holds
-  pub holdsAt-complete : {t : Place} → Canonical b t → (w : List ℕ) (a : Atom) → Says b t w a → holdsAt b t w a ≡ true
+  pub holdsAt-complete : {t : Place} → Canonical b t → (w : List ℕ) (a : Atom) → Entails b t w a → holdsAt b t w a ≡ true
   holdsAt-complete {t} h w a f =
       bool-cases (holdsAt b t w a)
       (λ e. e)
@@ -42,18 +42,18 @@ module _ {b : Background} (law : LawfulBackground b) where
       both-ways (f (x .shown) (x .kept) (x .item) (x .inside) (x .fitting)) (x .failing))
 
   -- a normal place that is alive holds exactly what it says
-  pub holdsAt-says : {t : Place} → Canonical b t → (w : List ℕ) (a : Atom) → (holdsAt b t w a ≡ true) ↔ Says b t w a
-  holdsAt-says {t} h w a = (holdsAt-sound t w a, holdsAt-complete h w a)
+  pub holdsAt-entails : {t : Place} → Canonical b t → (w : List ℕ) (a : Atom) → (holdsAt b t w a ≡ true) ↔ Entails b t w a
+  holdsAt-entails {t} h w a = (holdsAt-sound t w a, holdsAt-complete h w a)
 
   -- a normal place holds exactly what it says
-  pub holds-says : {t : Place} → Normal b t → (w : List ℕ) (a : Atom) → (holds b t w a ≡ true) ↔ Says b t w a
+  pub holds-entails : {t : Place} → Normal b t → (w : List ℕ) (a : Atom) → (holds b t w a ≡ true) ↔ Entails b t w a
   unfolding holds isBottom fits
-  holds-says {t} (inl e) w a = (λ z c kept x i h. let d : fits c bottom x ≡ true = rw e at h in absurd (false≢true d), λ f. rw e)
-  holds-says {t} (inr h) w a = rw (canonical-alive h) (holdsAt-says h w a)
+  holds-entails {t} (inl e) w a = (λ z c kept x i h. let d : fits c bottom x ≡ true = rw e at h in absurd (false≢true d), λ f. rw e)
+  holds-entails {t} (inr h) w a = rw (canonical-alive h) (holdsAt-entails h w a)
 
 -- what the normal form of a description holds is what the description says
-pub nf-holds-says : {b : Background} → LawfulBackground b → (d : Place) (w : List ℕ) (a : Atom)
-    → (holds b (nf b d) w a ≡ true) ↔ Says b d w a
-nf-holds-says {b} law d w a =
-    let e = holds-says law (nf-normal law d) w a in
+pub nf-holds-entails : {b : Background} → LawfulBackground b → (d : Place) (w : List ℕ) (a : Atom)
+    → (holds b (nf b d) w a ≡ true) ↔ Entails b d w a
+nf-holds-entails {b} law d w a =
+    let e = holds-entails law (nf-normal law d) w a in
     (λ z c kept x i h. e .0 z c kept x i (nf-sound c kept d x i ∙ h), λ f. e .1 (λ c kept x i h. f c kept x i (sym (nf-sound c kept d x i) ∙ h)))

@@ -9,7 +9,7 @@ use mathlib.Core.Path.{_≡_, refl}
 use Rattle.base.proofs.Tests.{or-none}
 use Rattle.logic.proofs.NormalForm.IsNormal.{nf-normal}
 use Rattle.logic.proofs.NormalForm.Sound.{nf-sound}
-use Rattle.logic.proofs.OneMeaning.HoldsExactly.{nf-holds-says}
+use Rattle.logic.proofs.OneMeaning.HoldsExactly.{nf-holds-entails}
 use Rattle.logic.proofs.OneMeaning.Unique.{one-normal, same-normal, unique}
 use Rattle.logic.proofs.Records.Kept.{kept-unrestricted, lawful-unrestricted}
 use Rattle.logic.specs.Background.{unrestricted}
@@ -86,8 +86,8 @@ plain-unique d e =
     (λ q c x i. same-normal lawful-unrestricted d e q c (kept-unrestricted c) x i, λ f. unique lawful-unrestricted d e (λ c kept x i. f c x i))
 
 -- the normal form holds an atom exactly if in every finite record each item that fits the description meets it along the links
-pub plain-holds-says : (d : Place) (w : List ℕ) (a : Atom)
+pub plain-holds-entails : (d : Place) (w : List ℕ) (a : Atom)
     → (holds unrestricted (nf unrestricted d) w a ≡ true) ↔ ((c : Record) (x : ℕ) → x < c .size → fits c d x ≡ true → along c w x (meets c a) ≡ true)
-plain-holds-says d w a =
-    let e = nf-holds-says lawful-unrestricted d w a in
+plain-holds-entails d w a =
+    let e = nf-holds-entails lawful-unrestricted d w a in
     (λ z c x i h. e .0 z c (kept-unrestricted c) x i h, λ f. e .1 (λ c kept x i h. f c x i h))

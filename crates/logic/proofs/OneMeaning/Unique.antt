@@ -20,7 +20,7 @@ use Rattle.logic.proofs.SpecimenTrees.WitnessKeeps.{counterexample}
 use Rattle.logic.specs.Background.{Background, LawfulBackground}
 use Rattle.logic.specs.Canonical.{Canonical, Clean, Normal, canonical, telling}
 use Rattle.logic.specs.Holds.{holdsAt}
-use Rattle.logic.specs.Meaning.{Alike}
+use Rattle.logic.specs.Meaning.{Equivalent}
 use Rattle.logic.specs.Normal.{atMost, bottom, excluded, find, isEnd, nf, sub, supports}
 use Rattle.logic.specs.Place.{Atom, Kind, Place, atom, has, lacks, least, most, nothing}
 use Rattle.logic.specs.Record.{Record, along, fits, meets}
@@ -165,36 +165,36 @@ module _ {b : Background} (law : LawfulBackground b) where
   -- ---- one meaning
 
   -- a normal place holds what another with its meaning lists
-  alike-covers : (t u : Place) → Canonical b t → Alike b t u → Covers t u
-  alike-covers t u h f =
+  equivalent-covers : (t u : Place) → Canonical b t → Equivalent b t u → Covers t u
+  equivalent-covers t u h f =
       record {
         covers = λ w a i. holdsAt-complete law h w a (λ c kept x j y. lists-sound c w a u x i (sym (f c kept x j) ∙ y));
       }
 
   -- some item fits a normal place that is alive
-  not-bottom : (t : Place) → Canonical b t → Alike b t bottom → ⊥
+  not-bottom : (t : Place) → Canonical b t → Equivalent b t bottom → ⊥
   unfolding holdsAt fits
   not-bottom t h f =
       let x = counterexample law h [] (atom nothing 0 0) refl in
       both-ways (sym (f (x .shown) (x .kept) (x .item) (x .inside)) ∙ x .fitting) refl
 
   -- two normal places that the same items fit are one
-  pub one-normal : (t u : Place) → Normal b t → Normal b u → Alike b t u → t ≡ u
+  pub one-normal : (t u : Place) → Normal b t → Normal b u → Equivalent b t u → t ≡ u
   one-normal t u (inl e) (inl e′) f = e ∙ sym e′
   one-normal t u (inl e) (inr h) f = absurd (not-bottom u h (λ c kept x i. sym (f c kept x i) ∙ rw e))
   one-normal t u (inr h) (inl e) f = absurd (not-bottom t h (λ c kept x i. f c kept x i ∙ rw e))
-  one-normal t u (inr h) (inr h′) f = covers-equal t u h h′ (alike-covers t u h f) (alike-covers u t h′ (λ c kept x i. sym (f c kept x i)))
+  one-normal t u (inr h) (inr h′) f = covers-equal t u h h′ (equivalent-covers t u h f) (equivalent-covers u t h′ (λ c kept x i. sym (f c kept x i)))
 
   -- the normal form is the one normal place with the description's meaning, however it is found
-  pub only-normal : (t d : Place) → Normal b t → Alike b t d → t ≡ nf b d
+  pub only-normal : (t d : Place) → Normal b t → Equivalent b t d → t ≡ nf b d
   only-normal t d n f = one-normal t (nf b d) n (nf-normal law d) (λ c kept x i. f c kept x i ∙ sym (nf-sound c kept d x i))
 
   -- one meaning, one normal form
-  pub unique : (d e : Place) → Alike b d e → nf b d ≡ nf b e
+  pub unique : (d e : Place) → Equivalent b d e → nf b d ≡ nf b e
   unique d e f = only-normal (nf b d) e (nf-normal law d) (λ c kept x i. nf-sound c kept d x i ∙ f c kept x i)
 
   -- and one normal form, one meaning
-  pub same-normal : (d e : Place) → nf b d ≡ nf b e → Alike b d e
+  pub same-normal : (d e : Place) → nf b d ≡ nf b e → Equivalent b d e
   same-normal d e q c kept x i = sym (nf-sound c kept d x i) ∙ ap (λ (t : Place). fits c t x) q ∙ nf-sound c kept e x i
 
   -- a normal place is its own normal form

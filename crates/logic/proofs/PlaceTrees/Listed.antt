@@ -104,8 +104,8 @@ module _ {b : Background} (law : LawfulBackground b) (t : Place) where
   only-itself nothing n m e = e
 
   -- the clash of one atom by two names
-  clash-alike : {k k′ : Kind} {n n′ : ℕ} (m : ℕ) → k ≡ k′ → n ≡ n′ → clash b t (atom k′ n′ m) ≡ false → clash b t (atom k n m) ≡ false
-  clash-alike m i j g = ap₂ (λ (x : Kind) (y : ℕ). clash b t (atom x y m)) i j ∙ g
+  clash-equivalent : {k k′ : Kind} {n n′ : ℕ} (m : ℕ) → k ≡ k′ → n ≡ n′ → clash b t (atom k′ n′ m) ≡ false → clash b t (atom k n m) ≡ false
+  clash-equivalent m i j g = ap₂ (λ (x : Kind) (y : ℕ). clash b t (atom x y m)) i j ∙ g
 
   -- whether two atoms rule each other out does not turn on which is listed
   pub only-other : (k : Kind) (n m : ℕ) (k′ : Kind) (n′ m′ : ℕ) → find k n t ≡ some m → clash b t (atom k n m) ≡ false
@@ -113,23 +113,23 @@ module _ {b : Background} (law : LawfulBackground b) (t : Place) where
   only-other has n m k′ n′ m′ h e g =
       or-none
       (look-only found refl lacks n k′ n′ m′ (λ i j.
-      let z : clash b t (atom lacks n m′) ≡ false = clash-alike m′ i j g in both-ways (rw h) z))
+      let z : clash b t (atom lacks n m′) ≡ false = clash-equivalent m′ i j g in both-ways (rw h) z))
       (excluded-only b n k′ n′ m′ (λ i. not-true (λ y.
-      let z : clash b t (atom has n′ m′) ≡ false = clash-alike m′ i refl g in
+      let z : clash b t (atom has n′ m′) ≡ false = clash-equivalent m′ i refl g in
       both-ways
       (is-excluded b n′ t (record { name = n; number = m; listed = h; against = sym (law .both-ways n′ n) ∙ y }))
       (neither-right (found (find lacks n′ t)) (excluded b n′ t) z))))
   only-other lacks n m k′ n′ m′ h e g =
       look-only found refl has n k′ n′ m′ (λ i j.
-      let z : clash b t (atom has n m′) ≡ false = clash-alike m′ i j g in
+      let z : clash b t (atom has n m′) ≡ false = clash-equivalent m′ i j g in
       both-ways (rw h) (neither-left (found (find lacks n t)) (excluded b n t) z))
   only-other least n m k′ n′ m′ h e g =
       or-none
       (look-only (under m) refl most n k′ n′ m′ (λ i j.
-      let z : clash b t (atom most n m′) ≡ false = clash-alike m′ i j g in rw h at z))
+      let z : clash b t (atom most n m′) ≡ false = clash-equivalent m′ i j g in rw h at z))
       (neither-right (under m (find most n t)) (under m (b .cap n)) e)
   only-other most n m k′ n′ m′ h e g =
       look-only (over m) refl least n k′ n′ m′ (λ i j.
-      let z : clash b t (atom least n m′) ≡ false = clash-alike m′ i j g in
+      let z : clash b t (atom least n m′) ≡ false = clash-equivalent m′ i j g in
       rw h at (neither-left (under m′ (find most n t)) (under m′ (b .cap n)) z))
   only-other nothing n m k′ n′ m′ h e g = absurd (true≢false e)

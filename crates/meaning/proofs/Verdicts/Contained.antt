@@ -13,7 +13,7 @@ use Rattle.blocks.specs.Entries.{nth}
 use Rattle.blocks.specs.Promise.{Legal}
 use Rattle.blocks.specs.declared.Entry.{Entry}
 use Rattle.blocks.specs.declared.Schema.the-variants.{Description}
-use Rattle.logic.proofs.OneMeaning.HoldsExactly.{nf-holds-says}
+use Rattle.logic.proofs.OneMeaning.HoldsExactly.{nf-holds-entails}
 use Rattle.logic.proofs.Records.Kept.{kept-unrestricted, lawful-unrestricted}
 use Rattle.logic.specs.Background.{Background, LawfulBackground, unrestricted}
 use Rattle.logic.specs.Holds.{holds}
@@ -25,18 +25,18 @@ use Rattle.meaning.proofs.Verdicts.FirstLaws.{failing-least, failing-no
 use Rattle.meaning.specs.Description.{atomOf, linksTo, placeOf}
 use Rattle.meaning.specs.Failing.{failing, normalOf}
 use Rattle.meaning.specs.First.{entryHolds, firstFailing}
-use Rattle.meaning.specs.Promise.{FirstUnsaid, SaysEntry, Within}
+use Rattle.meaning.specs.Promise.{FirstNotEntailed, EntailsEntry, Subsumed}
 
 module _ {b : Background} (law : LawfulBackground b) (t : Place) (d : List Entry) where
   -- an entry that is no 'every' holds exactly if the place says it
-  pub entry-said : (n : ℕ) → nth d n .kind ≢ 5 → (entryHolds b (nf b t) d n ≡ true) ↔ SaysEntry b t d n
+  pub entry-entailed : (n : ℕ) → nth d n .kind ≢ 5 → (entryHolds b (nf b t) d n ≡ true) ↔ EntailsEntry b t d n
   unfolding entryHolds
-  entry-said n z = rw (ne-eqb z) (nf-holds-says law t (linksTo d n) (atomOf (nth d n)))
+  entry-entailed n z = rw (ne-eqb z) (nf-holds-entails law t (linksTo d n) (atomOf (nth d n)))
 
   -- an entry holds if the place says it or it is an 'every'
-  entry-holds : (n : ℕ) → (nth d n .kind ≢ 5 → SaysEntry b t d n) → entryHolds b (nf b t) d n ≡ true
+  entry-holds : (n : ℕ) → (nth d n .kind ≢ 5 → EntailsEntry b t d n) → entryHolds b (nf b t) d n ≡ true
   unfolding entryHolds
-  entry-holds n f = eq-cases (nth d n .kind) 5 (λ z. rw (eq-eqb z)) (λ z. entry-said n z .1 (f z))
+  entry-holds n f = eq-cases (nth d n .kind) 5 (λ z. rw (eq-eqb z)) (λ z. entry-entailed n z .1 (f z))
 
   -- an entry that fails is no 'every'
   pub failing-kind : (n : ℕ) → entryHolds b (nf b t) d n ≡ false → nth d n .kind ≢ 5
@@ -44,33 +44,33 @@ module _ {b : Background} (law : LawfulBackground b) (t : Place) (d : List Entry
   failing-kind n e = eqb-ne (neither-left (eqb (nth d n .kind) 5) (holds b (nf b t) (linksTo d n) (atomOf (nth d n))) e)
 
   -- the number answered is the first that the place does not say
-  pub failing-unsaid : {n : ℕ} → firstFailing b (nf b t) d ≡ n → n ≢ 0 → FirstUnsaid b t d n
-  failing-unsaid {n} e z =
+  pub failing-not-entailed : {n : ℕ} → firstFailing b (nf b t) d ≡ n → n ≢ 0 → FirstNotEntailed b t d n
+  failing-not-entailed {n} e z =
       let r = failing-least b (nf b t) d e z in
       let k = failing-kind n (r .fails) in
       record {
         low = r .low;
         high = omega (arith, r .high);
         kind = k;
-        unsaid = λ s. both-ways (entry-said n k .1 s) (r .fails);
-        before = λ j lo hi y. entry-said j y .0 (r .before j lo hi);
+        not-entailed = λ s. both-ways (entry-entailed n k .1 s) (r .fails);
+        before = λ j lo hi y. entry-entailed j y .0 (r .before j lo hi);
       }
 
   -- and it is the only number of which that holds
-  pub unsaid-failing : (n : ℕ) → FirstUnsaid b t d n → firstFailing b (nf b t) d ≡ n
-  unsaid-failing n u =
+  pub not-entailed-failing : (n : ℕ) → FirstNotEntailed b t d n → firstFailing b (nf b t) d ≡ n
+  not-entailed-failing n u =
       least-failing b (nf b t) d n
       (record {
         low = u .low;
         high = omega (arith, u .high);
-        fails = not-true (λ e. u .unsaid (entry-said n (u .kind) .0 e));
+        fails = not-true (λ e. u .not-entailed (entry-entailed n (u .kind) .0 e));
         before = λ j lo hi. entry-holds j (u .before j lo hi);
       })
 
   -- none fails exactly if every item that fits the place fits the description
-  pub contained-says : Legal Description d → (firstFailing b (nf b t) d ≡ 0) ↔ Within b t (placeOf d 0)
-  contained-says L = (
-    λ e r kept x i h. paths-fit r d L x (λ n lo hi z. entry-said n z .0 (failing-none b (nf b t) d e n lo hi) r kept x i h),
+  pub contained-subsumed : Legal Description d → (firstFailing b (nf b t) d ≡ 0) ↔ Subsumed b t (placeOf d 0)
+  contained-subsumed L = (
+    λ e r kept x i h. paths-fit r d L x (λ n lo hi z. entry-entailed n z .0 (failing-none b (nf b t) d e n lo hi) r kept x i h),
     λ f. none-failing b (nf b t) d (λ n lo hi. entry-holds n (λ z r kept x i h. fits-paths r d L x (f r kept x i h) n lo hi z)),
   )
 
@@ -82,13 +82,13 @@ module _ (c d : List Entry) where
       → (failing c d ≡ 0) ↔ ((r : Record) (x : ℕ) → x < r .size → fits r (placeOf c 0) x ≡ true → fits r (placeOf d 0) x ≡ true)
   unfolding failing normalOf
   contained-all L =
-      let e = contained-says lawful-unrestricted (placeOf c 0) d L in
+      let e = contained-subsumed lawful-unrestricted (placeOf c 0) d L in
       (λ z r x i h. e .0 z r (kept-unrestricted r) x i h, λ f. e .1 (λ r kept x i h. f r x i h))
 
   -- the number answered is that of the first entry of D, apart from 'every' entries, that C does not say
-  pub failing-first : {n : ℕ} → failing c d ≡ n → n ≢ 0 → FirstUnsaid unrestricted (placeOf c 0) d n
+  pub failing-first : {n : ℕ} → failing c d ≡ n → n ≢ 0 → FirstNotEntailed unrestricted (placeOf c 0) d n
   unfolding failing normalOf
-  failing-first e z = failing-unsaid lawful-unrestricted (placeOf c 0) d e z
+  failing-first e z = failing-not-entailed lawful-unrestricted (placeOf c 0) d e z
 
   -- each item that fits C meets every entry before it, apart from 'every' entries, along its links
   pub met-before : {n : ℕ} → failing c d ≡ n → n ≢ 0 → (j : ℕ) → 1 ≤ j → j < n → nth d j .kind ≢ 5

@@ -52,17 +52,17 @@ module _ {b : Background} (law : LawfulBackground b) (c d : List Entry) (Ld : Le
   abbrev shown : SpecimenTree
   shown = witness normal (on (linksTo d n) said)
 
-  not-held : holds b normal (linksTo d n) said ≡ false
+  not-holding : holds b normal (linksTo d n) said ≡ false
   unfolding entryHolds
-  not-held = neither-right (eqb (nth d n .kind) 5) (holds b normal (linksTo d n) said) fails
+  not-holding = neither-right (eqb (nth d n .kind) 5) (holds b normal (linksTo d n) said) fails
 
   not-at : holdsAt b normal (linksTo d n) said ≡ false
   unfolding holds
-  not-at = neither-right (isBottom normal) (holdsAt b normal (linksTo d n) said) not-held
+  not-at = neither-right (isBottom normal) (holdsAt b normal (linksTo d n) said) not-holding
 
   living : Canonical b normal
   unfolding holds
-  living = alive law normal (nf-normal law (placeOf c 0)) (neither-left (isBottom normal) (holdsAt b normal (linksTo d n) said) not-held)
+  living = alive law normal (nf-normal law (placeOf c 0)) (neither-left (isBottom normal) (holdsAt b normal (linksTo d n) said) not-holding)
 
   -- the top item fits C
   shown-fits : fitsTop (placeOf c 0) shown ≡ true

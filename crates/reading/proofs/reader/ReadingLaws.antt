@@ -23,7 +23,7 @@ use Rattle.blocks.specs.declared.Reading.{Reading}
 use Rattle.blocks.specs.declared.Reading.the-variants.{Accepted, Refused}
 use Rattle.blocks.specs.declared.Schema.{Schema}
 
--- ---- row 1
+-- ---- number 1
 
 length-refused : (σ : Schema) (s : List ℕ) → lengthWrong σ s ≡ true → 0 ≡ blocksRead σ s
 unfolding blocksRead
@@ -49,7 +49,7 @@ length-allowed σ s e m h =
     (λ q. simp (blocksRead, lengthWrong, eq-eqb q) (omega arith))
     (λ q. simp (blocksRead, lengthWrong, ne-eqb q, eq-eqb m, l))
 
--- no blocks: row 1 refuses; some: it does not, and they are the input's
+-- no blocks: number 1 refuses; some: it does not, and they are the input's
 blocks-cases : {A : Type 0} (σ : Schema) (s : List ℕ) {n : ℕ} → n ≡ blocksRead σ s → (n ≡ 0 → lengthWrong σ s ≡ true → A)
     → (n ≢ 0 → lengthWrong σ s ≡ false → n ≡ blocksIn s → A) → A
 unfolding blocksRead lengthWrong blocksIn

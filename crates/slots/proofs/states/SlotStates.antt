@@ -16,7 +16,7 @@ use Rattle.blocks.specs.declared.Entry.{Entry}
 use Rattle.meaning.specs.Owned.{Owned}
 use Rattle.passes.specs.code.Slots.{Slot}
 use Rattle.slots.proofs.HoldingLaws.{state-every}
-use Rattle.slots.specs.code.States.{heldAt, heldIn, stateBelow, stateOf}
+use Rattle.slots.specs.code.States.{holdsInState, holdsBySlots, stateBelow, stateOf}
 
 -- the states of the top and of each 'every' before entry n are in the table
 pub record States (ss : List Slot) (d : List Entry) (states : List ℕ) (n : ℕ) : Type 0 where
@@ -49,6 +49,6 @@ module _ (ss : List Slot) (d : List Entry) where
     }
 
     -- entry n holds in the state of its owner
-    pub held-here : {r : Bool} {s : ℕ} → r ≡ heldAt ss s (nth d n) → s ≡ stateOf ss d (ownerOf d n) (ownerOf d n) → heldIn ss d n ≡ r
-    unfolding heldIn
-    held-here h e = rw (← e) (sym h)
+    pub holds-here : {r : Bool} {s : ℕ} → r ≡ holdsInState ss s (nth d n) → s ≡ stateOf ss d (ownerOf d n) (ownerOf d n) → holdsBySlots ss d n ≡ r
+    unfolding holdsBySlots
+    holds-here h e = rw (← e) (sym h)

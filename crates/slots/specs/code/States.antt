@@ -57,14 +57,14 @@ abbrev pub entrySlot : List Slot → ℕ → Entry → ℕ
 entrySlot ss v e = slotFor ss v (linkName (e .kind)) (e .name)
 
 -- the entry holds in a place of that state: "kind 5 always holds"
-unfoldable pub heldAt : List Slot → ℕ → Entry → Bool
-heldAt ss s e =
+unfoldable pub holdsInState : List Slot → ℕ → Entry → Bool
+holdsInState ss s e =
     cond (eqb (e .kind) 5) true
     (cond (eqb s 1024) true (supportedBy (e .kind) (e .number) (lowAt ss (entrySlot ss s e)) (highAt ss (entrySlot ss s e))))
 
 -- entry n of D holds
-unfoldable pub heldIn : List Slot → List Entry → ℕ → Bool
-heldIn ss d n = heldAt ss (stateOf ss d (ownerOf d n) (ownerOf d n)) (nth d n)
+unfoldable pub holdsBySlots : List Slot → List Entry → ℕ → Bool
+holdsBySlots ss d n = holdsInState ss (stateOf ss d (ownerOf d n) (ownerOf d n)) (nth d n)
 
 -- ---- the table
 

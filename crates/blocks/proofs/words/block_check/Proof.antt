@@ -1,32 +1,22 @@
--- `block_check` meets its contract: after i turns the sum is that of the first i words, modulo 65,536.
-use Prim.Native.Nat.{_%_, _-_, _≤_}
+-- `block_check` meets its contract: the block stands whole, starts past the end, or ends in between.
 use borrow.Author.Needs.{needs}
-use mathlib.Core.Path.{_≡_}
-use Rattle.blocks.proofs.words.WordLaws.{sum-done, sum-more}
-use Rattle.blocks.specs.Words.{wordSum}
+use native.Mathlib.Omega.{arith}
+use Rattle.blocks.proofs.words.WordLaws.{check-past, check-short, check-whole}
 use Rattle.blocks.proofs.words.block_check.Statement.{statement}
 use Rattle.blocks.proofs.words.block_check.Tie as tie
 
-abbrev Inv-loop : tie.InvT-loop
-Inv-loop s at sum₀ i₀ sum i = (i ≤ 255) × (sum ≡ wordSum s at i % 65536)
+returns : tie.Need-returns
+returns c = check-whole _ _ (c .sum-words .ensures)
 
-abbrev μ-loop : tie.MeasureT-loop
-μ-loop s at sum₀ i₀ sum i = 255 - i
+returns-2 : tie.Need-returns-2
+returns-2 c = check-past _ _ (c .if2 .taken)
 
-loop-holds : tie.Need-loop-holds Inv-loop μ-loop
-unfolding wordSum
-loop-holds c = search needs
-
-loop-again : tie.Need-loop-again Inv-loop μ-loop
-loop-again c =
-    let l = c .before .before .before .loop in
-    (search needs, sum-more _ _ (l .i) (l .inv .1) (c .before .word-at .ensures) (c .wrapping-add-u16 .ensures))
-
-returns : tie.Need-returns Inv-loop μ-loop
-returns c = sum-done _ _ _ (c .before .loop .inv .0) (c .loop-test .left) (c .before .loop .inv .1)
+returns-3 : tie.Need-returns-3
+returns-3 c =
+    check-short _ _ _ (omega arith) (omega arith) (c .before .before .sum-words2 .ensures) (c .before .word .ensures) (c .wrapping-add-u16 .ensures)
 
 pub block-check-spec : {M : Type 1} → statement M
 block-check-spec =
     tie.close
-    (tie.spec Inv-loop μ-loop loop-holds (λ c. search needs) (λ c. search needs) (λ c κs. search needs)
-    (λ c κs. search needs) (λ c. search needs) (λ c. search needs) loop-again returns)
+    (tie.spec (λ c. search needs) (λ c. search needs) (λ c κs. search needs) returns returns-2 (λ c. search needs)
+    (λ c κs. search needs) (λ c. search needs) (λ c. search needs) (λ c κs. search needs) (λ c κs. search needs) returns-3)

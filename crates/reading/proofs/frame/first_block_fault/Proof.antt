@@ -21,14 +21,14 @@ loop-holds c = (omega arith, rw sub-zero)
 
 loop-again : tie.Need-loop-again Inv-loop μ-loop
 loop-again c =
-    (omega arith, c .before .before .before .loop .inv .1 ∙ blocks-more _ _ _ (c .before .before .if1 .left) (c .before .block-row .ensures) (c .if2 .left))
+    (omega arith, c .before .before .before .loop .inv .1 ∙ blocks-more _ _ _ (c .before .before .if1 .left) (c .before .block-refusal .ensures) (c .if2 .left))
 
 returns : tie.Need-returns Inv-loop μ-loop
 returns c = sym (c .before .loop .inv .1 ∙ blocks-end _ _ _ (c .if1 .taken))
 
 returns-2 : tie.Need-returns-2 Inv-loop μ-loop
 returns-2 c =
-    sym (c .before .before .before .loop .inv .1 ∙ blocks-found _ _ _ (c .before .before .if1 .left) (c .before .block-row .ensures) (c .if2 .taken))
+    sym (c .before .before .before .loop .inv .1 ∙ blocks-found _ _ _ (c .before .before .if1 .left) (c .before .block-refusal .ensures) (c .if2 .taken))
 
 pub first-block-fault-spec : {M : Type 1} → statement M
 first-block-fault-spec =

@@ -7,18 +7,18 @@ use Rattle.reading.proofs.frame.frame_wrong.Statement.{statement}
 use Rattle.reading.proofs.frame.frame_wrong.Tie as tie
 
 returns : tie.Need-returns
-returns c = number-wrong _ _ _ (c .before .word-at .ensures) (c .if1 .taken)
+returns c = number-wrong _ _ _ (c .before .word .ensures) (c .if1 .taken)
 
 returns-2 : tie.Need-returns-2
 returns-2 c =
-    used-wrong _ _ _ (c .before .before .before .before .word-at .ensures) (c .before .before .before .if1 .left) (c .before .before .word-at2 .ensures)
+    used-wrong _ _ _ (c .before .before .before .before .word .ensures) (c .before .before .before .if1 .left) (c .before .before .word2 .ensures)
     (refuted (c .before .used-ok .ensures) (c .if2 .taken))
 
 returns-3 : tie.Need-returns-3
 returns-3 c =
-    second-wrong _ _ _ (c .before .before .before .before .before .before .word-at .ensures) (c .before .before .before .before .before .if1 .left)
-    (c .before .before .before .before .word-at2 .ensures) (confirmed (c .before .before .before .used-ok .ensures) (c .before .before .if2 .left))
-    (c .before .word-at3 .ensures) (c .if3 .taken)
+    second-wrong _ _ _ (c .before .before .before .before .before .before .word .ensures) (c .before .before .before .before .before .if1 .left)
+    (c .before .before .before .before .word2 .ensures) (confirmed (c .before .before .before .used-ok .ensures) (c .before .before .if2 .left))
+    (c .before .word3 .ensures) (c .if3 .taken)
 
 all-zero-requires : tie.Need-all-zero-requires
 all-zero-requires c κs =
@@ -26,10 +26,10 @@ all-zero-requires c κs =
 
 returns-4 : tie.Need-returns-4
 returns-4 c =
-    rest-decides _ _ _ (c .before .before .before .before .before .before .before .word-at .ensures)
-    (c .before .before .before .before .before .before .if1 .left) (c .before .before .before .before .before .word-at2 .ensures)
+    rest-decides _ _ _ (c .before .before .before .before .before .before .before .word .ensures)
+    (c .before .before .before .before .before .before .if1 .left) (c .before .before .before .before .before .word2 .ensures)
     (confirmed (c .before .before .before .before .used-ok .ensures) (c .before .before .before .if2 .left))
-    (c .before .before .word-at3 .ensures) (c .before .if3 .left) (c .all-zero .ensures)
+    (c .before .before .word3 .ensures) (c .before .if3 .left) (c .all-zero .ensures)
 
 pub frame-wrong-spec : {M : Type 1} → statement M
 frame-wrong-spec =

@@ -10,21 +10,21 @@ use Rattle.reading.proofs.reader.read_entries.Statement.{statement}
 use Rattle.reading.proofs.reader.read_entries.Tie as tie
 
 -- what is counted is the input's number of entries
-total-is : (c : tie.After-word-at)
-    → 63 * (c .before .before .args .n - 1) + c .word-at .result ≡ totalIn plain (c .before .before .args .s .now)
-total-is c = total-read _ (c .before .before .pre .0) (c .before .before .pre .2) (c .word-at .ensures)
+total-is : (c : tie.After-word)
+    → 63 * (c .before .before .args .n - 1) + c .word .result ≡ totalIn plain (c .before .before .args .s .now)
+total-is c = total-read _ (c .before .before .pre .0) (c .before .before .pre .2) (c .word .ensures)
 
 first-entry-fault-requires : tie.Need-first-entry-fault-requires
 unfolding usedIn
 first-entry-fault-requires c κs =
-    let used = c .word-at .ensures in
+    let used = c .word .ensures in
     let small = c .before .before .pre .4 in
     (total-is c ∙ sym (length-entries _), omega arith, omega arith)
 
 cast-t16 : tie.Need-cast-t16
 unfolding usedIn
 cast-t16 c =
-    let used = c .before .before .before .word-at .ensures in
+    let used = c .before .before .before .word .ensures in
     let small = c .before .before .before .before .before .pre .4 in
     omega arith
 

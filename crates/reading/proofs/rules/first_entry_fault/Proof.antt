@@ -5,7 +5,7 @@ use borrow.Author.Needs.{needs}
 use mathlib.Core.Path.{_∙_, _≡_, sym}
 use native.Mathlib.Nat.{add-sub-cancel}
 use native.Mathlib.Omega.{arith}
-use Rattle.blocks.proofs.Refusing.EntryLaws.{nth-read}
+use Rattle.blocks.proofs.Refusing.EntryLaws.{nth-after}
 use Rattle.blocks.proofs.Refusing.LevelLaws.{Levels, entries-end, entries-found, entries-more, level-small, levels-more, levels-start}
 use Rattle.blocks.specs.Entries.{entriesOf, nth}
 use Rattle.blocks.specs.Faults.{entryFaults, first}
@@ -21,33 +21,31 @@ abbrev μ-loop : tie.MeasureT-loop
 μ-loop s schema total level₀ n₀ level n = total + 1 - n
 
 -- the entry that is read is that of the list
-here : (c : tie.After-entry-from Inv-loop μ-loop)
-    → c .entry-from .result ≡ nth (entriesOf (c .before .before .before .before .before .args .s .now)) (c .before .before .before .loop .n)
-here c =
-    let l = c .before .before .before in
-    nth-read _ _ (l .loop .inv .0) (omega arith) (c .before .entry-pos .ensures .0) (c .entry-from .ensures)
+here : (c : tie.After-entry-after Inv-loop μ-loop)
+    → c .entry-after .result ≡ nth (entriesOf (c .before .before .before .before .args .s .now)) (c .before .before .loop .n)
+here c = let l = c .before .before in nth-after _ _ _ (omega (arith, l .loop .inv .0)) (omega arith) (c .entry-after .ensures)
 
 loop-holds : tie.Need-loop-holds Inv-loop μ-loop
 loop-holds c = (omega arith, omega arith, levels-start _ _, rw add-sub-cancel)
 
 level-under-requires : tie.Need-level-under-requires Inv-loop μ-loop
 level-under-requires c κs =
-    let l = c .before .before .before .before .before .before .before in
+    let l = c .before .before .before .before .before .before in
     let small = level-small _ _ _ _ (l .loop .inv .2) (l .loop .inv .0) (here (c .before .before .before .before))
-    (c .before .before .level-by .ensures) (c .before .entry-row .ensures) (c .if2 .left) in
+    (c .before .before .level-by .ensures) (c .before .entry-refusal .ensures) (c .if2 .left) in
     omega arith
 
 loop-again : tie.Need-loop-again Inv-loop μ-loop
 loop-again c =
-    let l = c .before .before .before .before .before .before .before .before in
+    let l = c .before .before .before .before .before .before .before in
     let e = here (c .before .before .before .before .before) in
     let lv = c .before .before .before .level-by .ensures in
-    let r = c .before .before .entry-row .ensures in
+    let r = c .before .before .entry-refusal .ensures in
     let z = c .before .if2 .left in (
       omega arith,
       omega arith,
       levels-more _ _ _ _ (l .loop .inv .2) (l .loop .inv .0) e lv r z (omega arith) (c .level-under .ensures),
-      l .loop .inv .3 ∙ entries-more _ _ _ _ (l .loop .inv .2) (l .loop .inv .0) e lv r _ (c .before .before .before .before .before .before .before .if1 .left) z,
+      l .loop .inv .3 ∙ entries-more _ _ _ _ (l .loop .inv .2) (l .loop .inv .0) e lv r _ (c .before .before .before .before .before .before .if1 .left) z,
     )
 
 returns : tie.Need-returns Inv-loop μ-loop
@@ -55,13 +53,13 @@ returns c = sym (c .before .loop .inv .3 ∙ entries-end _ _ _ _ (c .if1 .taken)
 
 returns-2 : tie.Need-returns-2 Inv-loop μ-loop
 returns-2 c =
-    let l = c .before .before .before .before .before .before .before in
+    let l = c .before .before .before .before .before .before in
     sym (l .loop .inv .3 ∙ entries-found _ _ _ _ (l .loop .inv .2) (l .loop .inv .0) (here (c .before .before .before .before))
-    (c .before .before .level-by .ensures) (c .before .entry-row .ensures) _ (c .before .before .before .before .before .before .if1 .left) (c .if2 .taken))
+    (c .before .before .level-by .ensures) (c .before .entry-refusal .ensures) _ (c .before .before .before .before .before .if1 .left) (c .if2 .taken))
 
 pub first-entry-fault-spec : {M : Type 1} → statement M
 first-entry-fault-spec =
     tie.close
-    (tie.spec Inv-loop μ-loop (λ c. search needs) loop-holds (λ c κs. search needs) (λ c κs. search needs)
+    (tie.spec Inv-loop μ-loop (λ c. search needs) loop-holds (λ c. search needs) (λ c. search needs) (λ c κs. search needs)
     (λ c κs. search needs) (λ c κs. search needs) (λ c. search needs) level-under-requires (λ c. search needs)
     (λ c. search needs) (λ c. search needs) loop-again returns returns-2)

@@ -1,7 +1,7 @@
 -- `fill_accepted` meets its contract: the tables are cleared, then filled.
 use borrow.Author.Needs.{needs}
 use mathlib.Core.Path.{refl}
-use Rattle.slots.proofs.UnheldLaws.{accepted-few}
+use Rattle.slots.proofs.FailingLaws.{accepted-few}
 use Rattle.slots.proofs.filling.fill_accepted.Statement.{statement}
 use Rattle.slots.proofs.filling.fill_accepted.Tie as tie
 

@@ -22,7 +22,7 @@ returns c =
     block-done (a .args .i) (a .args .used) (map rowBytes rows) _
     (simp (length-map, length-take, length-drop) (omega arith)) (rows-packed rows) (omega arith) (omega arith)
     (h .put-word .ensures) (g .put-word2 .ensures) (f .put-rows .ensures) (e .put-zeros .ensures) (d .put-word3 .ensures)
-    (b .before .before .check-at .ensures (omega arith)) (b .put-word4 .ensures)
+    (b .before .before .block-check .ensures) (b .put-word4 .ensures)
 
 pub put-block-spec : {M : Type 1} → statement M
 put-block-spec =
@@ -30,5 +30,5 @@ put-block-spec =
     (tie.spec (λ c. search needs) (λ c. search needs) (λ c. search needs) (λ c κs. search needs) (λ c. search needs)
     (λ c. search needs) (λ c κs. search needs) (λ c. search needs) (λ c. search needs) (λ c κs. search needs)
     (λ c. search needs) (λ c. search needs) (λ c. search needs) (λ c. search needs) (λ c. search needs)
-    (λ c κs. search needs) (λ c. search needs) (λ c κs. search needs) (λ c κs. search needs) (λ c. search needs)
-    (λ c κs. search needs) (λ c. search needs) returns)
+    (λ c κs. search needs) (λ c. search needs) (λ c κs. search needs) (λ c. search needs) (λ c κs. search needs)
+    (λ c. search needs) (λ c κs. search needs) (λ c. search needs) returns)

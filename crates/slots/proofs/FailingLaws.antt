@@ -27,8 +27,8 @@ use Rattle.passes.proofs.Cells.CellsWritten.{kept}
 use Rattle.passes.specs.code.Slots.{Slot, inconsistent, settled, slot, slots}
 use Rattle.slots.proofs.HoldingLaws.{bottom-first, slots-first}
 use Rattle.slots.proofs.slots.TableLaws.{length-slots}
-use Rattle.slots.specs.Holding.{heldBy, holdingOf, holdingReturned, unheld}
-use Rattle.slots.specs.code.States.{Indexed, heldIn}
+use Rattle.slots.specs.Holding.{holdingBy, holdingOf, holdingReturned, failingIn}
+use Rattle.slots.specs.code.States.{Indexed, holdsBySlots}
 use Rattle.slots.specs.code.Tables.{Chained}
 use Rattle.slots.specs.declared.Holding.the-variants.{All, Fails, Refused}
 
@@ -47,7 +47,7 @@ module _ (c d : List ℕ) where
     second-refused f = rw (holdingOf, e, f)
 
     -- both are accepted
-    pub both-read : {m : ℕ} → readingOf Description 2 d ≡ reading.Accepted m → holdingOf c d ≡ heldBy (unheld c d)
+    pub both-read : {m : ℕ} → readingOf Description 2 d ≡ reading.Accepted m → holdingOf c d ≡ holdingBy (failingIn c d)
     unfolding holdingOf
     both-read f = rw (holdingOf, e, f)
 
@@ -72,11 +72,11 @@ module _ (c d : List ℕ) where
       by-first (reading.Refused k i p) q = f k i p q
       by-first (reading.Accepted n) q = by-second n q (readingOf Description 2 d) refl
 
-  held-all : BothRead c d → unheld c d ≡ 0 → holdingOf c d ≡ All
-  held-all r z = both-read c d (r .first-read) (r .second-read) ∙ rw (eq-eqb z)
+  none-fails : BothRead c d → failingIn c d ≡ 0 → holdingOf c d ≡ All
+  none-fails r z = both-read c d (r .first-read) (r .second-read) ∙ rw (eq-eqb z)
 
-  held-fails : BothRead c d → unheld c d ≢ 0 → holdingOf c d ≡ Fails (unheld c d)
-  held-fails r z = both-read c d (r .first-read) (r .second-read) ∙ rw (ne-eqb z)
+  some-fails : BothRead c d → failingIn c d ≢ 0 → holdingOf c d ≡ Fails (failingIn c d)
+  some-fails r z = both-read c d (r .first-read) (r .second-read) ∙ rw (ne-eqb z)
 
   -- what each answer says
   pub refused-by : {X : Type 0} {k i p : ℕ} → holdingOf c d ≡ Refused k i p → (readingOf Description 1 c ≡ reading.Refused k i p → X)
@@ -85,27 +85,27 @@ module _ (c d : List ℕ) where
       holding-cases
       (λ k′ i′ p′ q. let y = first-refused c d q in let a : k′ ≡ k = cc in let b : i′ ≡ i = cc in let z : p′ ≡ p = cc in f (q ∙ rw (a, b, z)))
       (λ n k′ i′ p′ r q. let y = second-refused c d r q in let a : k′ ≡ k = cc in let b : i′ ≡ i = cc in let z : p′ ≡ p = cc in g n r (q ∙ rw (a, b, z)))
-      (λ r. eq-cases (unheld c d) 0
-      (λ z. let y = held-all r z in let w : _≡_ {A = ℕ} 0 1 = cc in absurd (omega arith))
-      (λ z. let y = held-fails r z in let w : _≡_ {A = ℕ} 0 1 = cc in absurd (omega arith)))
+      (λ r. eq-cases (failingIn c d) 0
+      (λ z. let y = none-fails r z in let w : _≡_ {A = ℕ} 0 1 = cc in absurd (omega arith))
+      (λ z. let y = some-fails r z in let w : _≡_ {A = ℕ} 0 1 = cc in absurd (omega arith)))
 
-  pub all-held : holdingOf c d ≡ All → BothRead c d × (unheld c d ≡ 0)
-  all-held e =
+  pub all-hold : holdingOf c d ≡ All → BothRead c d × (failingIn c d ≡ 0)
+  all-hold e =
       holding-cases
       (λ k i p q. let y = first-refused c d q in let w : _≡_ {A = ℕ} 0 1 = cc in absurd (omega arith))
       (λ n k i p r q. let y = second-refused c d r q in let w : _≡_ {A = ℕ} 0 1 = cc in absurd (omega arith))
-      (λ r. eq-cases (unheld c d) 0
+      (λ r. eq-cases (failingIn c d) 0
       (λ z. (r, z))
-      (λ z. let y = held-fails r z in let w : _≡_ {A = ℕ} 0 1 = cc in absurd (omega arith)))
+      (λ z. let y = some-fails r z in let w : _≡_ {A = ℕ} 0 1 = cc in absurd (omega arith)))
 
-  pub one-fails : {n : ℕ} → holdingOf c d ≡ Fails n → BothRead c d × (unheld c d ≡ n) × (n ≢ 0)
+  pub one-fails : {n : ℕ} → holdingOf c d ≡ Fails n → BothRead c d × (failingIn c d ≡ n) × (n ≢ 0)
   one-fails {n} e =
       holding-cases
       (λ k i p q. let y = first-refused c d q in let w : _≡_ {A = ℕ} 0 1 = cc in absurd (omega arith))
       (λ m k i p r q. let y = second-refused c d r q in let w : _≡_ {A = ℕ} 0 1 = cc in absurd (omega arith))
-      (λ r. eq-cases (unheld c d) 0
-      (λ z. let y = held-all r z in let w : _≡_ {A = ℕ} 0 1 = cc in absurd (omega arith))
-      (λ z. let y = held-fails r z in let f : unheld c d ≡ n = cc in (r, f, λ q. z (f ∙ q))))
+      (λ r. eq-cases (failingIn c d) 0
+      (λ z. let y = none-fails r z in let w : _≡_ {A = ℕ} 0 1 = cc in absurd (omega arith))
+      (λ z. let y = some-fails r z in let f : failingIn c d ≡ n = cc in (r, f, λ q. z (f ∙ q))))
 
 -- ---- the paper's numbers
 
@@ -121,10 +121,10 @@ module _ (c d : List ℕ) where
   returned-second n f = ap holdingReturned (second-refused c d (accepted-by-none Description 1 c n) (refused-by-first Description 2 d f))
 
   -- otherwise the number of the first that fails
-  pub returned-unheld : None (faults Description c) → None (faults Description d) → holdingReturned (holdingOf c d) .entry ≡ unheld c d
-  returned-unheld n m =
+  pub returned-failing : None (faults Description c) → None (faults Description d) → holdingReturned (holdingOf c d) .entry ≡ failingIn c d
+  returned-failing n m =
       rw (both-read c d (accepted-by-none Description 1 c n) (accepted-by-none Description 2 d m))
-      (eq-cases (unheld c d) 0 (λ z. rw (eq-eqb z, z)) (λ z. rw (ne-eqb z)))
+      (eq-cases (failingIn c d) 0 (λ z. rw (eq-eqb z, z)) (λ z. rw (ne-eqb z)))
 
 -- ---- two descriptions
 
@@ -157,18 +157,18 @@ module _ {c t next head bad full : List ℕ} {used : ℕ} (s : Chained c used t 
   ss = slots (map rowOf (entriesOf c))
 
   -- nothing fits the first
-  pub unheld-none : {b : ℕ} → b ≡ getD bad 0 0 → b ≢ 0 → 0 ≡ unheld c d
-  unfolding unheld
-  unheld-none e z = sym (bottom-first (entriesOf c) (entriesOf d) (bit-true (inconsistent 1 ss 0) (λ q. z (e ∙ s .settled′ .bads ∙ q))))
+  pub failing-none-in : {b : ℕ} → b ≡ getD bad 0 0 → b ≢ 0 → 0 ≡ failingIn c d
+  unfolding failingIn
+  failing-none-in e z = sym (bottom-first (entriesOf c) (entriesOf d) (bit-true (inconsistent 1 ss 0) (λ q. z (e ∙ s .settled′ .bads ∙ q))))
 
   few-slots : length ss ≤ used
   few-slots = omega (arith, length-settled 1 ss, ap length (s .settled′ .slotted), length-slots t 1 used)
 
   -- what is found by them is the first that is not held
-  pub unheld-found : {b m r : ℕ} → b ≡ getD bad 0 0 → b ≡ 0 → readingOf Description 2 d ≡ reading.Accepted m
-      → r ≡ firstFrom (heldIn (slots (map rowOf (entriesOf c))) (entriesOf d)) 1 m → r ≡ unheld c d
-  unfolding unheld
-  unheld-found {m = m} e z f h =
-      h ∙ ap (firstFrom (heldIn ss (entriesOf d)) 1) (accepted-few 2 d f .0)
+  pub failing-found : {b m r : ℕ} → b ≡ getD bad 0 0 → b ≡ 0 → readingOf Description 2 d ≡ reading.Accepted m
+      → r ≡ firstFrom (holdsBySlots (slots (map rowOf (entriesOf c))) (entriesOf d)) 1 m → r ≡ failingIn c d
+  unfolding failingIn
+  failing-found {m = m} e z f h =
+      h ∙ ap (firstFrom (holdsBySlots ss (entriesOf d)) 1) (accepted-few 2 d f .0)
       ∙ slots-first (entriesOf c) (entriesOf d) (omega (arith, few-slots, s .settled′ .few)) (sound-of-accepted Description 2 d f .entries)
       (bit-false (inconsistent 1 ss 0) (sym (s .settled′ .bads) ∙ sym e ∙ z))

@@ -1,4 +1,4 @@
--- `first_failing` meets its contract: the first entry that fails is the first from entry n on.
+-- `first_failing_entry` meets its contract: the first entry that fails is the first from entry n on.
 use Prim.Native.Nat.{_+_, _-_, _<_, _≤_, ℕ}
 use borrow.Author.Needs.{needs}
 use lib.ListN.{getD, length, length-replicate, length-set}
@@ -13,16 +13,16 @@ use Rattle.blocks.specs.Owners.{ownerOf}
 use Rattle.blocks.specs.declared.Entry.{Entry}
 use Rattle.meaning.proofs.Verdicts.FirstLaws.{first-end, first-goes, first-stops}
 use Rattle.passes.specs.code.Slots.{Slot}
-use Rattle.slots.proofs.states.SlotStates.{States, held-here, small-more, small-start, states-more, states-owner, states-start}
-use Rattle.slots.specs.code.States.{Indexed, heldAt, heldIn, stateBelow, stateOf}
-use Rattle.slots.proofs.states.first_failing.Statement.{statement}
-use Rattle.slots.proofs.states.first_failing.Tie as tie
+use Rattle.slots.proofs.states.SlotStates.{States, holds-here, small-more, small-start, states-more, states-owner, states-start}
+use Rattle.slots.specs.code.States.{Indexed, holdsInState, holdsBySlots, stateBelow, stateOf}
+use Rattle.slots.proofs.states.first_failing_entry.Statement.{statement}
+use Rattle.slots.proofs.states.first_failing_entry.Tie as tie
 
 abbrev Inv-loop : tie.InvT-loop
 Inv-loop table next head used d total states₀ n₀ states n =
     (1 ≤ n) × (n ≤ total + 1) × (length states ≡ 1009) × ((j : ℕ) → getD states j 0 ≤ 1024)
     × ((ss : List Slot) → Indexed ss table next head used → States ss (entriesOf d) states n)
-    × ((ss : List Slot) → Indexed ss table next head used → firstFrom (heldIn ss (entriesOf d)) 1 total ≡ firstFrom (heldIn ss (entriesOf d)) n (total + 1 - n))
+    × ((ss : List Slot) → Indexed ss table next head used → firstFrom (holdsBySlots ss (entriesOf d)) 1 total ≡ firstFrom (holdsBySlots ss (entriesOf d)) n (total + 1 - n))
 
 abbrev μ-loop : tie.MeasureT-loop
 μ-loop table next head used d total states₀ n₀ states n = total + 1 - n
@@ -53,13 +53,13 @@ state-read c ss t =
     ∙ states-owner ss _ (a .pre .4) (l .loop .n) (l .loop .inv .0) (omega (arith, c .before .before .before .if1 .left, a .pre .2)) (l .loop .inv .4 ss t)
 
 -- what is answered of the entry
-entry-held : (c : tie.After-held Inv-loop μ-loop) (ss : List Slot) → Indexed ss (c .before .before .before .before .before .before .before .args .table .now) (c .before .before .before .before .before .before .before .args .next .now) (c .before .before .before .before .before .before .before .args .head .now) (c .before .before .before .before .before .before .before .args .used)
-    → heldIn ss (entriesOf (c .before .before .before .before .before .before .before .args .d .now)) (c .before .before .before .before .before .loop .n) ≡ c .held .result
+entry-held : (c : tie.After-holds Inv-loop μ-loop) (ss : List Slot) → Indexed ss (c .before .before .before .before .before .before .before .args .table .now) (c .before .before .before .before .before .before .before .args .next .now) (c .before .before .before .before .before .before .before .args .head .now) (c .before .before .before .before .before .before .before .args .used)
+    → holdsBySlots ss (entriesOf (c .before .before .before .before .before .before .before .args .d .now)) (c .before .before .before .before .before .loop .n) ≡ c .holds .result
 entry-held c ss t =
     let l = c .before .before .before .before .before in
     let a = l .before .before in
-    held-here ss _ (a .pre .4) (l .loop .n) (l .loop .inv .0) (omega (arith, c .before .before .before .before .if1 .left, a .pre .2))
-    (c .held .ensures ss t ∙ ap (heldAt ss _) (entry-read (c .before .before .before))) (state-read (c .before) ss t)
+    holds-here ss _ (a .pre .4) (l .loop .n) (l .loop .inv .0) (omega (arith, c .before .before .before .before .if1 .left, a .pre .2))
+    (c .holds .ensures ss t ∙ ap (holdsInState ss _) (entry-read (c .before .before .before))) (state-read (c .before) ss t)
 
 loop-holds : tie.Need-loop-holds Inv-loop μ-loop
 loop-holds c = (
@@ -74,8 +74,8 @@ loop-holds c = (
 array-read-long : tie.Need-array-read-long Inv-loop μ-loop
 array-read-long c = let o = owner-read c in let l = c .before .before .before in omega (arith, o .1, c .before .before .if1 .left, l .before .before .pre .3)
 
-held-requires : tie.Need-held-requires Inv-loop μ-loop
-held-requires c κs = let a = c .before .before .before .before .before .before in (a .pre .0, a .pre .1, state-small c)
+holds-requires : tie.Need-holds-requires Inv-loop μ-loop
+holds-requires c κs = let a = c .before .before .before .before .before .before in (a .pre .0, a .pre .1, state-small c)
 
 leads-to-requires : tie.Need-leads-to-requires Inv-loop μ-loop
 leads-to-requires c κs = let a = c .before .before .before .before .before .before .before .before in (a .pre .0, a .pre .1, state-small (c .before .before))
@@ -115,7 +115,7 @@ returns-2 c =
       λ ss t. sym (l .loop .inv .5 ss t ∙ first-stops _ _ _ (omega (arith, b)) (entry-held (c .before) ss t ∙ false-of-not _ (c .if2 .taken))),
     )
 
-pub first-failing-spec : {M : Type 1} → statement M
-first-failing-spec =
+pub first-failing-entry-spec : {M : Type 1} → statement M
+first-failing-entry-spec =
     tie.close
-    (tie.spec Inv-loop μ-loop loop-holds (λ c κs. search needs) (λ c κs. search needs) (λ c. search needs) array-read-long (λ c κs. search needs) held-requires leads-to-requires cast-states (λ c. search needs) array-write-states (λ c. search needs) (λ c. search needs) loop-again returns returns-2)
+    (tie.spec Inv-loop μ-loop loop-holds (λ c κs. search needs) (λ c κs. search needs) (λ c. search needs) array-read-long (λ c κs. search needs) holds-requires leads-to-requires cast-states (λ c. search needs) array-write-states (λ c. search needs) (λ c. search needs) loop-again returns returns-2)

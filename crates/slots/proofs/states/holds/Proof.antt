@@ -1,36 +1,36 @@
--- `held` meets its contract.
+-- `holds` meets its contract.
 use borrow.Author.Needs.{needs}
 use mathlib.Core.Path.{_∙_, ap}
 use native.Mathlib.Omega.{arith}
 use Rattle.base.proofs.Tests.{eq-eqb, ne-eqb}
 use Rattle.slots.proofs.states.BoundLaws.{bounds-high, bounds-low}
-use Rattle.slots.specs.code.States.{heldAt}
+use Rattle.slots.specs.code.States.{holdsInState}
 use Rattle.slots.specs.code.Tables.{highIn}
-use Rattle.slots.proofs.states.held.Statement.{statement}
-use Rattle.slots.proofs.states.held.Tie as tie
+use Rattle.slots.proofs.states.holds.Statement.{statement}
+use Rattle.slots.proofs.states.holds.Tie as tie
 
 returns : tie.Need-returns
-unfolding heldAt
-returns c = λ ss i. rw (heldAt, eq-eqb (c .if1 .taken))
+unfolding holdsInState
+returns c = λ ss i. rw (holdsInState, eq-eqb (c .if1 .taken))
 
 returns-2 : tie.Need-returns-2
-unfolding heldAt
-returns-2 c = λ ss i. rw (heldAt, ne-eqb (c .before .if1 .left), eq-eqb (c .if2 .taken))
+unfolding holdsInState
+returns-2 c = λ ss i. rw (holdsInState, ne-eqb (c .before .if1 .left), eq-eqb (c .if2 .taken))
 
 bounds-requires : tie.Need-bounds-requires
 bounds-requires c κs = omega (arith, c .entry-slot .ensures .0, c .before .before .before .before .pre .1)
 
 returns-3 : tie.Need-returns-3
-unfolding heldAt
+unfolding holdsInState
 returns-3 c = λ ss i.
     let s = c .before .before .before .before in
     let e = s .entry-slot .ensures in
     let x = c .before .before .before .bounds .ensures in
     let lo = c .before .before .low-in .ensures .0 ∙ bounds-low i (e .0) x in
     let hi = ap highIn (c .before .high-in .ensures .0) ∙ bounds-high i (e .0) x in
-    rw (heldAt, ne-eqb (c .before .before .before .before .before .before .if1 .left), ne-eqb (c .before .before .before .before .before .if2 .left), ← e .1 ss i, ← lo, ← hi) (c .supported .ensures)
+    rw (holdsInState, ne-eqb (c .before .before .before .before .before .before .if1 .left), ne-eqb (c .before .before .before .before .before .if2 .left), ← e .1 ss i, ← lo, ← hi) (c .supported .ensures)
 
-pub held-spec : {M : Type 1} → statement M
-held-spec =
+pub holds-spec : {M : Type 1} → statement M
+holds-spec =
     tie.close
     (tie.spec returns returns-2 (λ c κs. search needs) bounds-requires (λ c κs. search needs) (λ c κs. search needs) (λ c κs. search needs) returns-3)

@@ -1,8 +1,8 @@
 -- `answer_of` meets its contract.
 use borrow.Author.Needs.{needs}
 use Rattle.base.proofs.Tests.{eq-eqb, ne-eqb}
-use Rattle.slots.proofs.unheld.answer_of.Statement.{statement}
-use Rattle.slots.proofs.unheld.answer_of.Tie as tie
+use Rattle.slots.proofs.failing.answer_of.Statement.{statement}
+use Rattle.slots.proofs.failing.answer_of.Tie as tie
 
 returns : tie.Need-returns
 returns c = rw (eq-eqb (c .if1 .taken))
