@@ -3,7 +3,7 @@
 use Prim.Native.Nat.{ℕ, zero, suc, _+_, _*_, _<_}
 use mathlib.Core.Bool.{Bool, cond, _&&_, _||_}
 use mathlib.Core.List.{List, [], _∷_, _++_}
-use lib.ListN.{getD}
+use lib.ListN.{getD, length}
 use lib.Dec.{eqb, leb, ltb}
 use Rattle.blocks.specs.Words.{wordAt, wordBytes}
 use Rattle.blocks.specs.Frame.{plain, entryPos, totalIn}
@@ -57,6 +57,10 @@ zeroEntry = record { kind = 0; reserved = 0; owner = 0; name = 0; number = 0 }
 unfoldable pub nth : List Entry → ℕ → Entry
 nth es zero = zeroEntry
 nth es (suc k) = getD es k zeroEntry
+
+-- the entry whose bytes start at an offset, and the zero entry where they are not all there
+unfoldable pub entryWhole : List ℕ → ℕ → Entry
+entryWhole s at = cond (leb (at + 8) (length s)) (entryFrom s at) zeroEntry
 
 -- entry n of the blocks s that have `total` entries, read by number
 unfoldable pub entryOf : List ℕ → ℕ → ℕ → Entry

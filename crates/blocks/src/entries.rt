@@ -3,7 +3,7 @@ ghost use mathlib.Core.Path.{_≡_};
 ghost use Prim.Native.Nat.{_+_, _*_, _/_, _^_, _≤_};
 ghost use lib.ListN.{length};
 ghost use Rattle.blocks.specs.Frame.{plain, entryPos};
-ghost use Rattle.blocks.specs.Entries.{entryAt, entryFrom, entryOf, packed, zeroEntry};
+ghost use Rattle.blocks.specs.Entries.{entryFrom, entryOf, entryWhole, packed, zeroEntry};
 use crate::Entry;
 use crate::Link;
 use crate::Property;
@@ -96,16 +96,18 @@ pub fn nth_entry(s: &[u8], total: usize, n: usize) -> Entry
     entry_near_end(s, at)
 }
 
-// The entry before which so many others stand, whatever the total; a byte past the end reads 0. For a reader that goes over all entries
-// of blocks that it has counted: one test an entry.
-pub fn entry_after(s: &[u8], others: u16) -> Entry
-    ensures { λ r. ⌜ r ≡ entryAt (now (s .entry)) (others + 1) ⌝ }
+// The entry whose bytes start at an index; the zero entry where they are not all there. For a reader that goes over counted entries, one
+// after the other.
+pub fn entry_at(s: &[u8], at: usize) -> Entry
+    ensures { λ r. ⌜ r ≡ entryWhole (now (s .entry)) at ⌝ }
 {
-    let at = entry_pos(others as usize + 1);
-    if at + 8 <= s.len() {
-        return entry_from(s, at);
+    if s.len() < 8 {
+        return zero_entry();
     }
-    entry_near_end(s, at)
+    if s.len() - 8 < at {
+        return zero_entry();
+    }
+    entry_from(s, at)
 }
 
 // An entry as one number: its 8 bytes, low byte first.

@@ -6,7 +6,7 @@
 mod entries;
 mod words;
 
-pub use entries::entry_after;
+pub use entries::entry_at;
 pub use entries::nth_entry;
 pub use entries::pack;
 pub use words::block_check;

@@ -1,14 +1,15 @@
 // The rules of single entries: the table of kinds, owners and depths, numbers 4, 5 and 6 of the table of refusals.
 ghost use mathlib.Core.Path.{_≡_};
-ghost use Prim.Native.Nat.{_+_, _*_, _/_, _≤_, _<_};
+ghost use Prim.Native.Nat.{ℕ, _+_, _*_, _/_, _≤_, _<_};
 ghost use lib.ListN.{length};
 ghost use Rattle.blocks.specs.Entries.{kindOk, nameOk, numberOk, formOk, owningKind, entriesOf};
 ghost use Rattle.blocks.specs.Faults.{entryFaults, first};
+ghost use Rattle.blocks.specs.Frame.{entryPos, plain};
 ghost use Rattle.blocks.specs.code.ReadingSteps.{levelBy, entryRefusal, levelUnder};
 use blocks::Entry;
 use blocks::Finding;
 use blocks::Schema;
-use blocks::entry_after;
+use blocks::entry_at;
 
 // Whether a kind stands in the schema's table.
 fn kind_ok(schema: Schema, kind: u8) -> bool
@@ -102,6 +103,17 @@ fn level_under(schema: Schema, kind: u8, l: u8) -> u8
     }
 }
 
+// The place of the entry after the one at this place: 8 bytes on, and 16 from the last of a block.
+fn next_pos(at: usize) -> usize
+    requires { ⌜ at ≤ 65536 ⌝ }
+    ensures { λ r. ⌜ ((n : ℕ) → 1 ≤ n → at ≡ entryPos plain n → r ≡ entryPos plain (n + 1)) ⌝ }
+{
+    if at % 512 == 500 {
+        return at + 16;
+    }
+    at + 8
+}
+
 // The lowest of `total` entries that breaks number 4, 5 or 6. One pass: each entry is decoded once, and a table holds the level
 // of each entry before it, so that neither its owner nor its chain of owners is looked up again.
 pub(crate) fn first_entry_fault(s: &[u8], schema: Schema, total: usize) -> Finding
@@ -111,17 +123,19 @@ pub(crate) fn first_entry_fault(s: &[u8], schema: Schema, total: usize) -> Findi
     let mut level = [0u8; 2017];
     level[0] = 1;
     let mut n: usize = 1;
+    let mut at: usize = 4;
     loop {
         if total < n {
             break Finding::Clean;
         }
-        let e = entry_after(s, (n - 1) as u16);
+        let e = entry_at(s, at);
         let l = level_by(&level, n, e.owner);
         let number = entry_refusal(schema, e, l);
         if number != 0 {
             break Finding::Faulty(number, n as u16);
         }
         level[n] = level_under(schema, e.kind, l);
+        at = next_pos(at);
         n += 1;
     }
 }

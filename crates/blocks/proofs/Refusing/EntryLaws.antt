@@ -1,6 +1,6 @@
 -- Laws of entries read by number.
 -- Assumes nothing.
-use Prim.Native.Nat.{_*_, _+_, _/_, _<_, _≤_, suc, zero, ℕ}
+use Prim.Native.Nat.{_%_, _*_, _+_, _/_, _<_, _≤_, suc, zero, ℕ}
 use lib.Dec.{ltb}
 use lib.ListN.{List·getD-eq-default, length}
 use mathlib.Core.Bool.{true}
@@ -12,7 +12,7 @@ use Rattle.base.proofs.Lists.{getD-listed}
 use Rattle.base.proofs.Tests.{and-zero, gt-leb, le-leb, lt-cases, tests}
 use Rattle.blocks.proofs.Format.EntryBytes.{entries-listed, length-entries}
 use Rattle.blocks.proofs.words.WordLaws.{word-past}
-use Rattle.blocks.specs.Entries.{entriesOf, entryAt, entryFrom, entryOf, nth, zeroEntry}
+use Rattle.blocks.specs.Entries.{entriesOf, entryAt, entryFrom, entryOf, entryWhole, nth, zeroEntry}
 use Rattle.blocks.specs.Frame.{entryPos, plain, totalIn}
 use Rattle.blocks.specs.declared.Entry.{Entry}
 
@@ -32,6 +32,11 @@ entry-past s at h =
 pos-bound : (n : ℕ) → 1 ≤ n → 8 * n ≤ entryPos plain n + 4
 unfolding entryPos
 pos-bound n h = omega arith
+
+-- and ends in its block
+pub pos-block : (n : ℕ) → 1 ≤ n → entryPos plain n + 12 ≤ 512 * ((n + 62) / 63)
+unfolding entryPos
+pos-block n h = omega arith
 
 -- ---- the entries of an input
 
@@ -63,14 +68,35 @@ pub of-found : (s : List ℕ) (total n : ℕ) {at : ℕ} {r : Entry} → n ≢ 0
 unfolding entryAt
 of-found s total n z h p e = (rw p at e) ∙ sym (of-within s total n z h)
 
--- an entry that was read at its place
-pub at-found : (s : List ℕ) (n : ℕ) {at : ℕ} {r : Entry} → at ≡ entryPos plain n → r ≡ entryFrom s at → r ≡ entryAt s n
-unfolding entryAt
-at-found s n p e = rw p at e
+-- an entry whose bytes are all there, and one of which some are not
+pub whole-found : (s : List ℕ) (at : ℕ) {r : Entry} → at + 8 ≤ length s → r ≡ entryFrom s at → r ≡ entryWhole s at
+unfolding entryWhole
+whole-found s at h e = simp (entryWhole, le-leb h, e)
 
--- the entry after k others is that of the list
-pub nth-after : (s : List ℕ) (n k : ℕ) {e : Entry} → n ≡ k + 1 → n ≤ length (entriesOf s) → e ≡ entryAt s (k + 1) → e ≡ nth (entriesOf s) n
-nth-after s n k h le e = (rw (← h) at e) ∙ sym (nth-entries s n (omega arith) (omega (arith, length-entries s)))
+pub whole-none : (s : List ℕ) (at : ℕ) {r : Entry} → length s < at + 8 → r ≡ zeroEntry → r ≡ entryWhole s at
+unfolding entryWhole
+whole-none s at h e = simp (entryWhole, gt-leb h, e)
+
+-- the entry at its place is that of the list, where the list's blocks are all there
+pub nth-whole : (s : List ℕ) (n : ℕ) {at : ℕ} {e : Entry} → 1 ≤ n → n ≤ length (entriesOf s) → 512 * ((length (entriesOf s) + 62) / 63) ≤ length s
+    → at ≡ entryPos plain n → e ≡ entryWhole s at → e ≡ nth (entriesOf s) n
+unfolding entryWhole entryAt
+nth-whole s n h le whole p e =
+    let q : entryPos plain n + 8 ≤ length s = omega (arith, pos-block n (omega arith)) in
+    (rw (p, entryWhole, le-leb q) at e) ∙ sym (nth-entries s n (omega arith) (omega (arith, length-entries s)))
+
+-- the place of the next entry: 8 bytes on, and 16 from the last of a block
+pub pos-first : 4 ≡ entryPos plain 1
+unfolding entryPos
+pos-first = omega arith
+
+pub pos-next : (n : ℕ) {at : ℕ} → 1 ≤ n → at ≡ entryPos plain n → at % 512 ≢ 500 → at + 8 ≡ entryPos plain (n + 1)
+unfolding entryPos
+pos-next n h e z = omega arith
+
+pub pos-over : (n : ℕ) {at : ℕ} → 1 ≤ n → at ≡ entryPos plain n → at % 512 ≡ 500 → at + 16 ≡ entryPos plain (n + 1)
+unfolding entryPos
+pos-over n h e z = omega arith
 
 -- by number from the blocks, and by number from the list
 pub of-nth : (s : List ℕ) (total n : ℕ) → total ≡ length (entriesOf s) → entryOf s total n ≡ nth (entriesOf s) n
