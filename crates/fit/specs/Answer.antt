@@ -2,6 +2,7 @@
 -- Assumes nothing.
 use mathlib.Core.Bool.{Bool, true, false, cond}
 use mathlib.Core.List.{List}
+use mathlib.Core.Option.{Option, none, some}
 use Prim.Native.Nat.{ℕ}
 use Rattle.blocks.specs.Entries.{entriesOf}
 use Rattle.blocks.specs.Reading.{readingOf}
@@ -31,14 +32,15 @@ firstOf s d (reading.Accepted n) = secondOf s d (readingOf Description 2 d)
 unfoldable pub fitOf : List ℕ → List ℕ → FitAnswer
 fitOf s d = firstOf s d (readingOf Specimen 1 s)
 
--- The paper's numbers for each case: yes or no, the number returned, the input and the place, 0 where nothing is refused.
+-- The paper's numbers for each case: yes or no, and neither where an input is refused; the number returned, the input and the place, 0
+-- where nothing is refused.
 pub record Returned : Type 0 where
-  pub fits : Bool
+  pub fits : Option Bool
   pub number : ℕ
   pub input : ℕ
   pub place : ℕ
 
 abbrev pub returned : FitAnswer → Returned
-returned Yes = record { fits = true; number = 0; input = 0; place = 0 }
-returned No = record { fits = false; number = 0; input = 0; place = 0 }
-returned (Refused k i p) = record { fits = false; number = k; input = i; place = p }
+returned Yes = record { fits = some true; number = 0; input = 0; place = 0 }
+returned No = record { fits = some false; number = 0; input = 0; place = 0 }
+returned (Refused k i p) = record { fits = none; number = k; input = i; place = p }

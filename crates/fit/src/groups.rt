@@ -1,21 +1,20 @@
 // What the items of one group of a specimen have: properties, and items that they are linked to.
 ghost use mathlib.Core.Path.{_≡_};
 ghost use mathlib.Core.Bool.{cond};
-ghost use Prim.Native.Nat.{_+_, _≤_, _<_};
+ghost use Prim.Native.Nat.{_≤_, _<_};
 ghost use lib.Dec.{eqb};
-ghost use lib.ListN.{getD};
 ghost use Rattle.blocks.specs.Entries.{entriesOf};
 ghost use Rattle.fit.specs.code.Groups.{hasProperty, itemsBy, totalBy, meetsAtom};
 ghost use Rattle.blocks.specs.declared.Schema.{Schema};
-ghost use Rattle.fit.specs.code.Index.{Ready, hashOf, isOf};
-use crate::index::hash;
-use crate::index::last_of;
+ghost use Rattle.fit.specs.code.Index.{Ready, isOf};
+use crate::index::last_group;
+use crate::index::last_property;
 use crate::index::previous_of;
 use blocks::Entry;
 use blocks::Link;
 use blocks::Property;
 
-// Whether an entry is of this owner, kind and name.
+// Whether an entry is of this owner, kind and name. Only the two below call it: they say which names are whose.
 fn is_of(e: Entry, owner: usize, kind: u8, name: u16) -> bool
     ensures { λ r. ⌜ r ≡ isOf e owner kind name ⌝ }
 {
@@ -43,14 +42,6 @@ pub(crate) fn is_group(e: Entry, g: usize, l: Link) -> bool
     is_of(e, g, 7, l.0)
 }
 
-// The last entry of the bucket where group g's groups by a link stand, or 0.
-pub(crate) fn last_group(index: &[u16; 4034], g: usize, l: Link) -> usize
-    requires { ⌜ g < 2017 ⌝ }
-    ensures { λ r. ⌜ r ≡ getD (now (index .entry)) (hashOf g 7 (l .0)) 0 ⌝ }
-{
-    last_of(index, hash(g, 7, l.0))
-}
-
 // Whether the items of group g have a property: whether an entry that g owns gives it.
 pub(crate) fn has_property(
     s: &[u8],
@@ -62,7 +53,7 @@ pub(crate) fn has_property(
     requires { ⌜ Ready Schema.Specimen (now s) total (now index) × (g < 2017) ⌝ }
     ensures { λ r. ⌜ r ≡ hasProperty (entriesOf (now (s .entry))) g (p .0) ⌝ }
 {
-    let mut k = last_of(index, hash(g, 1, p.0));
+    let mut k = last_property(index, g, p);
     loop {
         if k == 0 {
             break false;

@@ -6,6 +6,8 @@ ghost use lib.ListN.{length, getD, replicate};
 ghost use Rattle.blocks.specs.Entries.{entriesOf};
 ghost use Rattle.fit.specs.code.Index.{Ordered, Ready, bucketIn, hashOf};
 use blocks::Entry;
+use blocks::Link;
+use blocks::Property;
 use blocks::Schema;
 
 // An entry number as an index.
@@ -17,7 +19,7 @@ fn wide(x: u16) -> usize
 
 // The bucket of an owner, a kind and a name. Of one kind and name, different owners have different buckets: so all groups together look at
 // each entry of a specimen at most once for an entry of a description, whatever names were chosen.
-pub(crate) fn hash(owner: usize, kind: u8, name: u16) -> usize
+fn hash(owner: usize, kind: u8, name: u16) -> usize
     requires { ⌜ owner < 65536 ⌝ }
     ensures { λ r. ⌜ (r ≡ hashOf owner kind name) × (r < 2017) ⌝ }
 {
@@ -40,6 +42,22 @@ pub(crate) fn last_of(index: &[u16; 4034], b: usize) -> usize
     ensures { λ r. ⌜ r ≡ getD (now (index .entry)) b 0 ⌝ }
 {
     wide(index[b])
+}
+
+// The last entry of the bucket where group g's entry of a property stands, or 0.
+pub(crate) fn last_property(index: &[u16; 4034], g: usize, p: Property) -> usize
+    requires { ⌜ g < 2017 ⌝ }
+    ensures { λ r. ⌜ r ≡ getD (now (index .entry)) (hashOf g 1 (p .0)) 0 ⌝ }
+{
+    last_of(index, hash(g, 1, p.0))
+}
+
+// The last entry of the bucket where group g's groups by a link stand, or 0.
+pub(crate) fn last_group(index: &[u16; 4034], g: usize, l: Link) -> usize
+    requires { ⌜ g < 2017 ⌝ }
+    ensures { λ r. ⌜ r ≡ getD (now (index .entry)) (hashOf g 7 (l .0)) 0 ⌝ }
+{
+    last_of(index, hash(g, 7, l.0))
 }
 
 // The entry of the same bucket before entry k, or 0.

@@ -9,8 +9,8 @@ ghost use Rattle.blocks.specs.declared.Schema.{Schema};
 ghost use Rattle.fit.specs.code.Groups.{meetsEntry, fitsPlace};
 ghost use Rattle.fit.specs.code.Index.{Ready};
 use crate::groups::is_group;
-use crate::groups::last_group;
 use crate::groups::meets_atom;
+use crate::index::last_group;
 use crate::index::last_of;
 use crate::index::previous_of;
 
@@ -61,7 +61,7 @@ pub(crate) fn meets_entry(
     ensures { λ r. ⌜ r ≡ meetsEntry left (entriesOf (now (s .entry))) (entriesOf (now (d .entry))) g e ⌝ }
 {
     if left == 0 {
-        return true;
+        return false;
     }
     let entry = blocks::nth_entry(d, n.description, e);
     let kind = entry.kind;

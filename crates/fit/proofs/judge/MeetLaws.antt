@@ -19,7 +19,7 @@ use Rattle.fit.specs.code.Groups.{fitsPlace, groupsBy, isGroup, meetsAto
 use Rattle.fit.specs.code.Index.{Ready, bucketOf, hashOf, isOf}
 use Rattle.meaning.specs.Owned.{allOwned, allWhere}
 
-pub meets-bottom : (left : ℕ) (s d : List Entry) (g e : ℕ) → left ≡ 0 → true ≡ meetsEntry left s d g e
+pub meets-bottom : (left : ℕ) (s d : List Entry) (g e : ℕ) → left ≡ 0 → false ≡ meetsEntry left s d g e
 unfolding meetsEntry
 meets-bottom left s d g e z = rw z
 

@@ -33,9 +33,10 @@ totalBy s g l = sumOwned (λ k. itemsBy (nth s k) l) s g (length s)
 unfoldable pub groupsBy : (ℕ → Bool) → List Entry → ℕ → ℕ → Bool
 groupsBy p s g l = allOwned (λ k. not (isGroup s l k) || p k) s g (length s)
 
--- the items of group g of specimen s meet entry e of description d, which may be followed down for `left` levels more
+-- The items of group g of specimen s meet entry e of description d, which may be followed down for `left` levels more. No accepted
+-- description is followed down to the last of them; where doubt were left, the answer would be no.
 unfoldable pub meetsEntry : ℕ → List Entry → List Entry → ℕ → ℕ → Bool
-meetsEntry zero s d g e = true
+meetsEntry zero s d g e = false
 meetsEntry (suc left) s d g e =
     cond (eqb (nth d e .kind) 1) (hasProperty s g (nth d e .name))
     (cond (eqb (nth d e .kind) 2) (not (hasProperty s g (nth d e .name)))

@@ -6,7 +6,7 @@ use lib.Dec.{eqb}
 use lib.ListN.{length}
 use mathlib.Core.Bool.{Bool, false, true}
 use mathlib.Core.List.{List, [], _∷_}
-use mathlib.Core.Logic.{_≢_}
+use mathlib.Core.Logic.{_≢_, _↔_}
 use mathlib.Core.Path.{_∙_, _≡_, ap, fun-ext, refl, sym}
 use native.Mathlib.Omega.{arith}
 use Rattle.base.proofs.Tests.{eq-cases, eq-eqb, ne-eqb, tests}
@@ -37,7 +37,7 @@ here-items c (node l t r) x = rw (here-items c r x)
 
 module _ (c : Record) (d : List Entry) (L : Legal Description d) (x : ℕ) where
   -- what entry n asks of item y
-  abbrev asked : ℕ → ℕ → Bool
+  abbrev pub asked : ℕ → ℕ → Bool
   asked n y = asks (λ a. meets c a y) (λ l u. eachLinked c l y (fits c u)) d n (nth d n)
 
   -- entry n is met by all items that the links to it reach
@@ -51,6 +51,11 @@ module _ (c : Record) (d : List Entry) (L : Legal Description d) (x : ℕ) where
   -- an item fits a place if it meets the entries there
   fits-asked : (o y : ℕ) → fits c (placeOf d o) y ≡ allOwned (λ n. asked n y) d o (length d)
   fits-asked o y = here-items c (placeOf d o) y ∙ place-owned d L (λ a. meets c a y) (λ l u. eachLinked c l y (fits c u)) o
+
+  -- "An item fits a place of a description if it meets each entry there", and only then
+  pub place-met : (o y : ℕ) → (fits c (placeOf d o) y ≡ true) ↔ ((n : ℕ) → 1 ≤ n → n ≤ length d → ownerOf d n ≡ o → asked n y ≡ true)
+  place-met o y =
+      (λ h n lo hi q. owned-at (λ m. asked m y) d o (length d) (sym (fits-asked o y) ∙ h) n lo hi q, λ f. fits-asked o y ∙ owned-of (λ m. asked m y) d o (length d) f)
 
   -- the entries of a place that is fitted are met
   fitted-met : (n : ℕ) → 1 ≤ n → n ≤ length d → Fitted (ownerOf d n) → Met n

@@ -72,8 +72,8 @@ module _ (s : List Entry) where
   abbrev pub groupAt : ℕ → ℕ
   groupAt i = groupOf (getD (allItems s) i top)
 
-  -- the number of items that item i is linked to by l
-  successors-groups : (l i : ℕ) → successors (recordOf s) l i ≡ linkedItems s (groupAt i) l
+  -- "Groups of one owner and link add up": the number of items that item i is linked to by l
+  pub successors-groups : (l i : ℕ) → successors (recordOf s) l i ≡ linkedItems s (groupAt i) l
   unfolding recordOf countIn linkedItems
   successors-groups l i =
       count-list (linked l (getD (allItems s) i top)) top (allItems s) ∙ rw (count-items l (getD (allItems s) i top) 1 s) (omega arith)

@@ -28,11 +28,10 @@ abbrev μ-loop : tie.MeasureT-loop
 
 loop-holds : tie.Need-loop-holds Inv-loop μ-loop
 loop-holds c =
-    let a = c .before .before .before in
+    let a = c .before .before in
     let g = a .args .g in
     let p = a .args .p .0 in
-    let last : c .last-of .result ≡ getD (a .args .index .now) (hashOf g 1 p) 0 =
-    c .last-of .ensures ∙ ap (λ (b : ℕ). getD (a .args .index .now) b 0) (c .before .hash .ensures .0) in (
+    let last = c .last-property .ensures in (
       walk-starts (a .pre .0) (hashOf g 1 p) (hash-below g 1 p) last,
       property-bucket (entriesOf (a .args .s .now)) g p
           ∙ ap not (all-starts (a .pre .0) (hashOf g 1 p) (withoutProperty (entriesOf (a .args .s .now)) g p) (hash-below g 1 p) last),
@@ -41,18 +40,18 @@ loop-holds c =
 previous-of-requires : tie.Need-previous-of-requires Inv-loop μ-loop
 previous-of-requires c κs =
     let l = c .before .before .before .before in
-    omega (arith, l .loop .inv .0 .bound, l .before .before .before .before .pre .0 .few)
+    omega (arith, l .loop .inv .0 .bound, l .before .before .before .pre .0 .few)
 
 loop-less : tie.Need-loop-less Inv-loop μ-loop
 loop-less c =
     let l = c .before .before .before .before .before in
-    let a = l .before .before .before .before in
+    let a = l .before .before .before in
     walk-falls (a .pre .0) _ (l .loop .inv .0) (c .before .before .before .before .if1 .left) (c .previous-of .ensures)
 
 loop-again : tie.Need-loop-again Inv-loop μ-loop
 loop-again c =
     let l = c .before .before .before .before .before in
-    let a = l .before .before .before .before in
+    let a = l .before .before .before in
     let g = a .args .g in
     let p = a .args .p .0 in
     let z = c .before .before .before .before .if1 .left in (
@@ -64,13 +63,13 @@ loop-again c =
 returns : tie.Need-returns Inv-loop μ-loop
 returns c =
     let l = c .before in
-    let a = l .before .before .before .before .args in
+    let a = l .before .before .before .args in
     sym (l .loop .inv .1 ∙ ap not (all-ends (bucketOf Specimen (entriesOf (a .s .now))) (withoutProperty (entriesOf (a .s .now)) (a .g) (a .p .0)) (hashOf (a .g) 1 (a .p .0)) (c .if1 .taken)))
 
 returns-2 : tie.Need-returns-2 Inv-loop μ-loop
 returns-2 c =
     let l = c .before .before .before .before in
-    let a = l .before .before .before .before in
+    let a = l .before .before .before in
     let g = a .args .g in
     let p = a .args .p .0 in
     let z = c .before .before .before .if1 .left in
@@ -81,5 +80,5 @@ returns-2 c =
 pub has-property-spec : {M : Type 1} → statement M
 has-property-spec =
     tie.close
-    (tie.spec Inv-loop μ-loop (λ c κs. search needs) (λ c κs. search needs) loop-holds (λ c κs. search needs) (λ c κs. search needs)
+    (tie.spec Inv-loop μ-loop (λ c κs. search needs) loop-holds (λ c κs. search needs) (λ c κs. search needs)
     previous-of-requires loop-less loop-again returns returns-2)

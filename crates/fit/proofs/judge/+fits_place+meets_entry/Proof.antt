@@ -26,7 +26,7 @@ use Rattle.fit.proofs.judge.+fits_place+meets_entry.Lts-meets_entry as 
 use Rattle.blocks.proofs.Entry.link.Reads as link-reads
 use Rattle.blocks.proofs.nth_entry.Reads as nth-entry-reads
 use Rattle.fit.proofs.groups.is_group.Reads as is-group-reads
-use Rattle.fit.proofs.groups.last_group.Reads as last-group-reads
+use Rattle.fit.proofs.index.last_group.Reads as last-group-reads
 use Rattle.fit.proofs.groups.meets_atom.Reads as meets-atom-reads
 use Rattle.fit.proofs.index.last_of.Reads as last-of-reads
 use Rattle.fit.proofs.index.previous_of.Reads as previous-of-reads

@@ -3,8 +3,8 @@ use borrow.Author.Needs.{needs}
 use mathlib.Core.Path.{_∙_, ap}
 use Prim.Native.Nat.{ℕ}
 use lib.ListN.{getD}
-use Rattle.fit.proofs.groups.last_group.Statement.{statement}
-use Rattle.fit.proofs.groups.last_group.Tie as tie
+use Rattle.fit.proofs.index.last_group.Statement.{statement}
+use Rattle.fit.proofs.index.last_group.Tie as tie
 
 returns : tie.Need-returns
 returns c =
