@@ -148,7 +148,7 @@ pub(crate) fn enter(
     lo: u64,
     hi: u64,
 ) -> usize
-    requires { ⌜ Kept (now table) (now next) (now head) used × (used < 1008) × (place < 1024) × (name < 65536) × (lo < 131072) × (hi < 131072) ⌝ }
+    requires { ⌜ Kept (now table) (now next) (now head) used × (used < 1008) × (place < 1024) × (name < 65536) × (lo < 131072) × (hi ≤ 65536) ⌝ }
     ensures { λ r. ⌜ Entered (now (table .entry)) (now (next .entry)) (now (head .entry)) used place link name lo hi r (now (table .exit)) (now (next .exit)) (now (head .exit)) ⌝ }
 {
     let key = key_of(place, link, name);

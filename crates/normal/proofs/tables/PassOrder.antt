@@ -128,7 +128,7 @@ unfolding allRows rowsFrom placeOf
 rows-alive {d} {used} {t} s few z =
     let rs = map rowOf (entriesOf d) in
     let places : enoughFor rs ≤ 2018 = omega (arith, length-map (entriesOf d) rowOf, few) in
-    let lives : inconsistent 1 (slots rs) 0 ≡ false = bool-cases (inconsistent 1 (slots rs) 0) (λ e. absurd (omega (arith, z, s .bads ∙ ap bit e))) (λ e. e) in
+    let lives : inconsistent 1 (slots rs) 0 ≡ false = bool-cases (inconsistent 1 (slots rs) 0) (λ e. absurd (omega (arith, z, s .bads 0 (omega arith) ∙ ap bit e))) (λ e. e) in
     rw (keeps-same s few) (rw (rowsFrom, lives) at (normal-ordered rs t used (s .few) (s .slotted) (s .apart) 2018 places))
 
 pub rows-bottom : {d : List ℕ} {used : ℕ} {t bad full : List ℕ} → Settled d used t bad full → getD bad 0 0 ≢ 0
@@ -136,7 +136,7 @@ pub rows-bottom : {d : List ℕ} {used : ℕ} {t bad full : List ℕ} → Settle
 unfolding normalRows rowsFrom placeOf
 rows-bottom {d} s z =
     let rs = map rowOf (entriesOf d) in
-    let falls : inconsistent 1 (slots rs) 0 ≡ true = bool-cases (inconsistent 1 (slots rs) 0) (λ e. e) (λ e. absurd (z (s .bads ∙ ap bit e))) in
+    let falls : inconsistent 1 (slots rs) 0 ≡ true = bool-cases (inconsistent 1 (slots rs) 0) (λ e. e) (λ e. absurd (z (s .bads 0 (omega arith) ∙ ap bit e))) in
     sym (normal-exact rs) ∙ rw (normalRows, rowsFrom, falls)
 
 pub rows-few : (d : List ℕ) → length (entriesOf d) ≤ 1008 → length (write (nf unrestricted (placeOf (entriesOf d) 0))) ≤ 1008

@@ -2,9 +2,9 @@
 -- Assumes nothing.
 use Prim.Native.Nat.{_%_, _*_, _+_, _-_, _/_, _<_, _≤_, max, suc, zero, ℕ}
 use lib.Dec.{eqb, ltb}
-use lib.ListN.{getD, length, set}
+use lib.ListN.{getD, length, replicate, set}
 use mathlib.Core.Bool.{Bool, _&&_, _||_, cond, false, not, true}
-use mathlib.Core.List.{List, [], _∷_, map}
+use mathlib.Core.List.{List, [], _++_, _∷_, map}
 use mathlib.Core.Option.{Option, none, some}
 use mathlib.Core.Path.{_≡_}
 use Rattle.blocks.specs.Entries.{Bounded, entriesOf, nth}
@@ -12,6 +12,7 @@ use Rattle.blocks.specs.declared.Entry.{Entry}
 use Rattle.logic.specs.Normal.{found}
 use Rattle.logic.specs.Record.{bit}
 use Rattle.meaning.specs.Description.{rowOf}
+use Rattle.passes.specs.code.Keys.{keyNumber}
 use Rattle.passes.specs.code.Slots.{Slot, broken, inconsistent, nonempty, position, settled, slot, slots, tighten}
 use Rattle.slots.specs.code.Chain.{Chains}
 
@@ -36,6 +37,9 @@ lowPart x = x / 131072 % 131072
 unfoldable pub highPart : ℕ → ℕ
 highPart x = x % 131072
 
+abbrev pub slotWord : Slot → ℕ
+slotWord (slot v b n lo hi) = slotNumber (keyNumber v b n) lo (highNumber hi)
+
 unfoldable pub slotIn : ℕ → Slot
 slotIn x = slot (keyIn x / 131072) (eqb (keyIn x / 65536 % 2) 1) (keyIn x % 65536) (lowPart x) (highIn (highPart x))
 
@@ -47,6 +51,26 @@ slotsFrom t i (suc n) = slotIn (getD t i 0) ∷ slotsFrom t (suc i) n
 abbrev pub slotsIn : List ℕ → ℕ → List Slot
 slotsIn t used = slotsFrom t 1 used
 
+-- the table of some slots, and nothing else: 0 at number 0 and after them
+unfoldable pub tableOf : List Slot → List ℕ
+tableOf ss = 0 ∷ (map slotWord ss ++ replicate (1008 - length ss) 0)
+
+-- the marks of n places from place v on: 1 where the test holds, else 0
+unfoldable pub marksFrom : (ℕ → Bool) → ℕ → ℕ → List ℕ
+marksFrom f v zero = []
+marksFrom f v (suc n) = bit (f v) ∷ marksFrom f (suc v) n
+
+-- the marks of all places: the top, and one below each slot
+abbrev pub marks : (ℕ → Bool) → List ℕ
+marks f = marksFrom f 0 1009
+
+-- a table of which every number is known by its slots: upper bounds of at most 65,536, and 0 at number 0 and after the slots
+pub record Exact (t : List ℕ) (used : ℕ) : Type 0 where
+  pub size : length t ≡ 1009
+  pub high : (j : ℕ) → highPart (getD t j 0) ≤ 65536
+  pub top : getD t 0 0 ≡ 0
+  pub rest : (j : ℕ) → used < j → getD t j 0 ≡ 0
+
 -- the bucket of a key
 unfoldable pub hashOf : ℕ → ℕ
 hashOf key = key % 1021
@@ -57,7 +81,7 @@ ChainsIn t next head used = Chains hashOf (λ j. keyIn (getD t j 0)) (λ j. getD
 
 -- a table of so many slots, no two of one key, on their chains
 pub record Kept (t next head : List ℕ) (used : ℕ) : Type 0 where
-  pub size : length t ≡ 1009
+  pub exact : Exact t used
   pub nexts : length next ≡ 1009
   pub heads : length head ≡ 1021
   pub chains : ChainsIn t next head used
@@ -95,9 +119,13 @@ pub record Nodes (node : List ℕ) (used : ℕ) : Type 0 where
   pub top : getD node 0 0 ≡ 0
   pub small : (j : ℕ) → getD node j 0 ≤ used
 
--- the slots of a description stand in the table
+-- the slots of a description
+abbrev pub slotsOf : List ℕ → List Slot
+slotsOf d = slots (map rowOf (entriesOf d))
+
+-- they stand in the table
 pub record Built (d : List ℕ) (used : ℕ) (t next head : List ℕ) : Type 0 where
-  pub slotted : slots (map rowOf (entriesOf d)) ≡ slotsIn t used
+  pub slotted : slotsOf d ≡ slotsIn t used
   pub kept : Kept t next head used
   pub few : used ≤ 1008
   pub bounded : (n : ℕ) → 1 ≤ n → n ≤ length (entriesOf d) → Bounded (nth (entriesOf d) n)
@@ -115,6 +143,8 @@ pub record Settling (origin : List ℕ) (used s : ℕ) (t bad full : List ℕ) :
   pub full-size : length full ≡ 1009
   pub below : (j : ℕ) → j ≤ s → getD t j 0 ≡ getD origin j 0
   pub keys : (j : ℕ) → keyIn (getD t j 0) ≡ keyIn (getD origin j 0)
+  pub highs : (j : ℕ) → highPart (getD t j 0) ≤ highPart (getD origin j 0)
+  pub rest : (j : ℕ) → used < j → getD t j 0 ≡ getD origin j 0
   pub above : slotsFrom t (suc s) (used - s) ≡ settled (suc s) (slotsFrom origin (suc s) (used - s))
   pub bads : (v : ℕ) → v < 1009 → getD bad v 0 ≡ bit (inconsistent (suc s) (slotsFrom origin (suc s) (used - s)) v)
   pub fulls : (v : ℕ) → v < 1009 → getD full v 0 ≡ bit (nonempty (suc s) (settled (suc s) (slotsFrom origin (suc s) (used - s))) v)
@@ -131,13 +161,15 @@ pub record Slotted (t bad full : List ℕ) (s : ℕ) (t′ bad′ full′ : List
       (set full (keyIn (getD t s 0) / 131072) 1) full
 
 -- The slots of a description stand in the table, settled, each at a place of a lower number and with a key of its own; `bad` and
--- `full` are what they say of the top and of each place.
+-- `full` are what they say of each place.
 pub record Settled (d : List ℕ) (used : ℕ) (t bad full : List ℕ) : Type 0 where
   pub few : used ≤ 1008
-  pub slotted : slotsFrom t 1 used ≡ settled 1 (slots (map rowOf (entriesOf d)))
-  pub bads : getD bad 0 0 ≡ bit (inconsistent 1 (slots (map rowOf (entriesOf d))) 0)
+  pub exact : Exact t used
+  pub slotted : slotsFrom t 1 used ≡ settled 1 (slotsOf d)
+  pub bad-size : length bad ≡ 1009
+  pub bads : (v : ℕ) → v < 1009 → getD bad v 0 ≡ bit (inconsistent 1 (slotsOf d) v)
   pub full-size : length full ≡ 1009
-  pub fulls : (v : ℕ) → v < 1009 → getD full v 0 ≡ bit (nonempty 1 (settled 1 (slots (map rowOf (entriesOf d)))) v)
+  pub fulls : (v : ℕ) → v < 1009 → getD full v 0 ≡ bit (nonempty 1 (settled 1 (slotsOf d)) v)
   pub apart : (i j : ℕ) → 1 ≤ i → i < j → j ≤ used → eqb (keyIn (getD t i 0)) (keyIn (getD t j 0)) ≡ false
   pub lower : (j : ℕ) → 1 ≤ j → j ≤ used → keyIn (getD t j 0) / 131072 < j
   pub bounded : (n : ℕ) → 1 ≤ n → n ≤ length (entriesOf d) → Bounded (nth (entriesOf d) n)

@@ -10,7 +10,7 @@ tighten-requires : tie.Need-tighten-requires
 tighten-requires c κs =
     let a = c .before .before .before .before .before .before .before in
     let f = scan-some (keysOf (a .args .table .now)) _ _ (c .before .before .search .ensures) (c .before .if1 .taken) in
-    (omega (arith, f .0), a .pre .4, a .pre .5, omega (arith, f .1, c .before .before .before .before .before .before .key-of .ensures .1))
+    (omega (arith, f .0), a .pre .4, omega (arith, a .pre .5), omega (arith, f .1, c .before .before .before .before .before .before .key-of .ensures .1))
 
 returns : tie.Need-returns
 returns c =
