@@ -13,9 +13,10 @@ ghost use Rattle.slots.specs.code.States.{Indexed, entrySlot, holdsInSta
 ghost use Rattle.slots.specs.code.Tables.{Kept, highIn};
 ghost use Rattle.meaning.specs.Owned.{Owned};
 use crate::slots::high_in;
-use crate::slots::key_of;
+use crate::slots::link_key;
 use crate::slots::long;
 use crate::slots::low_in;
+use crate::slots::property_key;
 use crate::slots::search;
 use crate::slots::wide;
 use blocks::Entry;
@@ -34,7 +35,7 @@ fn property_slot(
     requires { ⌜ Kept (now table) (now next) (now head) used × (used ≤ 1008) × (place < 1024) ⌝ }
     ensures { λ r. ⌜ (r ≤ used) × ((ss : List Slot) → Indexed ss (now (table .entry)) (now (next .entry)) (now (head .entry)) used → r ≡ slotFor ss place false (p .0)) ⌝ }
 {
-    search(table, next, head, used, key_of(place, false, long(p.0)))
+    search(table, next, head, used, property_key(place, p))
 }
 
 // The slot of a link at a place, or 0.
@@ -49,7 +50,7 @@ fn link_slot(
     requires { ⌜ Kept (now table) (now next) (now head) used × (used ≤ 1008) × (place < 1024) ⌝ }
     ensures { λ r. ⌜ (r ≤ used) × ((ss : List Slot) → Indexed ss (now (table .entry)) (now (next .entry)) (now (head .entry)) used → r ≡ slotFor ss place true (l .0)) ⌝ }
 {
-    search(table, next, head, used, key_of(place, true, long(l.0)))
+    search(table, next, head, used, link_key(place, l))
 }
 
 // The slot of an entry that is no 'every', or 0.

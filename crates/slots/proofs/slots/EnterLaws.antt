@@ -147,7 +147,6 @@ module _ {t next head : List ℕ} {used : ℕ} (K : Kept t next head used) (v : 
       record {
         at = sym (position-found t v b n small s is′ 1 used (omega arith) (omega (arith, f .0)) none);
         from = omega arith;
-        to = omega (arith, f .0);
         tightened = rw (same, e, is′) (sym (tighten-found t v b n small s is′ lo hi 1 used (omega (arith, f .0, K .exact .size)) l (omega arith) (omega arith) (omega (arith, f .0)) none));
         kept = rw (same, e) (kept-tighter K s y (omega arith) (f .0) (omega (arith, f .0)) (key-made (keyIn x) _ _ (omega arith) (omega arith))
             (omega (arith, high-made (keyIn x) (max (lowPart x) lo) (min (highPart x) hi) (omega arith) (omega arith))));
@@ -165,7 +164,6 @@ module _ {t next head : List ℕ} {used : ℕ} (K : Kept t next head used) (v : 
       record {
         at = sym (position-none t v b n small 1 used none ∙ omega arith);
         from = omega arith;
-        to = omega arith;
         tightened = rw (same, e) (slots-last (set t (used + 1) y) 1 used
             ∙ rw (last, slots-other t (used + 1) y 1 used (inr (omega arith)), k, slot-made v b n lo hi small l (omega arith)) (sym (tighten-none t v b n small lo (highIn hi) 1 used none)));
         kept = rw (same′, e, f, g) (kept-new K key lo hi few l h nothing′);

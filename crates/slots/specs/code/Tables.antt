@@ -109,7 +109,6 @@ leadsTo es node n j = cond (eqb j 0 || (ltb j n && eqb (nth es j .kind) 5)) (som
 pub record Entered (t next head : List ℕ) (used v : ℕ) (b : Bool) (n lo hi r : ℕ) (t′ next′ head′ : List ℕ) : Type 0 where
   pub at : r ≡ position 1 (slotsIn t used) v b n
   pub from : 1 ≤ r
-  pub to : r ≤ used + 1
   pub tightened : slotsIn t′ (max used r) ≡ tighten (slotsIn t used) v b n lo (highIn hi)
   pub kept : Kept t′ next′ head′ (max used r)
 
