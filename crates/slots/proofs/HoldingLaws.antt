@@ -34,7 +34,7 @@ use Rattle.passes.proofs.Cells.WrittenLists.{value-none}
 use Rattle.passes.proofs.SlotLists.SlotLaws.{position-from}
 use Rattle.passes.proofs.SlotLists.SlotNumbers.{no-link-slot, no-slot, position-range, slot-lists, slot-owns}
 use Rattle.passes.specs.code.Slots.{Slot, inconsistent, isLink, position, slots, taken, value}
-use Rattle.slots.specs.code.States.{entrySlot, holdsInState, holdsBySlots, highAt, linkName, lowAt, slotFor, stateBelow, stateOf, supportedBy}
+use Rattle.slots.specs.code.States.{entrySlot, holdsInState, holdsBySlots, highAt, lowAt, slotFor, stateBelow, stateOf, supportedBy}
 
 -- ---- the states
 
@@ -136,9 +136,9 @@ module _ (rs : List (Row Atom ℕ)) where
 
   -- the place supports what an entry says that is no 'every'
   pub support-slots : (v : ℕ) (e : Entry) → 1 ≤ e .kind → e .kind ≤ 6 → e .kind ≢ 5
-      → supportedBy (e .kind) (e .number) (lowAt (slots rs) (entrySlot (slots rs) v e)) (highAt (slots rs) (entrySlot (slots rs) v e))
+      → supportedBy (e .kind) (e .number) (lowAt (slots rs) (entrySlot (slots rs) v (e .kind) (e .name))) (highAt (slots rs) (entrySlot (slots rs) v (e .kind) (e .name)))
       ≡ supports unrestricted (form (slots rs) v) (atomOf e)
-  unfolding supportedBy linkName kindOf
+  unfolding supportedBy entrySlot kindOf
   support-slots v e lo hi z =
       rw supports-plain
       (eq-cases (e .kind) 1 (λ q. rw q (has-said v (e .name)))
@@ -211,6 +211,11 @@ module _ (rs : List (Row Atom ℕ)) (few : length (slots rs) ≤ 1008) where
 
 -- ---- the entries that hold
 
+-- "kind 5 always holds"
+every-holds : (ss : List Slot) (s : ℕ) (e : Entry) → e .kind ≡ 5 → holdsInState ss s e ≡ true
+unfolding holdsInState supportedBy
+every-holds ss s e q = rw (holdsInState, q) (bool-cases (eqb s 1024) (λ z. rw z) (λ z. rw z))
+
 -- a kind that is allowed is a number of the table
 pub form-kind : (e : Entry) → formOk Description e ≡ true → (1 ≤ e .kind) × (e .kind ≤ 6)
 unfolding formOk
@@ -248,7 +253,7 @@ module _ (rs : List (Row Atom ℕ)) (few : length (slots rs) ≤ 1008) (d : List
       let there : StandsFor (slots rs) (linksTo d n) s = rw (links-into d (owner-earlier lawful) n lo hi) (state-stands o (omega arith)) in
       let range = form-kind e (lawful .form n lo hi) in
       eq-cases (e .kind) 5
-      (λ q. rw (eq-eqb q))
+      (λ q. rw (eq-eqb q) (every-holds (slots rs) s e q))
       (λ y. rw (ne-eqb y)
       (eq-cases s 1024
       (λ q.

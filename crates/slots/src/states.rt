@@ -53,7 +53,7 @@ fn link_slot(
     search(table, next, head, used, link_key(place, l))
 }
 
-// The slot of an entry that is no 'every', or 0.
+// The slot whose bounds tell whether an entry holds at a place, or 0. Kinds 5 and 6 are not looked up: no bound tells.
 fn entry_slot(
     table: &[u64; 1009],
     next: &[u16; 1009],
@@ -63,13 +63,15 @@ fn entry_slot(
     e: Entry,
 ) -> usize
     requires { ⌜ Kept (now table) (now next) (now head) used × (used ≤ 1008) × (place < 1024) ⌝ }
-    ensures { λ r. ⌜ (r ≤ used) × ((ss : List Slot) → Indexed ss (now (table .entry)) (now (next .entry)) (now (head .entry)) used → r ≡ entrySlot ss place e) ⌝ }
+    ensures { λ r. ⌜ (r ≤ used) × ((ss : List Slot) → Indexed ss (now (table .entry)) (now (next .entry)) (now (head .entry)) used → r ≡ entrySlot ss place (e .kind) (e .name)) ⌝ }
 {
     let kind = e.kind;
     match kind {
+        1 => property_slot(table, next, head, used, place, e.property()),
+        2 => property_slot(table, next, head, used, place, e.property()),
         3 => link_slot(table, next, head, used, place, e.link()),
         4 => link_slot(table, next, head, used, place, e.link()),
-        _ => property_slot(table, next, head, used, place, e.property()),
+        _ => 0,
     }
 }
 
@@ -84,7 +86,8 @@ fn bounds(table: &[u64; 1009], s: usize) -> u64
     table[s]
 }
 
-// Whether bounds support an entry of this kind and number that is no 'every', kind by kind.
+// Whether a slot's bounds support an entry of this kind and number: "Kinds 1 and 2 need the same entry; kind 3 needs n = 0 or at least m
+// with m ≥ n; kind 4 needs at most m with m ≤ n; kind 5 always holds; kind 6 never does." There are no other kinds.
 fn supported(kind: u8, number: u16, lo: u64, hi: u64) -> bool
     ensures { λ r. ⌜ r ≡ supportedBy kind number lo (highIn hi) ⌝ }
 {
@@ -93,6 +96,8 @@ fn supported(kind: u8, number: u16, lo: u64, hi: u64) -> bool
         2 => hi < 65536,
         3 => number as u64 <= lo,
         4 => hi <= number as u64,
+        5 => true,
+        6 => false,
         _ => false,
     }
 }
@@ -109,9 +114,6 @@ fn holds(
     requires { ⌜ Kept (now table) (now next) (now head) used × (used ≤ 1008) × (state ≤ 1024) ⌝ }
     ensures { λ r. ⌜ ((ss : List Slot) → Indexed ss (now (table .entry)) (now (next .entry)) (now (head .entry)) used → r ≡ holdsInState ss state e) ⌝ }
 {
-    if e.kind == 5 {
-        return true;
-    }
     if state == 1024 {
         return true;
     }
