@@ -5,8 +5,9 @@ ghost use Prim.Native.Nat.{_≤_, _<_, max};
 ghost use lib.ListN.{length, replicate};
 ghost use Rattle.blocks.specs.Entries.{entriesOf};
 ghost use Rattle.passes.specs.code.Keys.{keyNumber};
-ghost use Rattle.slots.specs.code.Tables.{linkKind, lowKind, highKind, Built};
+ghost use Rattle.slots.specs.code.Tables.{linkKind, lowKind, highKind, noBound, Built};
 ghost use Rattle.meaning.specs.Owned.{Owned};
+use crate::slots::NO_BOUND;
 use crate::slots::enter;
 use crate::slots::link_key;
 use crate::slots::long;
@@ -42,16 +43,16 @@ fn low_kind(kind: u8, number: u16) -> u64
     }
 }
 
-// At most so many; 65,536 where there is no such bound.
+// At most so many; NO_BOUND where there is no such bound.
 fn high_kind(kind: u8, number: u16) -> u64
-    ensures { λ r. ⌜ (r ≡ highKind kind number) × (r < 65537) ⌝ }
+    ensures { λ r. ⌜ (r ≡ highKind kind number) × (r ≤ noBound) ⌝ }
 {
     match kind {
-        1 => 65536,
+        1 => NO_BOUND,
         2 => 0,
-        3 => 65536,
+        3 => NO_BOUND,
         4 => number as u64,
-        5 => 65536,
+        5 => NO_BOUND,
         _ => 0,
     }
 }

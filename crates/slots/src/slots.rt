@@ -6,9 +6,12 @@ ghost use Prim.Native.Nat.{_+_, _*_, _≤_, _<_, min, max, ℕ};
 ghost use lib.ListN.{getD, set};
 ghost use Rattle.slots.specs.code.Chain.{scan};
 ghost use Rattle.passes.specs.code.Keys.{keyNumber};
-ghost use Rattle.slots.specs.code.Tables.{keyIn, lowPart, highPart, slotNumber, hashOf, Kept, Entered};
+ghost use Rattle.slots.specs.code.Tables.{keyIn, lowPart, highPart, slotNumber, hashOf, Kept, Entered, noBound};
 use blocks::Link;
 use blocks::Property;
+
+// The upper bound that stands for none: no bound of an entry is as large.
+pub(crate) const NO_BOUND: u64 = 65536;
 
 // An entry or slot number as an index.
 pub fn wide(x: u16) -> usize
@@ -38,7 +41,7 @@ pub fn low_in(x: u64) -> u64
     x / 131072 % 131072
 }
 
-// At most so many; 65,536 where there is no such bound.
+// At most so many; NO_BOUND where there is no such bound.
 pub fn high_in(x: u64) -> u64
     ensures { λ r. ⌜ (r ≡ highPart x) × (r < 131072) ⌝ }
 {
@@ -153,7 +156,7 @@ pub(crate) fn enter(
     lo: u64,
     hi: u64,
 ) -> usize
-    requires { ⌜ Kept (now table) (now next) (now head) used × (used < 1008) × (key < 1073741824) × (lo < 131072) × (hi ≤ 65536) ⌝ }
+    requires { ⌜ Kept (now table) (now next) (now head) used × (used < 1008) × (key < 1073741824) × (lo < 131072) × (hi ≤ noBound) ⌝ }
     ensures { λ r. ⌜ (r ≤ used + 1) × ((v : ℕ) → (b : Bool) → (n : ℕ) → n < 65536 → key ≡ keyNumber v b n
         → Entered (now (table .entry)) (now (next .entry)) (now (head .entry)) used v b n lo hi r (now (table .exit)) (now (next .exit)) (now (head .exit))) ⌝ }
 {

@@ -18,7 +18,7 @@ use Rattle.passes.specs.code.Slots.{inconsistent, nonempty, settled}
 use Rattle.slots.proofs.PassLaws.{slots-counted}
 use Rattle.slots.proofs.slots.TableLaws.{length-slots}
 use Rattle.slots.specs.code.Standing.{badAfter, fullAfter, slottingOf, tableAfter}
-use Rattle.slots.specs.code.Tables.{Exact, Settled, highIn, highNumber, highPart, keyIn, lowPart, marks, marksFrom, slotIn, slotNumber, slotWord, slotsFrom, slotsOf, tableOf}
+use Rattle.slots.specs.code.Tables.{Exact, Settled, highIn, highNumber, highPart, keyIn, lowPart, marks, marksFrom, noBound, slotIn, slotNumber, slotWord, slotsFrom, slotsOf, tableOf}
 use Rattle.slots.specs.declared.Slotting.the-variants.{Filled, Refused}
 
 -- ---- a table of slots
@@ -27,15 +27,15 @@ number-parts : (x : ℕ) → slotNumber (keyIn x) (lowPart x) (highPart x) ≡ x
 unfolding slotNumber keyIn lowPart highPart
 number-parts x = omega arith
 
-high-back : (h : ℕ) → h ≤ 65536 → highNumber (highIn h) ≡ h
-high-back h l = lt-cases h 65536 (λ k. rw (lt-ltb k)) (λ k. rw (ge-ltb k) (omega arith))
+high-back : (h : ℕ) → h ≤ noBound → highNumber (highIn h) ≡ h
+high-back h l = lt-cases h noBound (λ k. rw (lt-ltb k)) (λ k. rw (ge-ltb k) (omega arith))
 
 -- a slot that was read from a number gives the number back
-slot-back : (x : ℕ) → highPart x ≤ 65536 → slotWord (slotIn x) ≡ x
+slot-back : (x : ℕ) → highPart x ≤ noBound → slotWord (slotIn x) ≡ x
 unfolding slotIn
 slot-back x h = rw (slotIn, key-parts (keyIn x), high-back (highPart x) h) (number-parts x)
 
-slots-back : (t : List ℕ) → ((j : ℕ) → highPart (getD t j 0) ≤ 65536) → (i n : ℕ) → map slotWord (slotsFrom t i n) ≡ listed (λ k. getD t k 0) i n
+slots-back : (t : List ℕ) → ((j : ℕ) → highPart (getD t j 0) ≤ noBound) → (i n : ℕ) → map slotWord (slotsFrom t i n) ≡ listed (λ k. getD t k 0) i n
 unfolding slotsFrom listed
 slots-back t h i zero = refl
 slots-back t h i (suc n) = rw (slot-back (getD t i 0) (h i), slots-back t h (suc i) n)

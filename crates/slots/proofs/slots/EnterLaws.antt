@@ -18,7 +18,7 @@ use Rattle.slots.proofs.slots.ChainLaws.{chain-new}
 use Rattle.slots.proofs.slots.SearchLaws.{keysOf}
 use Rattle.slots.proofs.slots.TableLaws.{high-made, key-made, position-found, position-none, slot-made, slots-last, slots-other, tighten-found, tighten-none}
 use Rattle.slots.specs.code.Chain.{Chains, changed, scan}
-use Rattle.slots.specs.code.Tables.{Entered, Exact, Kept, hashOf, highIn, highPart, keyIn, lowPart, slotNumber}
+use Rattle.slots.specs.code.Tables.{Entered, Exact, Kept, hashOf, highIn, highPart, keyIn, lowPart, noBound, slotNumber}
 
 -- ---- what a search finds
 
@@ -53,7 +53,7 @@ module _ {t next head : List ℕ} {used : ℕ} (K : Kept t next head used) where
   exact-tighter s y one le h f =
       record {
         size = length-set t s y ∙ K .exact .size;
-        high = set-each (λ (x : ℕ). highPart x ≤ 65536) t (K .exact .high) (omega (arith, K .exact .size)) (omega (arith, f, K .exact .high s));
+        high = set-each (λ (x : ℕ). highPart x ≤ noBound) t (K .exact .high) (omega (arith, K .exact .size)) (omega (arith, f, K .exact .high s));
         top = getD-set-other t s 0 y 0 (λ q. omega arith) ∙ K .exact .top;
         rest = λ j l. getD-set-other t s j y 0 (λ q. omega arith) ∙ K .exact .rest j l;
       }
@@ -71,7 +71,7 @@ module _ {t next head : List ℕ} {used : ℕ} (K : Kept t next head used) where
 
   -- ---- a new slot
 
-  module _ (key lo hi : ℕ) (few : used < 1008) (l : lo < 131072) (h : hi ≤ 65536) (none : scan (keysOf t) key used ≡ 0) where
+  module _ (key lo hi : ℕ) (few : used < 1008) (l : lo < 131072) (h : hi ≤ noBound) (none : scan (keysOf t) key used ≡ 0) where
     abbrev put : List ℕ
     put = set t (used + 1) (slotNumber key lo hi)
 
@@ -80,7 +80,7 @@ module _ {t next head : List ℕ} {used : ℕ} (K : Kept t next head used) where
         let y = slotNumber key lo hi in
         record {
           size = length-set t (used + 1) y ∙ K .exact .size;
-          high = set-each (λ (x : ℕ). highPart x ≤ 65536) t (K .exact .high) (omega (arith, K .exact .size)) (omega (arith, h, high-made key lo hi l (omega arith)));
+          high = set-each (λ (x : ℕ). highPart x ≤ noBound) t (K .exact .high) (omega (arith, K .exact .size)) (omega (arith, h, high-made key lo hi l (omega arith)));
           top = getD-set-other t (used + 1) 0 y 0 (λ q. omega arith) ∙ K .exact .top;
           rest = λ j b. getD-set-other t (used + 1) j y 0 (λ q. omega arith) ∙ K .exact .rest j (omega arith);
         }
@@ -132,7 +132,7 @@ module _ {t next head : List ℕ} {used : ℕ} (K : Kept t next head used) where
 -- ---- the whole
 
 module _ {t next head : List ℕ} {used : ℕ} (K : Kept t next head used) (v : ℕ) (b : Bool) (n lo hi : ℕ) {key s : ℕ} (few : used < 1008) (small : n < 65536)
-    (l : lo < 131072) (h : hi ≤ 65536) (k : key ≡ keyNumber v b n) (found : s ≡ scan (keysOf t) key used) where
+    (l : lo < 131072) (h : hi ≤ noBound) (k : key ≡ keyNumber v b n) (found : s ≡ scan (keysOf t) key used) where
   pub enter-found : {t′ : List ℕ} → s ≢ 0
       → t′ ≡ set t s (slotNumber (keyIn (getD t s 0)) (max (lowPart (getD t s 0)) lo) (min (highPart (getD t s 0)) hi))
       → Entered t next head used v b n lo hi s t′ next head

@@ -28,12 +28,19 @@ highAt ss j = cond (eqb j 0) none (slotHigh (slotAt 1 (settled 1 ss) j))
 
 -- ---- where owners lead
 
--- The state of a place of D: the slot of N that it stands below, 0 for the top; 1,023, below which nothing stands, where N has no such
--- place; or 1,024 where an at most 0 was passed. The link l leads from state s to this one.
+-- Two states that are no place of N: `nowhere`, below which nothing stands, and `passed`, where all holds. No slot has either number.
+abbrev pub nowhere : ℕ
+nowhere = 1023
+
+abbrev pub passed : ℕ
+passed = 1024
+
+-- The state of a place of D: the slot of N that it stands below, 0 for the top; nowhere, where N has no such place; or passed, where an
+-- at most 0 was passed. The link l leads from state s to this one.
 unfoldable pub stateBelow : List Slot → ℕ → ℕ → ℕ
 stateBelow ss s l =
-    cond (eqb s 1024) 1024
-    (cond (eqb (slotFor ss s true l) 0) 1023 (cond (atMost 0 (highAt ss (slotFor ss s true l))) 1024 (slotFor ss s true l)))
+    cond (eqb s passed) passed
+    (cond (eqb (slotFor ss s true l) 0) nowhere (cond (atMost 0 (highAt ss (slotFor ss s true l))) passed (slotFor ss s true l)))
 
 -- the state of the place that entry o of D owns, the owners followed for at most so many steps
 unfoldable pub stateOf : List Slot → List Entry → ℕ → ℕ → ℕ
@@ -56,7 +63,7 @@ entrySlot ss v k n =
 -- the entry holds in a place of that state
 unfoldable pub holdsInState : List Slot → ℕ → Entry → Bool
 holdsInState ss s e =
-    cond (eqb s 1024) true
+    cond (eqb s passed) true
     (supportedBy (e .kind) (e .number) (lowAt ss (entrySlot ss s (e .kind) (e .name))) (highAt ss (entrySlot ss s (e .kind) (e .name))))
 
 -- entry n of D holds

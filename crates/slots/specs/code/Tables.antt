@@ -16,13 +16,17 @@ use Rattle.passes.specs.code.Keys.{keyNumber}
 use Rattle.passes.specs.code.Slots.{Slot, broken, inconsistent, nonempty, position, settled, slot, slots, tighten}
 use Rattle.slots.specs.code.Chain.{Chains}
 
--- an upper bound as a number; 65,536 for none
+-- the number that stands for no upper bound: no bound of an entry is as large
+abbrev pub noBound : ℕ
+noBound = 65536
+
+-- an upper bound as a number
 abbrev pub highNumber : Option ℕ → ℕ
-highNumber none = 65536
+highNumber none = noBound
 highNumber (some h) = h
 
 abbrev pub highIn : ℕ → Option ℕ
-highIn h = cond (ltb h 65536) (some h) none
+highIn h = cond (ltb h noBound) (some h) none
 
 -- a slot as a number: its key, then its two bounds
 unfoldable pub slotNumber : ℕ → ℕ → ℕ → ℕ
@@ -64,10 +68,10 @@ marksFrom f v (suc n) = bit (f v) ∷ marksFrom f (suc v) n
 abbrev pub marks : (ℕ → Bool) → List ℕ
 marks f = marksFrom f 0 1009
 
--- a table of which every number is known by its slots: upper bounds of at most 65,536, and 0 at number 0 and after the slots
+-- a table of which every number is known by its slots: upper bounds of at most `noBound`, and 0 at number 0 and after the slots
 pub record Exact (t : List ℕ) (used : ℕ) : Type 0 where
   pub size : length t ≡ 1009
-  pub high : (j : ℕ) → highPart (getD t j 0) ≤ 65536
+  pub high : (j : ℕ) → highPart (getD t j 0) ≤ noBound
   pub top : getD t 0 0 ≡ 0
   pub rest : (j : ℕ) → used < j → getD t j 0 ≡ 0
 
@@ -97,9 +101,9 @@ linkKind k = cond (eqb k 3) true (cond (eqb k 4) true (eqb k 5))
 unfoldable pub lowKind : ℕ → ℕ → ℕ
 lowKind k m = cond (eqb k 1) 1 (cond (eqb k 2) 0 (cond (eqb k 3) m (cond (eqb k 4) 0 (cond (eqb k 5) 0 1))))
 
--- at most so many; 65,536 for no bound
+-- at most so many
 unfoldable pub highKind : ℕ → ℕ → ℕ
-highKind k m = cond (eqb k 1) 65536 (cond (eqb k 2) 0 (cond (eqb k 3) 65536 (cond (eqb k 4) m (cond (eqb k 5) 65536 0))))
+highKind k m = cond (eqb k 1) noBound (cond (eqb k 2) 0 (cond (eqb k 3) noBound (cond (eqb k 4) m (cond (eqb k 5) noBound 0))))
 
 -- where the entries before entry n lead: the top to 0, an 'every' to its slot
 unfoldable pub leadsTo : List Entry → List ℕ → ℕ → ℕ → Option ℕ
