@@ -12,9 +12,7 @@ use Rattle.blocks.proofs.RoundTrip.Accepting.{sound-of-accepted, written-encode
 use Rattle.blocks.proofs.RoundTrip.Faithful.{entries-limit}
 use Rattle.blocks.specs.Encoding.{bytesWritten, written}
 use Rattle.blocks.specs.Entries.{entriesOf, packed}
-use Rattle.blocks.specs.Reading.{readingOf}
 use Rattle.blocks.specs.declared.Entry.{Entry}
-use Rattle.blocks.specs.declared.Reading.the-variants as reading
 use Rattle.blocks.specs.declared.Schema.the-variants.{Description}
 use Rattle.logic.specs.Background.{unrestricted}
 use Rattle.logic.specs.Layout.{write}
@@ -29,9 +27,9 @@ use Rattle.meaning.specs.RowEntries.{rowEntry}
 use Rattle.normal.proofs.AnswerLaws.{Ready, normalised}
 use Rattle.normal.proofs.PromiseKept.{normalised-means}
 use Rattle.normal.proofs.emit.PushLaws.{pushed-total}
-use Rattle.normal.proofs.tables.PassOrder.{rows-few}
+use Rattle.normal.proofs.tables.PassOrder.{rows-few, rows-normal}
 use Rattle.normal.specs.Answer.{normaliseOf, normalisedOf, outputAfter}
-use Rattle.normal.specs.code.Emitted.{NormalRows, rowNumber}
+use Rattle.normal.specs.code.Emitted.{Pushed, rowNumber, tableRows}
 use Rattle.normal.specs.declared.NormalAnswer.the-variants.{Normalised}
 use Rattle.slots.proofs.PassLaws.{all-bounded}
 use Rattle.slots.specs.code.Standing.{Standing}
@@ -69,20 +67,22 @@ module _ (d out : List ℕ) (r : Ready d out) (b : AllBounded (entriesOf d)) whe
             ∙ written-encodes out form bound few (m .room) ∙ sym (ap (outputAfter d out) (normalised d out r)),
       )
 
--- ---- an accepted description
+-- ---- an accepted description, whose slots stand in the tables
 
--- its entries are few
-pub standing-few : {d : List ℕ} {used : ℕ} {t bad full : List ℕ} → Standing d used t bad full → length (entriesOf d) ≤ 1008
-standing-few {d} s = omega (arith, entries-limit (sound-of-accepted Description 1 d (s .read) .blocks))
+module _ {d : List ℕ} {used : ℕ} {t bad full : List ℕ} (S : Standing d used t bad full) where
+  entries-few : length (entriesOf d) ≤ 1008
+  entries-few = omega (arith, entries-limit (sound-of-accepted Description 1 d (S .read) .blocks))
 
--- the packed entries are as many as the table can hold
-pub rows-most : (d rows : List ℕ) (r : ℕ) → length (entriesOf d) ≤ 1008 → NormalRows d rows r → r ≤ 1008
-rows-most d rows r few N = omega (arith, pushed-total (write (nf unrestricted (placeOf (entriesOf d) 0))) (N .pushed), rows-few d few)
+  -- its rows are as many as the table can hold
+  pub standing-few : length (tableRows t used bad full) ≤ 1008
+  standing-few = rw (rows-normal (S .slots-settled) entries-few) (rows-few d entries-few)
 
--- they are written as answered
-pub rows-written : (d out : List ℕ) {n : ℕ} → readingOf Description 1 d ≡ reading.Accepted n → length d ≤ length out → (rows : List ℕ) (r : ℕ) → NormalRows d rows r
-    → (normaliseOf d out ≡ Normalised r) × (written out rows r ≡ normalisedOf d out)
-rows-written d out {n} e l rows r N =
-    let P = N .pushed in
-    let few : length (entriesOf d) ≤ 1008 = omega (arith, entries-limit (sound-of-accepted Description 1 d e .blocks)) in
-    normal-written d out (record { total = n; read = e; room = l }) (all-bounded d (N .bounded)) rows r (omega (arith, rows-most d rows r few N, P .size)) (P .held)
+  module _ {rows : List ℕ} {r : ℕ} (P : Pushed [] 0 (tableRows t used bad full) rows r) where
+    pub rows-most : r ≤ 1008
+    rows-most = omega (arith, pushed-total (tableRows t used bad full) P, standing-few)
+
+    -- they are written as answered
+    pub rows-written : (out : List ℕ) → length d ≤ length out → (normaliseOf d out ≡ Normalised r) × (written out rows r ≡ normalisedOf d out)
+    rows-written out l =
+        normal-written d out (record { total = S .total; read = S .read; room = l }) (all-bounded d (S .slots-settled .bounded)) rows r (omega (arith, rows-most, P .size))
+        (P .held ∙ ap (map rowNumber) (rows-normal (S .slots-settled) entries-few))

@@ -22,7 +22,7 @@ fn write_normal(
         return NormalAnswer::Refused(7, 0, 0);
     }
     let mut rows = [0u64; 1008];
-    let count = normal_rows(d, used, table, bad, full, &mut rows);
+    let count = normal_rows(table, used, bad, full, &mut rows);
     writing::write_entries(out, &rows, count);
     NormalAnswer::Normalised(count as u16)
 }

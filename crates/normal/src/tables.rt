@@ -5,8 +5,7 @@ ghost use Prim.Native.Nat.{_≤_};
 ghost use lib.ListN.{length};
 ghost use Rattle.sorting.specs.Sorted.{sorted};
 ghost use Rattle.normal.specs.code.Ordered.{runOf, tagNumbers};
-ghost use Rattle.slots.specs.code.Standing.{Standing};
-ghost use Rattle.normal.specs.code.Emitted.{NormalRows, Orderable, Pushed, allRows, keepIn};
+ghost use Rattle.normal.specs.code.Emitted.{Orderable, Pushed, allRows, keepIn, tableRows};
 use crate::ordering::first_places;
 use crate::ordering::order_slots;
 use crate::walk::write_rows;
@@ -30,18 +29,16 @@ fn ordered_rows(
     write_rows(&order, used, table, full, &start, rows, &mut below)
 }
 
-// The packed entries of the normal form of a description whose slots stand in the tables; returns their number. The description itself is
-// not looked at: it is what the contract speaks of.
+// Writes the packed entries that settled slots give; returns their number. One of kind 6 stands alone where the top is impossible.
 pub(crate) fn normal_rows(
-    d: &[u8],
-    used: usize,
     table: &[u64; 1009],
+    used: usize,
     bad: &[u8; 1009],
     full: &[u8; 1009],
     rows: &mut [u64; 1008],
 ) -> usize
-    requires { ⌜ Standing (now d) used (now table) (now bad) (now full) × (length (now rows) ≡ 1008) ⌝ }
-    ensures { λ r. ⌜ NormalRows (now (d .entry)) (now (rows .exit)) r ⌝ }
+    requires { ⌜ Orderable (now table) used × (length (now rows) ≡ 1008) × (length (tableRows (now table) used (now bad) (now full)) ≤ 1008) ⌝ }
+    ensures { λ r. ⌜ Pushed [] 0 (tableRows (now (table .entry)) used (now (bad .entry)) (now (full .entry))) (now (rows .exit)) r ⌝ }
 {
     if bad[0] != 0 {
         rows[0] = 6;

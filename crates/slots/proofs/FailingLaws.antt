@@ -26,7 +26,7 @@ use Rattle.meaning.specs.Owned.{Owned}
 use Rattle.passes.proofs.Cells.CellsWritten.{kept}
 use Rattle.passes.specs.code.Slots.{Slot, inconsistent, settled, slot, slots}
 use Rattle.slots.proofs.HoldingLaws.{bottom-first, slots-first}
-use Rattle.slots.proofs.slots.TableLaws.{length-slots}
+use Rattle.slots.proofs.PassLaws.{slots-counted}
 use Rattle.slots.specs.Holding.{holdingBy, holdingOf, holdingReturned, failingIn}
 use Rattle.slots.specs.code.States.{Indexed, holdsBySlots}
 use Rattle.slots.specs.code.Tables.{Chained}
@@ -143,11 +143,6 @@ bit-false : (b : Bool) → bit b ≡ 0 → b ≡ false
 bit-false true e = absurd (omega arith)
 bit-false false e = refl
 
-length-settled : (k : ℕ) (ss : List Slot) → length (settled k ss) ≡ length ss
-unfolding settled
-length-settled k [] = refl
-length-settled k (slot u b n lo hi ∷ ss) = omega (arith, length-settled (suc k) ss)
-
 -- the slots of the first are in the table
 pub chained-indexed : {c t next head bad full : List ℕ} {used : ℕ} → Chained c used t next head bad full → Indexed (slots (map rowOf (entriesOf c))) t next head used
 chained-indexed s = record { kept = s .kept; slotted = s .settled′ .slotted }
@@ -159,10 +154,7 @@ module _ {c t next head bad full : List ℕ} {used : ℕ} (s : Chained c used t 
   -- nothing fits the first
   pub failing-none-in : {b : ℕ} → b ≡ getD bad 0 0 → b ≢ 0 → 0 ≡ failingIn c d
   unfolding failingIn
-  failing-none-in e z = sym (bottom-first (entriesOf c) (entriesOf d) (bit-true (inconsistent 1 ss 0) (λ q. z (e ∙ s .settled′ .bads ∙ q))))
-
-  few-slots : length ss ≤ used
-  few-slots = omega (arith, length-settled 1 ss, ap length (s .settled′ .slotted), length-slots t 1 used)
+  failing-none-in e z = sym (bottom-first (entriesOf c) (entriesOf d) (bit-true (inconsistent 1 ss 0) (λ q. z (e ∙ s .settled′ .bads 0 (omega arith) ∙ q))))
 
   -- what is found by them is the first that is not held
   pub failing-found : {b m r : ℕ} → b ≡ getD bad 0 0 → b ≡ 0 → readingOf Description 2 d ≡ reading.Accepted m
@@ -170,5 +162,5 @@ module _ {c t next head bad full : List ℕ} {used : ℕ} (s : Chained c used t 
   unfolding failingIn
   failing-found {m = m} e z f h =
       h ∙ ap (firstFrom (holdsBySlots ss (entriesOf d)) 1) (accepted-few 2 d f .0)
-      ∙ slots-first (entriesOf c) (entriesOf d) (omega (arith, few-slots, s .settled′ .few)) (sound-of-accepted Description 2 d f .entries)
-      (bit-false (inconsistent 1 ss 0) (sym (s .settled′ .bads) ∙ sym e ∙ z))
+      ∙ slots-first (entriesOf c) (entriesOf d) (omega (arith, slots-counted (s .settled′), s .settled′ .few)) (sound-of-accepted Description 2 d f .entries)
+      (bit-false (inconsistent 1 ss 0) (sym (s .settled′ .bads 0 (omega arith)) ∙ sym e ∙ z))

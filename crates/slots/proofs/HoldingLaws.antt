@@ -34,7 +34,7 @@ use Rattle.passes.proofs.Cells.WrittenLists.{value-none}
 use Rattle.passes.proofs.SlotLists.SlotLaws.{position-from}
 use Rattle.passes.proofs.SlotLists.SlotNumbers.{no-link-slot, no-slot, position-range, slot-lists, slot-owns}
 use Rattle.passes.specs.code.Slots.{Slot, inconsistent, isLink, position, slots, taken, value}
-use Rattle.slots.specs.code.States.{entrySlot, holdsInState, holdsBySlots, highAt, linkName, lowAt, slotFor, stateBelow, stateOf, supportedBy}
+use Rattle.slots.specs.code.States.{entrySlot, holdsInState, holdsBySlots, highAt, lowAt, nowhere, passed, slotFor, stateBelow, stateOf, supportedBy}
 
 -- ---- the states
 
@@ -100,14 +100,14 @@ module _ (rs : List (Row Atom ℕ)) where
 
   -- what a link owns there, if it is not at most 0
   place-owns : length (slots rs) ≤ 1008 → (v l : ℕ) → atMost 0 (highAt (slots rs) (slotFor (slots rs) v true l)) ≡ false
-      → sub l (form (slots rs) v) ≡ form (slots rs) (cond (eqb (slotFor (slots rs) v true l) 0) 1023 (slotFor (slots rs) v true l))
+      → sub l (form (slots rs) v) ≡ form (slots rs) (cond (eqb (slotFor (slots rs) v true l) 0) nowhere (slotFor (slots rs) v true l))
   unfolding slotFor highAt
   place-owns few v l h =
       bool-cases (taken (slots rs) v true l)
       (λ q.
       let z : eqb (position 1 (slots rs) v true l) 0 ≡ false = omega (tests, position-from 1 (slots rs) v true l) in
       rw (q, z) (slot-owns rs v l q ∙ rw (rw (q, z) at h)))
-      (λ q. rw q (no-link-slot rs v l q ∙ sym (form-end (slots rs) 1023 (omega arith))))
+      (λ q. rw q (no-link-slot rs v l q ∙ sym (form-end (slots rs) nowhere (omega arith))))
 
 -- ---- support
 
@@ -136,9 +136,9 @@ module _ (rs : List (Row Atom ℕ)) where
 
   -- the place supports what an entry says that is no 'every'
   pub support-slots : (v : ℕ) (e : Entry) → 1 ≤ e .kind → e .kind ≤ 6 → e .kind ≢ 5
-      → supportedBy (e .kind) (e .number) (lowAt (slots rs) (entrySlot (slots rs) v e)) (highAt (slots rs) (entrySlot (slots rs) v e))
+      → supportedBy (e .kind) (e .number) (lowAt (slots rs) (entrySlot (slots rs) v (e .kind) (e .name))) (highAt (slots rs) (entrySlot (slots rs) v (e .kind) (e .name)))
       ≡ supports unrestricted (form (slots rs) v) (atomOf e)
-  unfolding supportedBy linkName kindOf
+  unfolding supportedBy entrySlot kindOf
   support-slots v e lo hi z =
       rw supports-plain
       (eq-cases (e .kind) 1 (λ q. rw q (has-said v (e .name)))
@@ -154,14 +154,14 @@ module _ (rs : List (Row Atom ℕ)) where
 -- ---- paths
 
 -- The state s stands for the path w: beyond w the place of that number holds what the top holds; the top holds all if the state is
--- 1,024.
+-- `passed`.
 pub record StandsFor (ss : List Slot) (w : List ℕ) (s : ℕ) : Type 0 where
-  pub passed : s ≡ 1024 → (w′ : List ℕ) (a : Atom) → holdsAt unrestricted (form ss 0) (w ++ w′) a ≡ true
-  pub at : s ≢ 1024 → (w′ : List ℕ) (a : Atom) → holdsAt unrestricted (form ss 0) (w ++ w′) a ≡ holdsAt unrestricted (form ss s) w′ a
+  pub beyond : s ≡ passed → (w′ : List ℕ) (a : Atom) → holdsAt unrestricted (form ss 0) (w ++ w′) a ≡ true
+  pub at : s ≢ passed → (w′ : List ℕ) (a : Atom) → holdsAt unrestricted (form ss 0) (w ++ w′) a ≡ holdsAt unrestricted (form ss s) w′ a
 
 -- the top's state stands for the empty path, and no link leads into the top
 pub start-stands : (ss : List Slot) → StandsFor ss [] 0
-start-stands ss = record { passed = λ z w′ a. absurd (omega arith); at = λ z w′ a. refl }
+start-stands ss = record { beyond = λ z w′ a. absurd (omega arith); at = λ z w′ a. refl }
 
 top-stands : (ss : List Slot) (d : List Entry) → StandsFor ss (linksInto d 0) (stateOf ss d 0 0)
 unfolding linksInto stateOf
@@ -176,7 +176,7 @@ module _ (rs : List (Row Atom ℕ)) (few : length (slots rs) ≤ 1008) where
 
   some-step : (s l : ℕ) → atMost 0 (highAt (slots rs) (slotFor (slots rs) s true l)) ≡ false → (w : List ℕ) (a : Atom)
       → holdsAt unrestricted (form (slots rs) s) (l ∷ w) a
-      ≡ holdsAt unrestricted (form (slots rs) (cond (eqb (slotFor (slots rs) s true l) 0) 1023 (slotFor (slots rs) s true l))) w a
+      ≡ holdsAt unrestricted (form (slots rs) (cond (eqb (slotFor (slots rs) s true l) 0) nowhere (slotFor (slots rs) s true l))) w a
   unfolding holdsAt
   some-step s l q w a = rw (sym (none-said rs s l) ∙ q, place-owns rs few s l q)
 
@@ -186,30 +186,35 @@ module _ (rs : List (Row Atom ℕ)) (few : length (slots rs) ≤ 1008) where
   step-stands {w} {s} l h =
       let j : ℕ = slotFor (slots rs) s true l in
       let small : j ≤ length (slots rs) = slot-small (slots rs) s true l in
-      eq-cases s 1024
+      eq-cases s passed
       (λ e. rw (eq-eqb e)
-      (record { passed = λ y w′ a. rw append-assoc (h .passed e (l ∷ w′) a); at = λ y w′ a. absurd (y refl) }))
+      (record { beyond = λ y w′ a. rw append-assoc (h .beyond e (l ∷ w′) a); at = λ y w′ a. absurd (y refl) }))
       (λ z. rw (ne-eqb z)
       (bool-cases (eqb j 0)
       (λ q. rw q
       (record {
-        passed = λ y w′ a. absurd (omega arith);
+        beyond = λ y w′ a. absurd (omega arith);
         at = λ y w′ a. rw append-assoc (h .at z (l ∷ w′) a ∙ some-step s l (no-bound (slots rs) j q) w′ a ∙ rw q);
       }))
       (λ q. rw q
       (bool-cases (atMost 0 (highAt (slots rs) j))
       (λ x. rw x
       (record {
-        passed = λ y w′ a. rw append-assoc (h .at z (l ∷ w′) a ∙ none-step s l x w′ a);
+        beyond = λ y w′ a. rw append-assoc (h .at z (l ∷ w′) a ∙ none-step s l x w′ a);
         at = λ y w′ a. absurd (y refl);
       }))
       (λ x. rw x
       (record {
-        passed = λ y w′ a. absurd (omega arith);
+        beyond = λ y w′ a. absurd (omega arith);
         at = λ y w′ a. rw append-assoc (h .at z (l ∷ w′) a ∙ some-step s l x w′ a ∙ rw q);
       }))))))
 
 -- ---- the entries that hold
+
+-- "kind 5 always holds"
+every-holds : (ss : List Slot) (s : ℕ) (e : Entry) → e .kind ≡ 5 → holdsInState ss s e ≡ true
+unfolding holdsInState supportedBy
+every-holds ss s e q = rw (holdsInState, q) (bool-cases (eqb s passed) (λ z. rw z) (λ z. rw z))
 
 -- a kind that is allowed is a number of the table
 pub form-kind : (e : Entry) → formOk Description e ≡ true → (1 ≤ e .kind) × (e .kind ≤ 6)
@@ -248,11 +253,11 @@ module _ (rs : List (Row Atom ℕ)) (few : length (slots rs) ≤ 1008) (d : List
       let there : StandsFor (slots rs) (linksTo d n) s = rw (links-into d (owner-earlier lawful) n lo hi) (state-stands o (omega arith)) in
       let range = form-kind e (lawful .form n lo hi) in
       eq-cases (e .kind) 5
-      (λ q. rw (eq-eqb q))
+      (λ q. rw (eq-eqb q) (every-holds (slots rs) s e q))
       (λ y. rw (ne-eqb y)
-      (eq-cases s 1024
+      (eq-cases s passed
       (λ q.
-      let all : holdsAt unrestricted (form (slots rs) 0) (linksTo d n) (atomOf e) ≡ true = rw append-nil at (there .passed q [] (atomOf e)) in
+      let all : holdsAt unrestricted (form (slots rs) 0) (linksTo d n) (atomOf e) ≡ true = rw append-nil at (there .beyond q [] (atomOf e)) in
       rw (eq-eqb q) (sym all))
       (λ z.
       let here : holdsAt unrestricted (form (slots rs) 0) (linksTo d n) (atomOf e) ≡ supports unrestricted (form (slots rs) s) (atomOf e)

@@ -7,7 +7,7 @@ use mathlib.Core.Bool.{Bool, _&&_, false, true}
 use mathlib.Core.List.{List, [], _∷_, map}
 use mathlib.Core.Logic.{_≢_}
 use mathlib.Core.Option.{Option}
-use mathlib.Core.Path.{_≡_, refl}
+use mathlib.Core.Path.{_≡_, ap, refl}
 use native.Mathlib.Omega.{arith}
 use Rattle.base.proofs.Tests.{bool-cases, eq-cases, ne-eqb}
 use Rattle.blocks.proofs.Refusing.Bounds.{AllBounded}
@@ -17,7 +17,9 @@ use Rattle.meaning.specs.Description.{rowOf}
 use Rattle.passes.proofs.SlotLists.SlotLaws.{slots-early}
 use Rattle.passes.specs.code.Keys.{SmallRows, SmallSlots, SmallTop}
 use Rattle.passes.specs.code.Slots.{EarlySlots, Slot, closed, inconsistent, nonempty, settled, slot}
-use Rattle.slots.specs.code.Tables.{Built, Placed, Settled, Settling, keyIn, lowPart, slotIn, slotsFrom}
+use Rattle.slots.proofs.slots.TableLaws.{length-slots}
+use Rattle.slots.proofs.states.BoundLaws.{settled-exact}
+use Rattle.slots.specs.code.Tables.{Built, Placed, Settled, Settling, keyIn, lowPart, slotIn, slotsFrom, slotsOf}
 
 -- ---- slots of a table
 
@@ -39,6 +41,11 @@ pub small-settled : (k : ℕ) (ss : List Slot) → SmallSlots ss → SmallSlots 
 unfolding settled
 small-settled k [] s = tt
 small-settled k (slot u b n lo hi ∷ ss) s = ((s .0 .0, s .0 .1, small-closed (b && inconsistent (suc k) ss k) hi (s .0 .2)), small-settled (suc k) ss (s .1))
+
+length-settled : (k : ℕ) (ss : List Slot) → length (settled k ss) ≡ length ss
+unfolding settled
+length-settled k [] = refl
+length-settled k (slot u b n lo hi ∷ ss) = omega (arith, length-settled (suc k) ss)
 
 -- no slot stands beyond the table
 pub nonempty-far : (k : ℕ) (ss : List Slot) (v : ℕ) → EarlySlots k ss → k + length ss ≤ v → nonempty k (settled k ss) v ≡ false
@@ -74,11 +81,17 @@ settled-from {d} {used} {origin} {t = t} b s =
     let e = b .slotted in
     record {
       few = b .few;
+      exact = settled-exact (b .kept .exact) s;
       slotted = rw (z, ← e) at (s .above);
-      bads = rw (z, ← e) at (s .bads 0 (omega arith));
+      bad-size = s .bad-size;
+      bads = λ v l. rw (z, ← e) at (s .bads v l);
       full-size = s .full-size;
       fulls = λ v l. rw (z, ← e) at (s .fulls v l);
       apart = λ i j lo l hi. rw (s .keys i, s .keys j) (b .kept .apart i j lo l hi);
       lower = λ j lo hi. rw (s .keys j) (built-placed b .lower j lo hi);
       bounded = b .bounded;
     }
+
+-- as many slots stand in the table as the description has
+pub slots-counted : {d : List ℕ} {used : ℕ} {t bad full : List ℕ} → Settled d used t bad full → used ≡ length (slotsOf d)
+slots-counted {d} {used} {t} s = omega (arith, length-settled 1 (slotsOf d), ap length (s .slotted), length-slots t 1 used)

@@ -4,20 +4,28 @@ ghost use mathlib.Core.Path.{_≡_};
 ghost use Prim.Native.Nat.{_≤_, _<_, max};
 ghost use lib.ListN.{length, replicate};
 ghost use Rattle.blocks.specs.Entries.{entriesOf};
-ghost use Rattle.slots.specs.code.Tables.{linkKind, lowKind, highKind, Built};
+ghost use Rattle.passes.specs.code.Keys.{keyNumber};
+ghost use Rattle.slots.specs.code.Tables.{linkKind, lowKind, highKind, noBound, Built};
 ghost use Rattle.meaning.specs.Owned.{Owned};
+use crate::slots::NO_BOUND;
 use crate::slots::enter;
+use crate::slots::link_key;
 use crate::slots::long;
+use crate::slots::property_key;
 use crate::slots::wide;
+use blocks::Entry;
 
-// Whether the name of an entry of this kind is a link's.
-fn link_kind(kind: u8) -> bool
-    ensures { λ r. ⌜ r ≡ linkKind kind ⌝ }
+// The key of an entry's slot at a place: its name is a link's for kinds 3 to 5, else a property's.
+fn entry_key(place: u64, e: Entry) -> u64
+    requires { ⌜ place < 1024 ⌝ }
+    ensures { λ r. ⌜ (r ≡ keyNumber place (linkKind (e .kind)) (e .name)) × (r < 1073741824) ⌝ }
 {
+    let kind = e.kind;
     match kind {
-        3 => true,
-        4 => true,
-        _ => kind == 5,
+        3 => link_key(place, e.link()),
+        4 => link_key(place, e.link()),
+        5 => link_key(place, e.link()),
+        _ => property_key(place, e.property()),
     }
 }
 
@@ -35,16 +43,16 @@ fn low_kind(kind: u8, number: u16) -> u64
     }
 }
 
-// At most so many; 65,536 where there is no such bound.
+// At most so many; NO_BOUND where there is no such bound.
 fn high_kind(kind: u8, number: u16) -> u64
-    ensures { λ r. ⌜ (r ≡ highKind kind number) × (r < 65537) ⌝ }
+    ensures { λ r. ⌜ (r ≡ highKind kind number) × (r ≤ noBound) ⌝ }
 {
     match kind {
-        1 => 65536,
+        1 => NO_BOUND,
         2 => 0,
-        3 => 65536,
+        3 => NO_BOUND,
         4 => number as u64,
-        5 => 65536,
+        5 => NO_BOUND,
         _ => 0,
     }
 }
@@ -77,9 +85,7 @@ pub(crate) fn build(
             next,
             head,
             used,
-            place,
-            link_kind(e.kind),
-            long(e.name),
+            entry_key(place, e),
             low_kind(e.kind, e.number),
             high_kind(e.kind, e.number),
         );

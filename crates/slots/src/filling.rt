@@ -6,7 +6,7 @@ ghost use Rattle.blocks.specs.Entries.{entriesOf};
 ghost use Rattle.blocks.specs.Reading.{readingOf};
 ghost use Rattle.meaning.specs.Owned.{Owned};
 ghost use Rattle.slots.specs.code.Tables.{Chained, Settled};
-ghost use Rattle.slots.specs.code.Standing.{FilledBy};
+ghost use Rattle.slots.specs.code.Standing.{FilledBy, badAfter, fullAfter, slottingOf, tableAfter};
 use crate::Slotting;
 use crate::build::build;
 use crate::settle::settle;
@@ -47,6 +47,7 @@ fn settled_slots(
     let mut head = [0u16; 1021];
     chained_slots(d, total, table, &mut next, &mut head, bad, full)
 }
+
 // Fills the tables with the slots of an accepted description with `total` entries, whatever they held; returns their number.
 fn fill_accepted(
     d: &[u8],
@@ -64,14 +65,16 @@ fn fill_accepted(
     settled_slots(d, total, table, bad, full)
 }
 
-// Reads a description and fills the tables with its slots, whatever they held; or the refusal.
+// Reads a description and fills the tables with its slots, whatever they held; or returns the refusal, and the tables stay.
 pub fn fill(
     d: &[u8],
     table: &mut [u64; 1009],
     bad: &mut [u8; 1009],
     full: &mut [u8; 1009],
 ) -> Slotting
-    ensures { λ r. ⌜ FilledBy (now (d .entry)) (now (table .exit)) (now (bad .exit)) (now (full .exit)) r ⌝ }
+    ensures { λ r. ⌜ (r ≡ slottingOf (now (d .entry))) × (now (table .exit) ≡ tableAfter (now (d .entry)) (now (table .entry)))
+        × (now (bad .exit) ≡ badAfter (now (d .entry)) (now (bad .entry))) × (now (full .exit) ≡ fullAfter (now (d .entry)) (now (full .entry)))
+        × FilledBy (now (d .entry)) (now (table .exit)) (now (bad .exit)) (now (full .exit)) r ⌝ }
 {
     let reading = reading::read(d, Schema::Description, 1);
     match reading {

@@ -8,6 +8,7 @@ ghost use lib.ListN.{length, getD, set, replicate};
 ghost use Rattle.logic.specs.Normal.{found};
 ghost use Rattle.passes.specs.code.Slots.{broken};
 ghost use Rattle.slots.specs.code.Tables.{keyIn, highIn, Placed, Settling, Slotted};
+use crate::slots::NO_BOUND;
 use crate::slots::high_in;
 use crate::slots::key_in;
 use crate::slots::low_in;
@@ -43,7 +44,7 @@ fn closed(link: bool, bad: u8, hi: u64) -> u64
 fn is_broken(link: bool, lo: u64, hi: u64) -> bool
     ensures { λ r. ⌜ r ≡ broken link lo (highIn hi) ⌝ }
 {
-    if 65536 <= hi {
+    if NO_BOUND <= hi {
         return false;
     }
     if link {
@@ -59,7 +60,7 @@ fn asks(link: bool, lo: u64, hi: u64, full: u8) -> bool
     if lo != 0 {
         return true;
     }
-    if hi < 65536 {
+    if hi < NO_BOUND {
         return true;
     }
     if link {

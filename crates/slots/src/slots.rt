@@ -1,11 +1,17 @@
 // Slots: one for each place, class and name of a description, with the bounds that all its entries give together. A slot is one number
 // of 64 bits, its key above its two bounds, in a table; chains by a hash of the key find it again.
 ghost use mathlib.Core.Path.{_≡_};
-ghost use Prim.Native.Nat.{_+_, _*_, _≤_, _<_, min, max};
+ghost use mathlib.Core.Bool.{Bool, false, true};
+ghost use Prim.Native.Nat.{_+_, _*_, _≤_, _<_, min, max, ℕ};
 ghost use lib.ListN.{getD, set};
 ghost use Rattle.slots.specs.code.Chain.{scan};
 ghost use Rattle.passes.specs.code.Keys.{keyNumber};
-ghost use Rattle.slots.specs.code.Tables.{keyIn, lowPart, highPart, slotNumber, hashOf, Kept, Entered};
+ghost use Rattle.slots.specs.code.Tables.{keyIn, lowPart, highPart, slotNumber, hashOf, Kept, Entered, noBound};
+use blocks::Link;
+use blocks::Property;
+
+// The upper bound that stands for none: no bound of an entry is as large.
+pub(crate) const NO_BOUND: u64 = 65536;
 
 // An entry or slot number as an index.
 pub fn wide(x: u16) -> usize
@@ -35,7 +41,7 @@ pub fn low_in(x: u64) -> u64
     x / 131072 % 131072
 }
 
-// At most so many; 65,536 where there is no such bound.
+// At most so many; NO_BOUND where there is no such bound.
 pub fn high_in(x: u64) -> u64
     ensures { λ r. ⌜ (r ≡ highPart x) × (r < 131072) ⌝ }
 {
@@ -124,34 +130,36 @@ fn append(
     head[b] = new as u16;
 }
 
-// The key of a place, a class and a name.
-pub(crate) fn key_of(place: u64, link: bool, name: u64) -> u64
-    requires { ⌜ (place < 1024) × (name < 65536) ⌝ }
-    ensures { λ r. ⌜ (r ≡ keyNumber place link name) × (r < 1073741824) ⌝ }
+// The key of a property at a place. Properties and links are numbered apart: only their types say which key a name gets.
+pub(crate) fn property_key(place: u64, p: Property) -> u64
+    requires { ⌜ place < 1024 ⌝ }
+    ensures { λ r. ⌜ (r ≡ keyNumber place false (p .0)) × (r < 1073741824) ⌝ }
 {
-    if link {
-        131072 * place + (65536 + name)
-    } else {
-        131072 * place + name
-    }
+    131072 * place + long(p.0)
 }
 
-// Enters an entry: its slot, found or made, gets the entry's bounds too. Returns the slot's number.
+// The key of a link at a place.
+pub(crate) fn link_key(place: u64, l: Link) -> u64
+    requires { ⌜ place < 1024 ⌝ }
+    ensures { λ r. ⌜ (r ≡ keyNumber place true (l .0)) × (r < 1073741824) ⌝ }
+{
+    131072 * place + (65536 + long(l.0))
+}
+
+// Enters an entry: the slot of its key, found or made, gets the entry's bounds too. Returns the slot's number.
 pub(crate) fn enter(
     table: &mut [u64; 1009],
     next: &mut [u16; 1009],
     head: &mut [u16; 1021],
     used: usize,
-    place: u64,
-    link: bool,
-    name: u64,
+    key: u64,
     lo: u64,
     hi: u64,
 ) -> usize
-    requires { ⌜ Kept (now table) (now next) (now head) used × (used < 1008) × (place < 1024) × (name < 65536) × (lo < 131072) × (hi < 131072) ⌝ }
-    ensures { λ r. ⌜ Entered (now (table .entry)) (now (next .entry)) (now (head .entry)) used place link name lo hi r (now (table .exit)) (now (next .exit)) (now (head .exit)) ⌝ }
+    requires { ⌜ Kept (now table) (now next) (now head) used × (used < 1008) × (key < 1073741824) × (lo < 131072) × (hi ≤ noBound) ⌝ }
+    ensures { λ r. ⌜ (r ≤ used + 1) × ((v : ℕ) → (b : Bool) → (n : ℕ) → n < 65536 → key ≡ keyNumber v b n
+        → Entered (now (table .entry)) (now (next .entry)) (now (head .entry)) used v b n lo hi r (now (table .exit)) (now (next .exit)) (now (head .exit))) ⌝ }
 {
-    let key = key_of(place, link, name);
     let s = search(table, next, head, used, key);
     if s != 0 {
         tighten(table, s, lo, hi);

@@ -9,18 +9,25 @@ ghost use lib.ListN.{getD, length};
 ghost use Rattle.blocks.specs.Entries.{entriesOf};
 ghost use Rattle.base.specs.Search.{firstFrom};
 ghost use Rattle.passes.specs.code.Slots.{Slot};
-ghost use Rattle.slots.specs.code.States.{Indexed, entrySlot, holdsInState, holdsBySlots, slotFor, stateBelow, supportedBy};
-ghost use Rattle.slots.specs.code.Tables.{Kept, highIn};
+ghost use Rattle.slots.specs.code.States.{Indexed, entrySlot, holdsInState, holdsBySlots, slotFor, passed, stateBelow, supportedBy};
+ghost use Rattle.slots.specs.code.Tables.{Kept, highIn, noBound};
 ghost use Rattle.meaning.specs.Owned.{Owned};
+use crate::slots::NO_BOUND;
 use crate::slots::high_in;
-use crate::slots::key_of;
+use crate::slots::link_key;
 use crate::slots::long;
 use crate::slots::low_in;
+use crate::slots::property_key;
 use crate::slots::search;
 use crate::slots::wide;
 use blocks::Entry;
 use blocks::Link;
 use blocks::Property;
+
+// Two states that are no place of the normal form: below NOWHERE nothing stands, and after PASSED, an at most 0, all holds. A slot has
+// neither number.
+const NOWHERE: u64 = 1023;
+const PASSED: u64 = 1024;
 
 // The slot of a property at a place, or 0.
 fn property_slot(
@@ -34,7 +41,7 @@ fn property_slot(
     requires { ⌜ Kept (now table) (now next) (now head) used × (used ≤ 1008) × (place < 1024) ⌝ }
     ensures { λ r. ⌜ (r ≤ used) × ((ss : List Slot) → Indexed ss (now (table .entry)) (now (next .entry)) (now (head .entry)) used → r ≡ slotFor ss place false (p .0)) ⌝ }
 {
-    search(table, next, head, used, key_of(place, false, long(p.0)))
+    search(table, next, head, used, property_key(place, p))
 }
 
 // The slot of a link at a place, or 0.
@@ -49,10 +56,10 @@ fn link_slot(
     requires { ⌜ Kept (now table) (now next) (now head) used × (used ≤ 1008) × (place < 1024) ⌝ }
     ensures { λ r. ⌜ (r ≤ used) × ((ss : List Slot) → Indexed ss (now (table .entry)) (now (next .entry)) (now (head .entry)) used → r ≡ slotFor ss place true (l .0)) ⌝ }
 {
-    search(table, next, head, used, key_of(place, true, long(l.0)))
+    search(table, next, head, used, link_key(place, l))
 }
 
-// The slot of an entry that is no 'every', or 0.
+// The slot whose bounds tell whether an entry holds at a place, or 0. Kinds 5 and 6 are not looked up: no bound tells.
 fn entry_slot(
     table: &[u64; 1009],
     next: &[u16; 1009],
@@ -62,36 +69,41 @@ fn entry_slot(
     e: Entry,
 ) -> usize
     requires { ⌜ Kept (now table) (now next) (now head) used × (used ≤ 1008) × (place < 1024) ⌝ }
-    ensures { λ r. ⌜ (r ≤ used) × ((ss : List Slot) → Indexed ss (now (table .entry)) (now (next .entry)) (now (head .entry)) used → r ≡ entrySlot ss place e) ⌝ }
+    ensures { λ r. ⌜ (r ≤ used) × ((ss : List Slot) → Indexed ss (now (table .entry)) (now (next .entry)) (now (head .entry)) used → r ≡ entrySlot ss place (e .kind) (e .name)) ⌝ }
 {
     let kind = e.kind;
     match kind {
+        1 => property_slot(table, next, head, used, place, e.property()),
+        2 => property_slot(table, next, head, used, place, e.property()),
         3 => link_slot(table, next, head, used, place, e.link()),
         4 => link_slot(table, next, head, used, place, e.link()),
-        _ => property_slot(table, next, head, used, place, e.property()),
+        _ => 0,
     }
 }
 
 // The bounds of a slot, as a slot; none where there is no slot.
 fn bounds(table: &[u64; 1009], s: usize) -> u64
     requires { ⌜ s < 1009 ⌝ }
-    ensures { λ r. ⌜ r ≡ cond (eqb s 0) 65536 (getD (now (table .entry)) s 0) ⌝ }
+    ensures { λ r. ⌜ r ≡ cond (eqb s 0) noBound (getD (now (table .entry)) s 0) ⌝ }
 {
     if s == 0 {
-        return 65536;
+        return NO_BOUND;
     }
     table[s]
 }
 
-// Whether bounds support an entry of this kind and number that is no 'every', kind by kind.
+// Whether a slot's bounds support an entry of this kind and number: "Kinds 1 and 2 need the same entry; kind 3 needs n = 0 or at least m
+// with m ≥ n; kind 4 needs at most m with m ≤ n; kind 5 always holds; kind 6 never does." There are no other kinds.
 fn supported(kind: u8, number: u16, lo: u64, hi: u64) -> bool
     ensures { λ r. ⌜ r ≡ supportedBy kind number lo (highIn hi) ⌝ }
 {
     match kind {
         1 => lo != 0,
-        2 => hi < 65536,
+        2 => hi < NO_BOUND,
         3 => number as u64 <= lo,
         4 => hi <= number as u64,
+        5 => true,
+        6 => false,
         _ => false,
     }
 }
@@ -105,13 +117,10 @@ fn holds(
     state: u64,
     e: Entry,
 ) -> bool
-    requires { ⌜ Kept (now table) (now next) (now head) used × (used ≤ 1008) × (state ≤ 1024) ⌝ }
+    requires { ⌜ Kept (now table) (now next) (now head) used × (used ≤ 1008) × (state ≤ passed) ⌝ }
     ensures { λ r. ⌜ ((ss : List Slot) → Indexed ss (now (table .entry)) (now (next .entry)) (now (head .entry)) used → r ≡ holdsInState ss state e) ⌝ }
 {
-    if e.kind == 5 {
-        return true;
-    }
-    if state == 1024 {
+    if state == PASSED {
         return true;
     }
     let x = bounds(table, entry_slot(table, next, head, used, state, e));
@@ -126,21 +135,21 @@ fn state_below(
     used: usize,
     state: u64,
     l: Link,
-) -> usize
-    requires { ⌜ Kept (now table) (now next) (now head) used × (used ≤ 1008) × (state ≤ 1024) ⌝ }
-    ensures { λ r. ⌜ (r ≤ 1024) × ((ss : List Slot) → Indexed ss (now (table .entry)) (now (next .entry)) (now (head .entry)) used → r ≡ stateBelow ss state (l .0)) ⌝ }
+) -> u64
+    requires { ⌜ Kept (now table) (now next) (now head) used × (used ≤ 1008) × (state ≤ passed) ⌝ }
+    ensures { λ r. ⌜ (r ≤ passed) × ((ss : List Slot) → Indexed ss (now (table .entry)) (now (next .entry)) (now (head .entry)) used → r ≡ stateBelow ss state (l .0)) ⌝ }
 {
-    if state == 1024 {
-        return 1024;
+    if state == PASSED {
+        return PASSED;
     }
     let s = link_slot(table, next, head, used, state, l);
     if s == 0 {
-        return 1023;
+        return NOWHERE;
     }
     if high_in(table[s]) == 0 {
-        return 1024;
+        return PASSED;
     }
-    s
+    s as u64
 }
 
 // The state that an 'every' leads to; 0 for any other entry.
@@ -151,9 +160,9 @@ fn leads_to(
     used: usize,
     state: u64,
     e: Entry,
-) -> usize
-    requires { ⌜ Kept (now table) (now next) (now head) used × (used ≤ 1008) × (state ≤ 1024) ⌝ }
-    ensures { λ r. ⌜ (r ≤ 1024) × (e .kind ≡ 5 → (ss : List Slot) → Indexed ss (now (table .entry)) (now (next .entry)) (now (head .entry)) used → r ≡ stateBelow ss state (e .name)) ⌝ }
+) -> u64
+    requires { ⌜ Kept (now table) (now next) (now head) used × (used ≤ 1008) × (state ≤ passed) ⌝ }
+    ensures { λ r. ⌜ (r ≤ passed) × (e .kind ≡ 5 → (ss : List Slot) → Indexed ss (now (table .entry)) (now (next .entry)) (now (head .entry)) used → r ≡ stateBelow ss state (e .name)) ⌝ }
 {
     if e.kind != 5 {
         return 0;

@@ -11,7 +11,7 @@ use mathlib.Core.Path.{_∙_, _≡_, ap, fun-ext, refl, sym}
 use native.Mathlib.Omega.{arith}
 use Rattle.base.proofs.Elements.{member-at}
 use Rattle.base.proofs.Parts.{length-low, length-put-low, lowOf, putLow, take-low}
-use Rattle.base.proofs.Tests.{bool-cases, lt-cases}
+use Rattle.base.proofs.Tests.{bool-cases, eq-cases, eq-eqb, lt-cases, ne-eqb}
 use Rattle.blocks.specs.Entries.{entriesOf}
 use Rattle.logic.specs.Background.{unrestricted}
 use Rattle.logic.specs.Layout.{write}
@@ -25,7 +25,7 @@ use Rattle.normal.proofs.ordering.NormalOrdered.{normal-ordered}
 use Rattle.normal.proofs.ordering.TagLaws.{number-key, number-slot}
 use Rattle.normal.proofs.ordering.TagOrder.{Numbers, numbers-many, numbers-slot}
 use Rattle.normal.proofs.walk.PlaceWalk.{run-from}
-use Rattle.normal.specs.code.Emitted.{Walkable, allRows, keepIn}
+use Rattle.normal.specs.code.Emitted.{Orderable, Walkable, allRows, keepIn, tableRows}
 use Rattle.normal.specs.code.Ordered.{firstOfPlace, otherPlace, runFrom, runOf, tagNumbers, tagPlace, tagSlot}
 use Rattle.passes.proofs.Emission.Exact.{normal-exact, normal-length}
 use Rattle.passes.proofs.Emission.WalkRows.{places}
@@ -62,7 +62,7 @@ place-small {t = t} s n =
 slot-number : {d : List ℕ} {used : ℕ} {t bad full : List ℕ} {x : ℕ} → Settled d used t bad full → (n : Numbers t 1 used x) → tagSlot x ≡ n .at
 slot-number {t = t} s n = ap tagSlot (n .is) ∙ number-slot (keyIn (getD t (n .at) 0)) (n .at) (omega (arith, n .to, s .few))
 
-pub settled-walkable : {d : List ℕ} {used : ℕ} {t bad full z : List ℕ} → Settled d used t bad full → length z ≡ 1008 → take used z ≡ sorted (tagNumbers t 1 used) → Walkable t z used
+settled-walkable : {d : List ℕ} {used : ℕ} {t bad full z : List ℕ} → Settled d used t bad full → length z ≡ 1008 → take used z ≡ sorted (tagNumbers t 1 used) → Walkable t z used
 settled-walkable {d} {used} {t} {z = z} s l e =
     let room : used ≤ length z = omega (arith, l, s .few) in
     let num : (i : ℕ) → i < used → Numbers t 1 used (getD z i 0) = λ i h. number-at t z used e room i h in
@@ -73,6 +73,10 @@ settled-walkable {d} {used} {t} {z = z} s l e =
       place = λ i h. place-small s (num i h);
       bound = λ i h. rw (slot-number s (num i h)) (settled-low s (num i h .at) (num i h .from) (omega (arith, num i h .to)));
     }
+
+-- settled slots can be ordered
+pub settled-orderable : {d : List ℕ} {used : ℕ} {t bad full : List ℕ} → Settled d used t bad full → Orderable t used
+settled-orderable s = record { few = s .few; walkable = λ z l e. settled-walkable s l e }
 
 -- the table before any number stands in it
 abbrev pub blank : List ℕ
@@ -122,22 +126,27 @@ keeps-same {d} {full = full} s few =
 -- ---- all passes
 
 -- enough places for 1,008 rows
-pub rows-alive : {d : List ℕ} {used : ℕ} {t bad full : List ℕ} → Settled d used t bad full → length (entriesOf d) ≤ 1008 → getD bad 0 0 ≡ 0
+rows-alive : {d : List ℕ} {used : ℕ} {t bad full : List ℕ} → Settled d used t bad full → length (entriesOf d) ≤ 1008 → getD bad 0 0 ≡ 0
     → allRows (keepIn full) (runOf t (sorted (tagNumbers t 1 used)) used) ≡ write (nf unrestricted (placeOf (entriesOf d) 0))
 unfolding allRows rowsFrom placeOf
 rows-alive {d} {used} {t} s few z =
     let rs = map rowOf (entriesOf d) in
     let places : enoughFor rs ≤ 2018 = omega (arith, length-map (entriesOf d) rowOf, few) in
-    let lives : inconsistent 1 (slots rs) 0 ≡ false = bool-cases (inconsistent 1 (slots rs) 0) (λ e. absurd (omega (arith, z, s .bads ∙ ap bit e))) (λ e. e) in
+    let lives : inconsistent 1 (slots rs) 0 ≡ false = bool-cases (inconsistent 1 (slots rs) 0) (λ e. absurd (omega (arith, z, s .bads 0 (omega arith) ∙ ap bit e))) (λ e. e) in
     rw (keeps-same s few) (rw (rowsFrom, lives) at (normal-ordered rs t used (s .few) (s .slotted) (s .apart) 2018 places))
 
-pub rows-bottom : {d : List ℕ} {used : ℕ} {t bad full : List ℕ} → Settled d used t bad full → getD bad 0 0 ≢ 0
+rows-bottom : {d : List ℕ} {used : ℕ} {t bad full : List ℕ} → Settled d used t bad full → getD bad 0 0 ≢ 0
     → write (nf unrestricted (placeOf (entriesOf d) 0)) ≡ leafRow 0 (atom nothing 0 0) ∷ []
 unfolding normalRows rowsFrom placeOf
 rows-bottom {d} s z =
     let rs = map rowOf (entriesOf d) in
-    let falls : inconsistent 1 (slots rs) 0 ≡ true = bool-cases (inconsistent 1 (slots rs) 0) (λ e. e) (λ e. absurd (z (s .bads ∙ ap bit e))) in
+    let falls : inconsistent 1 (slots rs) 0 ≡ true = bool-cases (inconsistent 1 (slots rs) 0) (λ e. e) (λ e. absurd (z (s .bads 0 (omega arith) ∙ ap bit e))) in
     sym (normal-exact rs) ∙ rw (normalRows, rowsFrom, falls)
+
+-- the rows by the tables are those of the normal form
+pub rows-normal : {d : List ℕ} {used : ℕ} {t bad full : List ℕ} → Settled d used t bad full → length (entriesOf d) ≤ 1008
+    → tableRows t used bad full ≡ write (nf unrestricted (placeOf (entriesOf d) 0))
+rows-normal {bad = bad} s few = eq-cases (getD bad 0 0) 0 (λ z. rw (eq-eqb z) (rows-alive s few z)) (λ z. rw (ne-eqb z) (sym (rows-bottom s z)))
 
 pub rows-few : (d : List ℕ) → length (entriesOf d) ≤ 1008 → length (write (nf unrestricted (placeOf (entriesOf d) 0))) ≤ 1008
 unfolding placeOf

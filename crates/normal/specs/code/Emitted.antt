@@ -8,16 +8,14 @@ use mathlib.Core.List.{List, [], _++_, _∷_, map}
 use mathlib.Core.Logic.{_≢_}
 use mathlib.Core.Option.{Option, none, some}
 use mathlib.Core.Path.{_≡_}
-use Rattle.blocks.specs.Entries.{Bounded, entriesOf, nth, packed}
-use Rattle.logic.specs.Background.{unrestricted}
-use Rattle.logic.specs.Layout.{done, job, write}
-use Rattle.logic.specs.Normal.{atMost, nf}
-use Rattle.logic.specs.Place.{Atom, Kind, atom, has, lacks, least, most}
+use Rattle.blocks.specs.Entries.{packed}
+use Rattle.logic.specs.Layout.{done, job}
+use Rattle.logic.specs.Normal.{atMost}
+use Rattle.logic.specs.Place.{Atom, Kind, atom, has, lacks, least, most, nothing}
 use Rattle.logic.specs.Tree.{Row, leafRow, nodeRow}
-use Rattle.meaning.specs.Description.{placeOf}
 use Rattle.meaning.specs.RowEntries.{rowEntry}
 use Rattle.normal.specs.code.Filling.{Filled, Joined}
-use Rattle.normal.specs.code.Ordered.{tagNumbers, tagPlace, tagSlot}
+use Rattle.normal.specs.code.Ordered.{runOf, tagNumbers, tagPlace, tagSlot}
 use Rattle.passes.specs.code.Pipeline.{walk}
 use Rattle.passes.specs.code.Slots.{Cell, cell, isLink, sameClass, value}
 use Rattle.slots.specs.code.Tables.{lowPart}
@@ -118,7 +116,7 @@ pub record Orderable (t : List ℕ) (used : ℕ) : Type 0 where
   pub few : used ≤ 1008
   pub walkable : (z : List ℕ) → length z ≡ 1008 → take used z ≡ sorted (tagNumbers t 1 used) → Walkable t z used
 
--- The first r of these are the packed entries of the normal form of the description d, whose entries fit their fields.
-pub record NormalRows (d rows : List ℕ) (r : ℕ) : Type 0 where
-  pub pushed : Pushed [] 0 (write (nf unrestricted (placeOf (entriesOf d) 0))) rows r
-  pub bounded : (n : ℕ) → 1 ≤ n → n ≤ length (entriesOf d) → Bounded (nth (entriesOf d) n)
+-- the rows by the tables of settled slots: one entry of kind 6 where the top is impossible, else the rows of all places
+abbrev pub tableRows : List ℕ → ℕ → List ℕ → List ℕ → List (Row Atom ℕ)
+tableRows t used bad full =
+    cond (eqb (getD bad 0 0) 0) (allRows (keepIn full) (runOf t (sorted (tagNumbers t 1 used)) used)) (leafRow 0 (atom nothing 0 0) ∷ [])

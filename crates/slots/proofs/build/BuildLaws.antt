@@ -24,7 +24,7 @@ use Rattle.meaning.specs.Specimen.{top}
 use Rattle.passes.specs.code.Slots.{Slot, atTop, build, high, isLink, leading, low, position, slots, tighten}
 use Rattle.slots.proofs.slots.ChainLaws.{chain-none}
 use Rattle.slots.specs.code.Chain.{Chains}
-use Rattle.slots.specs.code.Tables.{Entered, Kept, Nodes, hashOf, highIn, highKind, keyIn, leadsTo, linkKind, lowKind, slotsFrom, slotsIn}
+use Rattle.slots.specs.code.Tables.{Entered, Exact, Kept, Nodes, hashOf, highIn, highKind, highPart, keyIn, leadsTo, linkKind, lowKind, slotsFrom, slotsIn}
 
 -- ---- kinds by number
 
@@ -156,13 +156,22 @@ module _ {es : List Entry} (O : Owned es) {t next head : List ℕ} {used : ℕ} 
 
 -- ---- the tables at the start
 
+exact-starts : {t : List ℕ} → t ≡ replicate 1009 0 → Exact t 0
+unfolding highPart
+exact-starts e = record {
+  size = ap length e ∙ length-replicate {A = ℕ} 1009 0;
+  high = λ j. omega (arith, zeros-read 1009 e j);
+  top = zeros-read 1009 e 0;
+  rest = λ j l. zeros-read 1009 e j;
+}
+
 pub kept-starts : {t next head : List ℕ} → t ≡ replicate 1009 0 → next ≡ replicate 1009 0 → head ≡ replicate 1021 0 → Kept t next head 0
 kept-starts {t} {next} {head} e f g =
     let heads : ℕ → ℕ = λ h. getD head h 0 in
     let zeros : ℕ → ℕ = λ h. 0 in
     let empty : heads ≡ zeros = fun-ext (λ h. zeros-read 1021 g h) in
     record {
-      size = ap length e ∙ length-replicate {A = ℕ} 1009 0;
+      exact = exact-starts e;
       nexts = ap length f ∙ length-replicate {A = ℕ} 1009 0;
       heads = ap length g ∙ length-replicate {A = ℕ} 1021 0;
       chains = subst (λ (f : ℕ → ℕ). Chains hashOf (λ j. keyIn (getD t j 0)) (λ j. getD next j 0) f 0) (sym empty) (chain-none hashOf (λ j. keyIn (getD t j 0)) (λ j. getD next j 0));

@@ -46,6 +46,8 @@ settle-starts {t} {bad} {full} {used} n e f =
       full-size = ap length f ∙ length-replicate {A = ℕ} 1009 0;
       below = λ j l. refl;
       keys = λ j. refl;
+      highs = λ j. omega arith;
+      rest = λ j l. refl;
       above = rw none-left′;
       bads = λ v l. rw (none-left′, e) (getD-replicate {A = ℕ} 1009 v 0 0 l);
       fulls = λ v l. rw (none-left′, f) (getD-replicate {A = ℕ} 1009 v 0 0 l);
@@ -78,6 +80,9 @@ module _ {o t bad full : List ℕ} {used s : ℕ} (S : Settling o used s t bad f
   small-bound : cond (isLinkHere && inconsistent (suc s) Rest s) 0 (highPart X) < 131072
   unfolding highPart
   small-bound = bool-cases (isLinkHere && inconsistent (suc s) Rest s) (λ q. rw q (omega arith)) (λ q. rw q (omega arith))
+
+  lower-bound : cond (isLinkHere && inconsistent (suc s) Rest s) 0 (highPart X) ≤ highPart X
+  lower-bound = bool-cases (isLinkHere && inconsistent (suc s) Rest s) (λ q. rw q (omega arith)) (λ q. rw q (omega arith))
 
   small-low : lowPart X < 131072
   unfolding lowPart
@@ -122,6 +127,10 @@ module _ {o t bad full : List ℕ} {used s : ℕ} (S : Settling o used s t bad f
         keys = λ j. rw table-is (eq-cases j s
             (λ q. rw q (ap keyIn here ∙ key-made (keyIn X) (lowPart X) (cond (isLinkHere && d) 0 (highPart X)) small-low small-bound))
             (λ q. ap keyIn (getD-set-other t s j Y 0 q) ∙ S .keys j));
+        highs = λ j. rw table-is (eq-cases j s
+            (λ q. rw q (omega (arith, ap highPart here, high-made (keyIn X) (lowPart X) (cond (isLinkHere && d) 0 (highPart X)) small-low small-bound, lower-bound)))
+            (λ q. omega (arith, ap highPart (getD-set-other t s j Y 0 q), S .highs j)));
+        rest = λ j l. rw table-is (getD-set-other t s j Y 0 (λ q. omega arith) ∙ S .rest j l);
         above = rw (more-left, next-one, table-is, slotsFrom, here, slots-other t s Y (suc s) (used - s) (inl (omega arith)), S .above, slot-now);
         bads = λ v l. rw (more-left, next-one, bad-is) (mark-or (broken isLinkHere (lowPart X) h) bad (keyIn X / 131072) v (inconsistent (suc s) Rest v) (omega (arith, S .bad-size)) (S .bads v l));
         fulls = λ v l. rw (more-left, next-one, full-is)

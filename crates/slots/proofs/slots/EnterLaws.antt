@@ -10,14 +10,15 @@ use mathlib.Core.Logic.{_≢_, inr}
 use mathlib.Core.Option.{none}
 use mathlib.Core.Path.{_∙_, _≡_, ap, fun-ext, subst, sym}
 use native.Mathlib.Omega.{arith}
+use Rattle.base.proofs.Lists.{set-each}
 use Rattle.base.proofs.Tests.{bool-cases, eq-cases, eqb-eq, ne-eqb, tests}
 use Rattle.logic.specs.Normal.{found, same}
 use Rattle.passes.specs.code.Keys.{keyNumber}
 use Rattle.slots.proofs.slots.ChainLaws.{chain-new}
 use Rattle.slots.proofs.slots.SearchLaws.{keysOf}
-use Rattle.slots.proofs.slots.TableLaws.{key-made, position-found, position-none, slot-made, slots-last, slots-other, tighten-found, tighten-none}
+use Rattle.slots.proofs.slots.TableLaws.{high-made, key-made, position-found, position-none, slot-made, slots-last, slots-other, tighten-found, tighten-none}
 use Rattle.slots.specs.code.Chain.{Chains, changed, scan}
-use Rattle.slots.specs.code.Tables.{Entered, Kept, hashOf, highIn, highPart, keyIn, lowPart, slotNumber}
+use Rattle.slots.specs.code.Tables.{Entered, Exact, Kept, hashOf, highIn, highPart, keyIn, lowPart, noBound, slotNumber}
 
 -- ---- what a search finds
 
@@ -45,14 +46,23 @@ module _ {t next head : List ℕ} {used : ℕ} (K : Kept t next head used) where
   keys-kept : (s y : ℕ) → s < 1009 → keyIn y ≡ keyIn (getD t s 0) → (j : ℕ) → keysOf (set t s y) j ≡ keysOf t j
   keys-kept s y h e j =
       eq-cases j s
-      (λ q. rw q (ap keyIn (getD-set-same t s y 0 (omega (arith, K .size))) ∙ e))
+      (λ q. rw q (ap keyIn (getD-set-same t s y 0 (omega (arith, K .exact .size))) ∙ e))
       (λ q. ap keyIn (getD-set-other t s j y 0 q))
 
-  pub kept-tighter : (s y : ℕ) → s < 1009 → keyIn y ≡ keyIn (getD t s 0) → Kept (set t s y) next head used
-  kept-tighter s y h e =
+  exact-tighter : (s y : ℕ) → 1 ≤ s → s ≤ used → s < 1009 → highPart y ≤ highPart (getD t s 0) → Exact (set t s y) used
+  exact-tighter s y one le h f =
+      record {
+        size = length-set t s y ∙ K .exact .size;
+        high = set-each (λ (x : ℕ). highPart x ≤ noBound) t (K .exact .high) (omega (arith, K .exact .size)) (omega (arith, f, K .exact .high s));
+        top = getD-set-other t s 0 y 0 (λ q. omega arith) ∙ K .exact .top;
+        rest = λ j l. getD-set-other t s j y 0 (λ q. omega arith) ∙ K .exact .rest j l;
+      }
+
+  pub kept-tighter : (s y : ℕ) → 1 ≤ s → s ≤ used → s < 1009 → keyIn y ≡ keyIn (getD t s 0) → highPart y ≤ highPart (getD t s 0) → Kept (set t s y) next head used
+  kept-tighter s y one le h e f =
       let same = fun-ext (keys-kept s y h e) in
       record {
-        size = length-set t s y ∙ K .size;
+        exact = exact-tighter s y one le h f;
         nexts = K .nexts;
         heads = K .heads;
         chains = subst (λ (f : ℕ → ℕ). Chains hashOf f (λ j. getD next j 0) (λ j. getD head j 0) used) (sym same) (K .chains);
@@ -61,14 +71,24 @@ module _ {t next head : List ℕ} {used : ℕ} (K : Kept t next head used) where
 
   -- ---- a new slot
 
-  module _ (key lo hi : ℕ) (few : used < 1008) (l : lo < 131072) (h : hi < 131072) (none : scan (keysOf t) key used ≡ 0) where
+  module _ (key lo hi : ℕ) (few : used < 1008) (l : lo < 131072) (h : hi ≤ noBound) (none : scan (keysOf t) key used ≡ 0) where
     abbrev put : List ℕ
     put = set t (used + 1) (slotNumber key lo hi)
+
+    exact-new : Exact put (used + 1)
+    exact-new =
+        let y = slotNumber key lo hi in
+        record {
+          size = length-set t (used + 1) y ∙ K .exact .size;
+          high = set-each (λ (x : ℕ). highPart x ≤ noBound) t (K .exact .high) (omega (arith, K .exact .size)) (omega (arith, h, high-made key lo hi l (omega arith)));
+          top = getD-set-other t (used + 1) 0 y 0 (λ q. omega arith) ∙ K .exact .top;
+          rest = λ j b. getD-set-other t (used + 1) j y 0 (λ q. omega arith) ∙ K .exact .rest j (omega arith);
+        }
 
     keys-new : (j : ℕ) → keysOf put j ≡ changed (keysOf t) (suc used) key j
     keys-new j =
         eq-cases j (used + 1)
-        (λ q. let z : eqb j (suc used) ≡ true = omega tests in rw (z, q) (ap keyIn (getD-set-same t (used + 1) (slotNumber key lo hi) 0 (omega (arith, K .size))) ∙ key-made key lo hi l h))
+        (λ q. let z : eqb j (suc used) ≡ true = omega tests in rw (z, q) (ap keyIn (getD-set-same t (used + 1) (slotNumber key lo hi) 0 (omega (arith, K .exact .size))) ∙ key-made key lo hi l (omega arith)))
         (λ q. let z : eqb j (suc used) ≡ false = omega tests in rw z (ap keyIn (getD-set-other t (used + 1) j (slotNumber key lo hi) 0 q)))
 
     stored-new : (xs : List ℕ) (i x : ℕ) → i < length xs → (j : ℕ) → getD (set xs i x) j 0 ≡ changed (λ k. getD xs k 0) i x j
@@ -87,7 +107,7 @@ module _ {t next head : List ℕ} {used : ℕ} (K : Kept t next head used) where
         let nexts-new = fun-ext (stored-new next (suc used) n (omega (arith, K .nexts))) in
         let heads-new = fun-ext (stored-new head (hashOf key) (suc used) (omega (arith, K .heads, bucket-small))) in
         record {
-          size = length-set t (used + 1) (slotNumber key lo hi) ∙ K .size;
+          exact = exact-new;
           nexts = length-set next (used + 1) n ∙ K .nexts;
           heads = length-set head (hashOf key) (used + 1) ∙ K .heads;
           chains = rw one
@@ -112,7 +132,7 @@ module _ {t next head : List ℕ} {used : ℕ} (K : Kept t next head used) where
 -- ---- the whole
 
 module _ {t next head : List ℕ} {used : ℕ} (K : Kept t next head used) (v : ℕ) (b : Bool) (n lo hi : ℕ) {key s : ℕ} (few : used < 1008) (small : n < 65536)
-    (l : lo < 131072) (h : hi < 131072) (k : key ≡ keyNumber v b n) (found : s ≡ scan (keysOf t) key used) where
+    (l : lo < 131072) (h : hi ≤ noBound) (k : key ≡ keyNumber v b n) (found : s ≡ scan (keysOf t) key used) where
   pub enter-found : {t′ : List ℕ} → s ≢ 0
       → t′ ≡ set t s (slotNumber (keyIn (getD t s 0)) (max (lowPart (getD t s 0)) lo) (min (highPart (getD t s 0)) hi))
       → Entered t next head used v b n lo hi s t′ next head
@@ -127,9 +147,9 @@ module _ {t next head : List ℕ} {used : ℕ} (K : Kept t next head used) (v : 
       record {
         at = sym (position-found t v b n small s is′ 1 used (omega arith) (omega (arith, f .0)) none);
         from = omega arith;
-        to = omega (arith, f .0);
-        tightened = rw (same, e, is′) (sym (tighten-found t v b n small s is′ lo hi 1 used (omega (arith, f .0, K .size)) l h (omega arith) (omega (arith, f .0)) none));
-        kept = rw (same, e) (kept-tighter K s y (omega (arith, f .0)) (key-made (keyIn x) _ _ (omega arith) (omega arith)));
+        tightened = rw (same, e, is′) (sym (tighten-found t v b n small s is′ lo hi 1 used (omega (arith, f .0, K .exact .size)) l (omega arith) (omega arith) (omega (arith, f .0)) none));
+        kept = rw (same, e) (kept-tighter K s y (omega arith) (f .0) (omega (arith, f .0)) (key-made (keyIn x) _ _ (omega arith) (omega arith))
+            (omega (arith, high-made (keyIn x) (max (lowPart x) lo) (min (highPart x) hi) (omega arith) (omega arith))));
       }
 
   pub enter-new : {t′ next′ head′ : List ℕ} → s ≡ 0 → t′ ≡ set t (used + 1) (slotNumber key lo hi) → next′ ≡ set next (used + 1) (getD head (hashOf key) 0)
@@ -140,12 +160,11 @@ module _ {t next head : List ℕ} {used : ℕ} (K : Kept t next head used) (v : 
       let same : max used (used + 1) ≡ suc used = omega arith in
       let same′ : max used (used + 1) ≡ used + 1 = omega arith in
       let y = slotNumber key lo hi in
-      let last : getD (set t (used + 1) y) (1 + used) 0 ≡ y = ap (λ (i : ℕ). getD (set t (used + 1) y) i 0) (omega arith) ∙ getD-set-same t (used + 1) y 0 (omega (arith, K .size)) in
+      let last : getD (set t (used + 1) y) (1 + used) 0 ≡ y = ap (λ (i : ℕ). getD (set t (used + 1) y) i 0) (omega arith) ∙ getD-set-same t (used + 1) y 0 (omega (arith, K .exact .size)) in
       record {
         at = sym (position-none t v b n small 1 used none ∙ omega arith);
         from = omega arith;
-        to = omega arith;
         tightened = rw (same, e) (slots-last (set t (used + 1) y) 1 used
-            ∙ rw (last, slots-other t (used + 1) y 1 used (inr (omega arith)), k, slot-made v b n lo hi small l h) (sym (tighten-none t v b n small lo (highIn hi) 1 used none)));
+            ∙ rw (last, slots-other t (used + 1) y 1 used (inr (omega arith)), k, slot-made v b n lo hi small l (omega arith)) (sym (tighten-none t v b n small lo (highIn hi) 1 used none)));
         kept = rw (same′, e, f, g) (kept-new K key lo hi few l h nothing′);
       }

@@ -17,7 +17,7 @@ use Rattle.passes.proofs.SlotLists.KeyLaws.{class-of, key-parts, key-same, name
 use Rattle.passes.proofs.SlotLists.SlotLaws.{class-self}
 use Rattle.passes.specs.code.Keys.{keyNumber}
 use Rattle.passes.specs.code.Slots.{Slot, position, sameKey, slot, smaller, tighten}
-use Rattle.slots.specs.code.Tables.{highIn, highPart, keyIn, lowPart, slotIn, slotNumber, slotsFrom}
+use Rattle.slots.specs.code.Tables.{highIn, highPart, keyIn, lowPart, noBound, slotIn, slotNumber, slotsFrom}
 
 -- ---- taking a number apart
 
@@ -67,13 +67,13 @@ key-test x v b n s =
 -- of two upper bounds the smaller
 pub smaller-high : (a c : ℕ) → smaller (highIn a) (highIn c) ≡ highIn (min a c)
 smaller-high a c =
-    lt-cases a 65536
-    (λ h. lt-cases c 65536
-    (λ k. let z : ltb (min a c) 65536 ≡ true = omega tests in rw (lt-ltb h, lt-ltb k, z))
+    lt-cases a noBound
+    (λ h. lt-cases c noBound
+    (λ k. let z : ltb (min a c) noBound ≡ true = omega tests in rw (lt-ltb h, lt-ltb k, z))
     (λ k. let e : min a c ≡ a = omega arith in rw (e, lt-ltb h, ge-ltb k)))
-    (λ h. lt-cases c 65536
+    (λ h. lt-cases c noBound
     (λ k. let e : min a c ≡ c = omega arith in rw (e, ge-ltb h, lt-ltb k))
-    (λ k. let z : ltb (min a c) 65536 ≡ false = omega tests in rw (ge-ltb h, ge-ltb k, z)))
+    (λ k. let z : ltb (min a c) noBound ≡ false = omega tests in rw (ge-ltb h, ge-ltb k, z)))
 
 -- ---- the slots of a table
 

@@ -15,13 +15,13 @@ use Rattle.slots.proofs.slots.EnterLaws.{scan-some}
 use Rattle.slots.proofs.states.SlotSearch.{high-slot, low-slot}
 use Rattle.slots.specs.code.Chain.{Chains, scan}
 use Rattle.slots.specs.code.States.{Indexed, highAt, lowAt}
-use Rattle.slots.specs.code.Tables.{Kept, Settling, highIn, highPart, lowPart}
+use Rattle.slots.specs.code.Tables.{Exact, Kept, Settling, highIn, highPart, lowPart, noBound}
 
 -- what a search finds is a slot or 0
 pub scan-most : (key : ℕ → ℕ) (k n : ℕ) {s : ℕ} → s ≡ scan key k n → s ≤ n
 scan-most key k n {s} e = eq-cases s 0 (λ z. omega arith) (λ z. scan-some key k n e z .0)
 
-module _ {ss : List Slot} {t next head : List ℕ} {used : ℕ} (i : Indexed ss t next head used) {s x : ℕ} (b : s ≤ used) (e : x ≡ cond (eqb s 0) 65536 (getD t s 0)) where
+module _ {ss : List Slot} {t next head : List ℕ} {used : ℕ} (i : Indexed ss t next head used) {s x : ℕ} (b : s ≤ used) (e : x ≡ cond (eqb s 0) noBound (getD t s 0)) where
   pub bounds-low : lowPart x ≡ lowAt ss s
   unfolding lowPart
   bounds-low =
@@ -41,16 +41,25 @@ pub high-none : {h : ℕ} → h ≡ 0 → atMost 0 (highIn h) ≡ true
 high-none e = rw e
 
 pub high-some : (h : ℕ) → h ≢ 0 → atMost 0 (highIn h) ≡ false
-high-some h z = lt-cases h 65536 (λ l. rw (lt-ltb l) (omega tests)) (λ l. rw (ge-ltb l))
+high-some h z = lt-cases h noBound (λ l. rw (lt-ltb l) (omega tests)) (λ l. rw (ge-ltb l))
 
 -- an upper bound is there, or is small enough
-pub high-there : (h : ℕ) → ltb h 65536 ≡ found (highIn h)
-high-there h = lt-cases h 65536 (λ l. rw (lt-ltb l)) (λ l. rw (ge-ltb l))
+pub high-there : (h : ℕ) → ltb h noBound ≡ found (highIn h)
+high-there h = lt-cases h noBound (λ l. rw (lt-ltb l)) (λ l. rw (ge-ltb l))
 
 pub high-most : (h n : ℕ) → n < 65536 → leb h n ≡ atMost n (highIn h)
-high-most h n b = lt-cases h 65536 (λ l. rw (lt-ltb l)) (λ l. rw (ge-ltb l, gt-leb {m = h} {n = n} (omega arith)))
+high-most h n b = lt-cases h noBound (λ l. rw (lt-ltb l)) (λ l. rw (ge-ltb l, gt-leb {m = h} {n = n} (omega arith)))
 
--- ---- chains of the settled table
+-- ---- the settled table: its numbers, and its chains
+
+pub settled-exact : {origin t bad full : List ℕ} {used : ℕ} → Exact origin used → Settling origin used 0 t bad full → Exact t used
+settled-exact x s =
+    record {
+      size = s .size;
+      high = λ j. omega (arith, s .highs j, x .high j);
+      top = s .below 0 (omega arith) ∙ x .top;
+      rest = λ j l. s .rest j l ∙ x .rest j l;
+    }
 
 chains-as : {hash key key′ next head : ℕ → ℕ} {used : ℕ} → ((j : ℕ) → key′ j ≡ key j) → Chains hash key next head used → Chains hash key′ next head used
 chains-as {hash} {key} {key′} e c =
@@ -66,7 +75,7 @@ chains-as {hash} {key} {key′} e c =
 pub settled-kept : {origin t next head bad full : List ℕ} {used : ℕ} → Kept origin next head used → Settling origin used 0 t bad full → Kept t next head used
 settled-kept k s =
     record {
-      size = s .size;
+      exact = settled-exact (k .exact) s;
       nexts = k .nexts;
       heads = k .heads;
       chains = chains-as (λ j. s .keys j) (k .chains);

@@ -16,18 +16,18 @@ use Rattle.blocks.specs.declared.Entry.{Entry}
 use Rattle.meaning.specs.Owned.{Owned}
 use Rattle.passes.specs.code.Slots.{Slot}
 use Rattle.slots.proofs.HoldingLaws.{state-every}
-use Rattle.slots.specs.code.States.{holdsInState, holdsBySlots, stateBelow, stateOf}
+use Rattle.slots.specs.code.States.{holdsInState, holdsBySlots, passed, stateBelow, stateOf}
 
 -- the states of the top and of each 'every' before entry n are in the table
 pub record States (ss : List Slot) (d : List Entry) (states : List ℕ) (n : ℕ) : Type 0 where
   pub right : (o : ℕ) → o < n → (o ≢ 0 → nth d o .kind ≡ 5) → getD states o 0 ≡ stateOf ss d o o
 
--- no state is above 1,024
-pub small-start : {states : List ℕ} → states ≡ replicate 1009 0 → (j : ℕ) → getD states j 0 ≤ 1024
+-- no state is above `passed`
+pub small-start : {states : List ℕ} → states ≡ replicate 1009 0 → (j : ℕ) → getD states j 0 ≤ passed
 small-start e j = rw (zeros-read 1009 e j) (omega arith)
 
-pub small-more : (states : List ℕ) {n x : ℕ} → ((j : ℕ) → getD states j 0 ≤ 1024) → n < length states → x ≤ 1024 → (j : ℕ) → getD (set states n x) j 0 ≤ 1024
-small-more states h l b j = set-each (λ x. x ≤ 1024) states h l b j
+pub small-more : (states : List ℕ) {n x : ℕ} → ((j : ℕ) → getD states j 0 ≤ passed) → n < length states → x ≤ passed → (j : ℕ) → getD (set states n x) j 0 ≤ passed
+small-more states h l b j = set-each (λ x. x ≤ passed) states h l b j
 
 module _ (ss : List Slot) (d : List Entry) where
   pub states-start : {states : List ℕ} → states ≡ replicate 1009 0 → States ss d states 1

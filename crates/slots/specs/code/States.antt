@@ -28,12 +28,19 @@ highAt ss j = cond (eqb j 0) none (slotHigh (slotAt 1 (settled 1 ss) j))
 
 -- ---- where owners lead
 
--- The state of a place of D: the slot of N that it stands below, 0 for the top; 1,023, below which nothing stands, where N has no such
--- place; or 1,024 where an at most 0 was passed. The link l leads from state s to this one.
+-- Two states that are no place of N: `nowhere`, below which nothing stands, and `passed`, where all holds. No slot has either number.
+abbrev pub nowhere : ℕ
+nowhere = 1023
+
+abbrev pub passed : ℕ
+passed = 1024
+
+-- The state of a place of D: the slot of N that it stands below, 0 for the top; nowhere, where N has no such place; or passed, where an
+-- at most 0 was passed. The link l leads from state s to this one.
 unfoldable pub stateBelow : List Slot → ℕ → ℕ → ℕ
 stateBelow ss s l =
-    cond (eqb s 1024) 1024
-    (cond (eqb (slotFor ss s true l) 0) 1023 (cond (atMost 0 (highAt ss (slotFor ss s true l))) 1024 (slotFor ss s true l)))
+    cond (eqb s passed) passed
+    (cond (eqb (slotFor ss s true l) 0) nowhere (cond (atMost 0 (highAt ss (slotFor ss s true l))) passed (slotFor ss s true l)))
 
 -- the state of the place that entry o of D owns, the owners followed for at most so many steps
 unfoldable pub stateOf : List Slot → List Entry → ℕ → ℕ → ℕ
@@ -42,25 +49,22 @@ stateOf ss d (suc steps) o = cond (eqb o 0) 0 (stateBelow ss (stateOf ss d steps
 
 -- ---- support
 
--- "Kinds 1 and 2 need the same entry; kind 3 needs n = 0 or at least m with m ≥ n; kind 4 needs at most m with m ≤ n; .. kind 6 never
--- does", by a slot's bounds: kind k and number n, for the kinds that are no 'every'
+-- "Kinds 1 and 2 need the same entry; kind 3 needs n = 0 or at least m with m ≥ n; kind 4 needs at most m with m ≤ n; kind 5 always
+-- holds; kind 6 never does", by a slot's bounds: kind k and number n
 unfoldable pub supportedBy : ℕ → ℕ → ℕ → Option ℕ → Bool
 supportedBy k n lo hi =
-    cond (eqb k 1) (not (eqb lo 0)) (cond (eqb k 2) (found hi) (cond (eqb k 3) (leb n lo) (cond (eqb k 4) (atMost n hi) false)))
+    cond (eqb k 1) (not (eqb lo 0)) (cond (eqb k 2) (found hi) (cond (eqb k 3) (leb n lo) (cond (eqb k 4) (atMost n hi) (eqb k 5))))
 
--- the name of a kind is a link's, for the kinds that are no 'every'
-unfoldable pub linkName : ℕ → Bool
-linkName k = cond (eqb k 3) true (eqb k 4)
+-- the slot whose bounds tell at place v, by the kind and name of an entry; 0 for kinds 5 and 6, where none is needed
+unfoldable pub entrySlot : List Slot → ℕ → ℕ → ℕ → ℕ
+entrySlot ss v k n =
+    cond (eqb k 1) (slotFor ss v false n) (cond (eqb k 2) (slotFor ss v false n) (cond (eqb k 3) (slotFor ss v true n) (cond (eqb k 4) (slotFor ss v true n) 0)))
 
--- the slot of an entry at place v
-abbrev pub entrySlot : List Slot → ℕ → Entry → ℕ
-entrySlot ss v e = slotFor ss v (linkName (e .kind)) (e .name)
-
--- the entry holds in a place of that state: "kind 5 always holds"
+-- the entry holds in a place of that state
 unfoldable pub holdsInState : List Slot → ℕ → Entry → Bool
 holdsInState ss s e =
-    cond (eqb (e .kind) 5) true
-    (cond (eqb s 1024) true (supportedBy (e .kind) (e .number) (lowAt ss (entrySlot ss s e)) (highAt ss (entrySlot ss s e))))
+    cond (eqb s passed) true
+    (supportedBy (e .kind) (e .number) (lowAt ss (entrySlot ss s (e .kind) (e .name))) (highAt ss (entrySlot ss s (e .kind) (e .name))))
 
 -- entry n of D holds
 unfoldable pub holdsBySlots : List Slot → List Entry → ℕ → Bool

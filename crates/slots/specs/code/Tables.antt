@@ -2,9 +2,9 @@
 -- Assumes nothing.
 use Prim.Native.Nat.{_%_, _*_, _+_, _-_, _/_, _<_, _≤_, max, suc, zero, ℕ}
 use lib.Dec.{eqb, ltb}
-use lib.ListN.{getD, length, set}
+use lib.ListN.{getD, length, replicate, set}
 use mathlib.Core.Bool.{Bool, _&&_, _||_, cond, false, not, true}
-use mathlib.Core.List.{List, [], _∷_, map}
+use mathlib.Core.List.{List, [], _++_, _∷_, map}
 use mathlib.Core.Option.{Option, none, some}
 use mathlib.Core.Path.{_≡_}
 use Rattle.blocks.specs.Entries.{Bounded, entriesOf, nth}
@@ -12,16 +12,21 @@ use Rattle.blocks.specs.declared.Entry.{Entry}
 use Rattle.logic.specs.Normal.{found}
 use Rattle.logic.specs.Record.{bit}
 use Rattle.meaning.specs.Description.{rowOf}
+use Rattle.passes.specs.code.Keys.{keyNumber}
 use Rattle.passes.specs.code.Slots.{Slot, broken, inconsistent, nonempty, position, settled, slot, slots, tighten}
 use Rattle.slots.specs.code.Chain.{Chains}
 
--- an upper bound as a number; 65,536 for none
+-- the number that stands for no upper bound: no bound of an entry is as large
+abbrev pub noBound : ℕ
+noBound = 65536
+
+-- an upper bound as a number
 abbrev pub highNumber : Option ℕ → ℕ
-highNumber none = 65536
+highNumber none = noBound
 highNumber (some h) = h
 
 abbrev pub highIn : ℕ → Option ℕ
-highIn h = cond (ltb h 65536) (some h) none
+highIn h = cond (ltb h noBound) (some h) none
 
 -- a slot as a number: its key, then its two bounds
 unfoldable pub slotNumber : ℕ → ℕ → ℕ → ℕ
@@ -36,6 +41,9 @@ lowPart x = x / 131072 % 131072
 unfoldable pub highPart : ℕ → ℕ
 highPart x = x % 131072
 
+abbrev pub slotWord : Slot → ℕ
+slotWord (slot v b n lo hi) = slotNumber (keyNumber v b n) lo (highNumber hi)
+
 unfoldable pub slotIn : ℕ → Slot
 slotIn x = slot (keyIn x / 131072) (eqb (keyIn x / 65536 % 2) 1) (keyIn x % 65536) (lowPart x) (highIn (highPart x))
 
@@ -47,6 +55,26 @@ slotsFrom t i (suc n) = slotIn (getD t i 0) ∷ slotsFrom t (suc i) n
 abbrev pub slotsIn : List ℕ → ℕ → List Slot
 slotsIn t used = slotsFrom t 1 used
 
+-- the table of some slots, and nothing else: 0 at number 0 and after them
+unfoldable pub tableOf : List Slot → List ℕ
+tableOf ss = 0 ∷ (map slotWord ss ++ replicate (1008 - length ss) 0)
+
+-- the marks of n places from place v on: 1 where the test holds, else 0
+unfoldable pub marksFrom : (ℕ → Bool) → ℕ → ℕ → List ℕ
+marksFrom f v zero = []
+marksFrom f v (suc n) = bit (f v) ∷ marksFrom f (suc v) n
+
+-- the marks of all places: the top, and one below each slot
+abbrev pub marks : (ℕ → Bool) → List ℕ
+marks f = marksFrom f 0 1009
+
+-- a table of which every number is known by its slots: upper bounds of at most `noBound`, and 0 at number 0 and after the slots
+pub record Exact (t : List ℕ) (used : ℕ) : Type 0 where
+  pub size : length t ≡ 1009
+  pub high : (j : ℕ) → highPart (getD t j 0) ≤ noBound
+  pub top : getD t 0 0 ≡ 0
+  pub rest : (j : ℕ) → used < j → getD t j 0 ≡ 0
+
 -- the bucket of a key
 unfoldable pub hashOf : ℕ → ℕ
 hashOf key = key % 1021
@@ -57,7 +85,7 @@ ChainsIn t next head used = Chains hashOf (λ j. keyIn (getD t j 0)) (λ j. getD
 
 -- a table of so many slots, no two of one key, on their chains
 pub record Kept (t next head : List ℕ) (used : ℕ) : Type 0 where
-  pub size : length t ≡ 1009
+  pub exact : Exact t used
   pub nexts : length next ≡ 1009
   pub heads : length head ≡ 1021
   pub chains : ChainsIn t next head used
@@ -73,9 +101,9 @@ linkKind k = cond (eqb k 3) true (cond (eqb k 4) true (eqb k 5))
 unfoldable pub lowKind : ℕ → ℕ → ℕ
 lowKind k m = cond (eqb k 1) 1 (cond (eqb k 2) 0 (cond (eqb k 3) m (cond (eqb k 4) 0 (cond (eqb k 5) 0 1))))
 
--- at most so many; 65,536 for no bound
+-- at most so many
 unfoldable pub highKind : ℕ → ℕ → ℕ
-highKind k m = cond (eqb k 1) 65536 (cond (eqb k 2) 0 (cond (eqb k 3) 65536 (cond (eqb k 4) m (cond (eqb k 5) 65536 0))))
+highKind k m = cond (eqb k 1) noBound (cond (eqb k 2) 0 (cond (eqb k 3) noBound (cond (eqb k 4) m (cond (eqb k 5) noBound 0))))
 
 -- where the entries before entry n lead: the top to 0, an 'every' to its slot
 unfoldable pub leadsTo : List Entry → List ℕ → ℕ → ℕ → Option ℕ
@@ -85,7 +113,6 @@ leadsTo es node n j = cond (eqb j 0 || (ltb j n && eqb (nth es j .kind) 5)) (som
 pub record Entered (t next head : List ℕ) (used v : ℕ) (b : Bool) (n lo hi r : ℕ) (t′ next′ head′ : List ℕ) : Type 0 where
   pub at : r ≡ position 1 (slotsIn t used) v b n
   pub from : 1 ≤ r
-  pub to : r ≤ used + 1
   pub tightened : slotsIn t′ (max used r) ≡ tighten (slotsIn t used) v b n lo (highIn hi)
   pub kept : Kept t′ next′ head′ (max used r)
 
@@ -95,9 +122,13 @@ pub record Nodes (node : List ℕ) (used : ℕ) : Type 0 where
   pub top : getD node 0 0 ≡ 0
   pub small : (j : ℕ) → getD node j 0 ≤ used
 
--- the slots of a description stand in the table
+-- the slots of a description
+abbrev pub slotsOf : List ℕ → List Slot
+slotsOf d = slots (map rowOf (entriesOf d))
+
+-- they stand in the table
 pub record Built (d : List ℕ) (used : ℕ) (t next head : List ℕ) : Type 0 where
-  pub slotted : slots (map rowOf (entriesOf d)) ≡ slotsIn t used
+  pub slotted : slotsOf d ≡ slotsIn t used
   pub kept : Kept t next head used
   pub few : used ≤ 1008
   pub bounded : (n : ℕ) → 1 ≤ n → n ≤ length (entriesOf d) → Bounded (nth (entriesOf d) n)
@@ -115,6 +146,8 @@ pub record Settling (origin : List ℕ) (used s : ℕ) (t bad full : List ℕ) :
   pub full-size : length full ≡ 1009
   pub below : (j : ℕ) → j ≤ s → getD t j 0 ≡ getD origin j 0
   pub keys : (j : ℕ) → keyIn (getD t j 0) ≡ keyIn (getD origin j 0)
+  pub highs : (j : ℕ) → highPart (getD t j 0) ≤ highPart (getD origin j 0)
+  pub rest : (j : ℕ) → used < j → getD t j 0 ≡ getD origin j 0
   pub above : slotsFrom t (suc s) (used - s) ≡ settled (suc s) (slotsFrom origin (suc s) (used - s))
   pub bads : (v : ℕ) → v < 1009 → getD bad v 0 ≡ bit (inconsistent (suc s) (slotsFrom origin (suc s) (used - s)) v)
   pub fulls : (v : ℕ) → v < 1009 → getD full v 0 ≡ bit (nonempty (suc s) (settled (suc s) (slotsFrom origin (suc s) (used - s))) v)
@@ -131,13 +164,15 @@ pub record Slotted (t bad full : List ℕ) (s : ℕ) (t′ bad′ full′ : List
       (set full (keyIn (getD t s 0) / 131072) 1) full
 
 -- The slots of a description stand in the table, settled, each at a place of a lower number and with a key of its own; `bad` and
--- `full` are what they say of the top and of each place.
+-- `full` are what they say of each place.
 pub record Settled (d : List ℕ) (used : ℕ) (t bad full : List ℕ) : Type 0 where
   pub few : used ≤ 1008
-  pub slotted : slotsFrom t 1 used ≡ settled 1 (slots (map rowOf (entriesOf d)))
-  pub bads : getD bad 0 0 ≡ bit (inconsistent 1 (slots (map rowOf (entriesOf d))) 0)
+  pub exact : Exact t used
+  pub slotted : slotsFrom t 1 used ≡ settled 1 (slotsOf d)
+  pub bad-size : length bad ≡ 1009
+  pub bads : (v : ℕ) → v < 1009 → getD bad v 0 ≡ bit (inconsistent 1 (slotsOf d) v)
   pub full-size : length full ≡ 1009
-  pub fulls : (v : ℕ) → v < 1009 → getD full v 0 ≡ bit (nonempty 1 (settled 1 (slots (map rowOf (entriesOf d)))) v)
+  pub fulls : (v : ℕ) → v < 1009 → getD full v 0 ≡ bit (nonempty 1 (settled 1 (slotsOf d)) v)
   pub apart : (i j : ℕ) → 1 ≤ i → i < j → j ≤ used → eqb (keyIn (getD t i 0)) (keyIn (getD t j 0)) ≡ false
   pub lower : (j : ℕ) → 1 ≤ j → j ≤ used → keyIn (getD t j 0) / 131072 < j
   pub bounded : (n : ℕ) → 1 ≤ n → n ≤ length (entriesOf d) → Bounded (nth (entriesOf d) n)

@@ -6,12 +6,12 @@ use Rattle.normal.proofs.output.normalise.Statement.{statement}
 use Rattle.normal.proofs.output.normalise.Tie as tie
 
 write-normal-requires : tie.Need-write-normal-requires
-write-normal-requires c κs = rw (c .before .before .before .before .before .slotting2 .given .1) at (c .before .before .before .before .before .before .before .fill .ensures)
+write-normal-requires c κs = rw (c .before .before .before .before .before .slotting2 .given .1) at (c .before .before .before .before .before .before .before .fill .ensures .4)
 
 returns : tie.Need-returns
 returns c =
     let a = c .before .before .before .before .before .before .before .before .before in
-    let e = input-refused (a .args .description .now) (a .args .out .now) (rw (c .before .slotting .given .1) at (c .before .before .before .fill .ensures)) in
+    let e = input-refused (a .args .description .now) (a .args .out .now) (rw (c .before .slotting .given .1) at (c .before .before .before .fill .ensures .4)) in
     (sym e, sym (refused-output (a .args .description .now) (a .args .out .now) e))
 
 pub normalise-spec : {M : Type 1} → statement M

@@ -62,14 +62,18 @@ loop-holds c =
 element-copy-out-long : tie.Need-element-copy-out-long Inv-loop μ-loop
 element-copy-out-long c = let o = owner-read c in omega arith
 
+entry-key-requires : tie.Need-entry-key-requires Inv-loop μ-loop
+entry-key-requires c κs =
+    let w = c .before .before .before .before .before in
+    let l = w .before .before .before in
+    omega (arith, c .before .before .before .long .ensures .0, l .loop .inv .4 .small (w .wide .result), l .loop .inv .2)
+
 enter-requires : tie.Need-enter-requires Inv-loop μ-loop
 enter-requires c κs =
-    let w = c .before .before .before .before .before .before .before .before .before in
-    let l = w .before .before .before in (
+    let l = c .before .before .before .before .before .before .before .before .before .before .before in (
       l .loop .inv .3,
       omega (arith, l .loop .inv .2),
-      omega (arith, c .before .before .before .before .before .before .before .long .ensures .0, l .loop .inv .4 .small (w .wide .result), l .loop .inv .2),
-      c .before .before .long2 .ensures .1,
+      c .before .before .entry-key .ensures .1,
       omega (arith, c .before .low-kind .ensures .1),
       omega (arith, c .high-kind .ensures .1),
     )
@@ -79,20 +83,23 @@ element-write-node c = omega arith
 
 loop-again : tie.Need-loop-again Inv-loop μ-loop
 loop-again c =
-    let w = c .before .before .before .before .before .before .before .before .before .before .before in
+    let w = c .before .before .before .before .before .before .before .before .before .before in
     let l = w .before .before .before in
     let a = l .before .before in
     let o = owner-read w in
     let small = w .before .nth-entry .ok in
     let e = w .before .nth-entry .result in
+    let place : c .before .before .before .before .before .before .before .before .long .result ≡ getD (l .loop .node) (e .owner) 0
+    = c .before .before .before .before .before .before .before .before .long .ensures .0 ∙ ap (λ (i : ℕ). getD (l .loop .node) i 0) (o .0) in
     let E : Entered (l .loop .table) (l .loop .next) (l .loop .head) (l .loop .used) (getD (l .loop .node) (e .owner) 0) (linkKind (e .kind)) (e .name)
     (lowKind (e .kind) (e .number)) (highKind (e .kind) (e .number)) (c .before .enter .result) _ _ _ =
-    rw (c .before .before .before .before .before .before .before .before .before .long .ensures .0, o .0, c .before .before .before .before .before .link-kind .ensures, c .before .before .before .before .long2 .ensures .0, c .before .before .before .low-kind .ensures .0, c .before .before .high-kind .ensures .0) at (c .before .enter .ensures) in
+    rw (c .before .before .before .low-kind .ensures .0, c .before .before .high-kind .ensures .0) at
+    (c .before .enter .ensures .1 (getD (l .loop .node) (e .owner) 0) (linkKind (e .kind)) (e .name) (omega (arith, small)) (c .before .before .before .before .entry-key .ensures .0 ∙ rw place)) in
     let m = c .larger .ensures in
     let r = entry-read (w .before) in (
       omega arith,
       omega arith,
-      omega (arith, E .to),
+      omega (arith, c .before .enter .ensures .0),
       rw m (E .kept),
       rw m (nodes-more (a .pre .2) (l .loop .inv .4) (l .loop .n) (l .loop .inv .0) (omega arith) (omega arith) r (omega (arith, small)) E),
       l .loop .inv .5 ∙ rw m (build-goes (a .pre .2) (l .loop .inv .4) (l .loop .n) (l .loop .inv .0) (omega arith) (omega arith) r (omega (arith, small)) E),
@@ -109,6 +116,6 @@ pub build-spec : {M : Type 1} → statement M
 build-spec =
     tie.close
     (tie.spec Inv-loop μ-loop loop-holds (λ c κs. search needs) (λ c κs. search needs) (λ c. search needs)
-    element-copy-out-long (λ c κs. search needs) (λ c κs. search needs) (λ c κs. search needs) (λ c κs. search needs)
-    (λ c κs. search needs) enter-requires (λ c. search needs) (λ c. search needs) element-write-node
+    element-copy-out-long (λ c κs. search needs) entry-key-requires (λ c κs. search needs) (λ c κs. search needs)
+    enter-requires (λ c. search needs) (λ c. search needs) element-write-node
     (λ c κs. search needs) (λ c. search needs) (λ c. search needs) loop-again returns)

@@ -10,7 +10,7 @@ settle-requires : tie.Need-settle-requires
 settle-requires c κs =
     let a = c .before .before .before .before .before .before .before .before .before in
     let r = c .before .before .before .build .ensures in
-    (r .few, r .kept .size, built-placed r, a .pre .6, a .pre .7)
+    (r .few, r .kept .exact .size, built-placed r, a .pre .6, a .pre .7)
 
 returns : tie.Need-returns
 returns c =

@@ -2,6 +2,7 @@
 use borrow.Author.Needs.{needs}
 use mathlib.Core.Path.{_∙_, sym}
 use native.Mathlib.Omega.{arith}
+use Rattle.slots.proofs.filling.FillingLaws.{filling-accepted, filling-refused}
 use Rattle.slots.proofs.filling.fill.Statement.{statement}
 use Rattle.slots.proofs.filling.fill.Tie as tie
 
@@ -12,15 +13,17 @@ cast-t17 : tie.Need-cast-t17
 cast-t17 c = omega (arith, c .fill-accepted .ensures .few)
 
 returns : tie.Need-returns
-returns c = sym (c .before .before .before .read .ensures) ∙ c .before .reading .given .1
+returns c =
+    let e = sym (c .before .before .before .read .ensures) ∙ c .before .reading .given .1 in
+    let w = filling-refused _ e _ _ _ in
+    (w .0, w .1, w .2, w .3, e)
 
 returns-2 : tie.Need-returns-2
 returns-2 c =
-    record {
-      total = _;
-      read = sym (c .before .before .before .before .before .before .before .read .ensures) ∙ c .before .before .before .before .before .reading2 .given .1;
-      slots-settled = c .fill-accepted .ensures;
-    }
+    let e = sym (c .before .before .before .before .before .before .before .read .ensures) ∙ c .before .before .before .before .before .reading2 .given .1 in
+    let s = c .fill-accepted .ensures in
+    let w = filling-accepted e s _ _ _ in
+    (w .0, w .1, w .2, w .3, record { total = _; read = e; slots-settled = s })
 
 pub fill-spec : {M : Type 1} → statement M
 fill-spec =

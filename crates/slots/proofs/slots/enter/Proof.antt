@@ -8,25 +8,26 @@ use Rattle.slots.proofs.slots.enter.Tie as tie
 
 tighten-requires : tie.Need-tighten-requires
 tighten-requires c κs =
-    let a = c .before .before .before .before .before .before .before in
+    let a = c .before .before .before .before .before .before in
     let f = scan-some (keysOf (a .args .table .now)) _ _ (c .before .before .search .ensures) (c .before .if1 .taken) in
-    (omega (arith, f .0), a .pre .4, a .pre .5, omega (arith, f .1, c .before .before .before .before .before .before .key-of .ensures .1))
+    (omega (arith, f .0), a .pre .3, omega (arith, a .pre .4), omega (arith, f .1, a .pre .2))
 
 returns : tie.Need-returns
 returns c =
-    let a = c .before .before .before .before .before .before .before .before in
-    enter-found (a .pre .0) _ _ _ _ _ (a .pre .1) (a .pre .3) (a .pre .4) (a .pre .5) (c .before .before .before .before .before .before .before .key-of .ensures .0)
-    (c .before .before .before .search .ensures) (c .before .before .if1 .taken) (c .tighten .ensures)
+    let a = c .before .before .before .before .before .before .before in
+    let e = c .before .before .before .search .ensures in
+    let f = scan-some (keysOf (a .args .table .now)) _ _ e (c .before .before .if1 .taken) in (
+      omega (arith, f .0),
+      λ v b n small k. enter-found (a .pre .0) v b n _ _ (a .pre .1) small (a .pre .3) (a .pre .4) k e (c .before .before .if1 .taken) (c .tighten .ensures),
+    )
 
 returns-2 : tie.Need-returns-2
 returns-2 c =
-    let a = c .before .before .before .before .before .before .before .before .before .before in
-    enter-new (a .pre .0) _ _ _ _ _ (a .pre .1) (a .pre .3) (a .pre .4) (a .pre .5) (c .before .before .before .before .before .before .before .before .before .key-of .ensures .0)
-    (c .before .before .before .before .before .search .ensures) (c .before .before .before .before .if1 .left)
-    (c .append .ensures .0) (c .append .ensures .1) (c .append .ensures .2)
+    let a = c .before .before .before .before .before .before .before .before .before in (
+      omega arith,
+      λ v b n small k. enter-new (a .pre .0) v b n _ _ (a .pre .1) small (a .pre .3) (a .pre .4) k
+          (c .before .before .before .before .before .search .ensures) (c .before .before .before .before .if1 .left) (c .append .ensures .0) (c .append .ensures .1) (c .append .ensures .2),
+    )
 
 pub enter-spec : {M : Type 1} → statement M
-enter-spec =
-    tie.close
-    (tie.spec (λ c κs. search needs) (λ c κs. search needs) tighten-requires returns (λ c κs. search needs)
-    (λ c. search needs) returns-2)
+enter-spec = tie.close (tie.spec (λ c κs. search needs) tighten-requires returns (λ c κs. search needs) (λ c. search needs) returns-2)

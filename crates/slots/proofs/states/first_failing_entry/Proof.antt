@@ -14,13 +14,13 @@ use Rattle.blocks.specs.declared.Entry.{Entry}
 use Rattle.meaning.proofs.Verdicts.FirstLaws.{first-end, first-goes, first-stops}
 use Rattle.passes.specs.code.Slots.{Slot}
 use Rattle.slots.proofs.states.SlotStates.{States, holds-here, small-more, small-start, states-more, states-owner, states-start}
-use Rattle.slots.specs.code.States.{Indexed, holdsInState, holdsBySlots, stateBelow, stateOf}
+use Rattle.slots.specs.code.States.{Indexed, holdsInState, holdsBySlots, passed, stateBelow, stateOf}
 use Rattle.slots.proofs.states.first_failing_entry.Statement.{statement}
 use Rattle.slots.proofs.states.first_failing_entry.Tie as tie
 
 abbrev Inv-loop : tie.InvT-loop
 Inv-loop table next head used d total states₀ n₀ states n =
-    (1 ≤ n) × (n ≤ total + 1) × (length states ≡ 1009) × ((j : ℕ) → getD states j 0 ≤ 1024)
+    (1 ≤ n) × (n ≤ total + 1) × (length states ≡ 1009) × ((j : ℕ) → getD states j 0 ≤ passed)
     × ((ss : List Slot) → Indexed ss table next head used → States ss (entriesOf d) states n)
     × ((ss : List Slot) → Indexed ss table next head used → firstFrom (holdsBySlots ss (entriesOf d)) 1 total ≡ firstFrom (holdsBySlots ss (entriesOf d)) n (total + 1 - n))
 
@@ -41,7 +41,7 @@ owner-read c =
     (e, omega (arith, e, a .pre .4 .earlier (l .loop .n) (l .loop .inv .0) (omega (arith, c .before .before .if1 .left, a .pre .2))))
 
 -- the state of its owner is read
-state-small : (c : tie.After-long Inv-loop μ-loop) → c .long .result ≤ 1024
+state-small : (c : tie.After-long Inv-loop μ-loop) → c .long .result ≤ passed
 state-small c = rw (c .long .ensures .0) (c .before .before .before .before .loop .inv .3 _)
 
 state-read : (c : tie.After-long Inv-loop μ-loop) (ss : List Slot) → Indexed ss (c .before .before .before .before .before .before .args .table .now) (c .before .before .before .before .before .before .args .next .now) (c .before .before .before .before .before .before .args .head .now) (c .before .before .before .before .before .before .args .used)

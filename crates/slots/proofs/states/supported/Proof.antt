@@ -24,7 +24,17 @@ returns-4 c = rw (supportedBy, c .match .keys4) (high-most (c .before .args .hi)
 
 returns-5 : tie.Need-returns-5
 unfolding supportedBy
-returns-5 c = let z = c .match .rest in rw (supportedBy, ne-eqb (z .0 .0 .0 .1), ne-eqb (z .0 .0 .1), ne-eqb (z .0 .1), ne-eqb (z .1))
+returns-5 c = rw (supportedBy, c .match .keys5)
+
+returns-6 : tie.Need-returns-6
+unfolding supportedBy
+returns-6 c = rw (supportedBy, c .match .keys6)
+
+returns-7 : tie.Need-returns-7
+unfolding supportedBy
+returns-7 c =
+    let z = c .match .rest in
+    rw (supportedBy, ne-eqb (z .0 .0 .0 .0 .0 .1), ne-eqb (z .0 .0 .0 .0 .1), ne-eqb (z .0 .0 .0 .1), ne-eqb (z .0 .0 .1), ne-eqb (z .0 .1))
 
 pub supported-spec : {M : Type 1} → statement M
-supported-spec = tie.close (tie.spec returns returns-2 returns-3 returns-4 returns-5)
+supported-spec = tie.close (tie.spec returns returns-2 returns-3 returns-4 returns-5 returns-6 returns-7)

@@ -1,0 +1,30 @@
+-- `entry_key` meets its contract, kind by kind.
+use borrow.Author.Needs.{needs}
+use Rattle.base.proofs.Tests.{ne-eqb}
+use Rattle.slots.specs.code.Tables.{linkKind}
+use Rattle.slots.proofs.build.entry_key.Statement.{statement}
+use Rattle.slots.proofs.build.entry_key.Tie as tie
+
+returns : tie.Need-returns
+unfolding linkKind
+returns c = (rw (linkKind, c .before .before .match .keys1, ← c .before .link .ensures) (c .link-key .ensures .0), c .link-key .ensures .1)
+
+returns-2 : tie.Need-returns-2
+unfolding linkKind
+returns-2 c = (rw (linkKind, c .before .before .match .keys2, ← c .before .link2 .ensures) (c .link-key2 .ensures .0), c .link-key2 .ensures .1)
+
+returns-3 : tie.Need-returns-3
+unfolding linkKind
+returns-3 c = (rw (linkKind, c .before .before .match .keys3, ← c .before .link3 .ensures) (c .link-key3 .ensures .0), c .link-key3 .ensures .1)
+
+returns-4 : tie.Need-returns-4
+unfolding linkKind
+returns-4 c =
+    let z = c .before .before .match .rest in
+    (rw (linkKind, ne-eqb (z .0 .0 .1), ne-eqb (z .0 .1), ne-eqb (z .1), ← c .before .property .ensures) (c .property-key .ensures .0), c .property-key .ensures .1)
+
+pub entry-key-spec : {M : Type 1} → statement M
+entry-key-spec =
+    tie.close
+    (tie.spec (λ c κs. search needs) (λ c κs. search needs) (λ c κs. search needs) (λ c κs. search needs) (λ c κs. search needs) (λ c κs. search needs)
+    (λ c κs. search needs) (λ c κs. search needs) returns returns-2 returns-3 returns-4)
