@@ -56,13 +56,13 @@ fn tag_slots(table: &[u64; 1009], order: &mut [u64])
     }
 }
 
-// Orders the slots of a table, as many as there is room for; scratch is worked in.
-pub(crate) fn order_slots(table: &[u64; 1009], order: &mut [u64], scratch: &mut [u64])
+// Orders the slots of a table, as many as there is room for.
+pub(crate) fn order_slots(table: &[u64; 1009], order: &mut [u64])
     requires { ⌜ length (now order) ≤ 1008 ⌝ }
     ensures { λ _. ⌜ now (order .exit) ≡ sorted (tagNumbers (now (table .entry)) 1 (length (now (order .entry)))) ⌝ }
 {
     tag_slots(table, order);
-    sorting::sort(order, scratch);
+    sorting::sort(order);
 }
 
 // The first index of each place's slots, or 0.

@@ -21,8 +21,7 @@ fn ordered_rows(
     ensures { λ r. ⌜ Pushed [] 0 (allRows (keepIn (now (full .entry))) (runOf (now (table .entry)) (sorted (tagNumbers (now (table .entry)) 1 used)) used)) (now (rows .exit)) r ⌝ }
 {
     let mut order = [0u64; 1008];
-    let mut scratch = [0u64; 1008];
-    order_slots(table, &mut order[0..used], &mut scratch[0..used]);
+    order_slots(table, &mut order[0..used]);
     let mut start = [0u16; 1009];
     first_places(&order, used, &mut start);
     let mut below = [0u16; 1009];
