@@ -1,7 +1,5 @@
 -- Laws of the code in src/table.rt.
 
--- Looking entries up by owner, kind and name: what a place lists, and the place below a link, by the first entry that matches.
-pub mod Lookups
 -- The places of a normal form whose entries stand in a table are normal.
 pub mod TablePlaces
 -- The table of a normal form: its words ascend as its entries do.
@@ -10,3 +8,5 @@ pub mod NormalTable
 pub mod WordNames
 -- Laws of the table of words: ranks by halving, and the entry of an owner, a kind and a name.
 pub mod FormTable
+-- The place below a link, by its number.
+pub mod PlaceBelow

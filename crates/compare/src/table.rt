@@ -8,7 +8,8 @@ ghost use lib.Dec.{ltb};
 ghost use lib.ListN.{length};
 ghost use Rattle.blocks.specs.Entries.{entriesOf};
 ghost use Rattle.blocks.specs.declared.Entry.{Entry};
-ghost use Rattle.compare.specs.code.Table.{Ranked, Rising, Table, Unpacked, entryFor, keyOf, nameIn, numberIn, wordOf};
+ghost use Rattle.compare.specs.code.Table.{Ranked, Rising, Table, Unpacked, keyOf, nameIn, numberIn, wordOf};
+ghost use Rattle.meaning.specs.Lookup.{entryFor};
 use blocks::Entry;
 
 // An entry's number as an index.

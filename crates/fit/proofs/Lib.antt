@@ -4,5 +4,5 @@ pub mod AnswerLaws
 pub mod Cases
 -- Fitting by entry numbers, down from the top and for 33 levels, is fitting in the record of the specimen.
 pub mod FitByNumber
--- The fit answer of two inputs: for accepted ones exactly as Table 1 has it, and otherwise the refusal by the first number that applies.
+-- The fit answer of two inputs.
 pub mod PromiseKept

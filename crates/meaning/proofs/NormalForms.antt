@@ -18,3 +18,5 @@ pub mod RulesLaws
 pub mod RulesExamples
 -- The entries of a normal form.
 pub mod NormalEntriesLaws
+-- The converse of `no-rule`.
+pub mod Irreducible

@@ -8,3 +8,5 @@ pub mod SpecimenRecord
 pub mod SpecimenKeeps
 -- A comparison's specimen as entries: they are legal, their fields fit their bytes, and they are no more than those of C and D.
 pub mod SpecimenLegal
+-- The entries of a comparison's specimen ascend by owner, then kind, then name.
+pub mod SpecimenAscends

@@ -24,3 +24,5 @@ pub mod CompareCases
 pub mod Promise
 -- The rows of a description's places as entries.
 pub mod RowEntries
+-- The entry of an owner, a kind and a name.
+pub mod Lookup

@@ -2,7 +2,7 @@
 pub mod FillLaws
 -- The normal form's answer by the ways through it: refused, or normalised.
 pub mod AnswerLaws
--- The numbers that reading refuses with are 1 to 6: 7 is left for an output that is too short.
+-- Number 7 of the normal form: exactly where the input is accepted and the output is shorter.
 pub mod ReadingNumbers
 -- The examples of normal forms: what normalising answers and writes for each.
 pub mod Cases

@@ -12,7 +12,7 @@ use mathlib.Core.Path.{_∙_, _≡_, refl, sym}
 use native.Mathlib.Omega.{arith}
 use Rattle.base.proofs.Tests.{and-left, and-right, bool-cases, eq-cases, eq-eqb, iff-eq, leb-le, ltb-lt, ne-eqb, or-one, tests}
 use Rattle.base.specs.Search.{firstFrom}
-use Rattle.blocks.proofs.Refusing.Legal.{owner-earlier}
+use Rattle.blocks.proofs.Refusing.Legal.{form-kind, owner-earlier}
 use Rattle.blocks.specs.Entries.{formOk, kindOk, nth}
 use Rattle.blocks.specs.Owners.{ownerOf}
 use Rattle.blocks.specs.Promise.{Legal}
@@ -215,13 +215,6 @@ module _ (rs : List (Row Atom ℕ)) (few : length (slots rs) ≤ 1008) where
 every-holds : (ss : List Slot) (s : ℕ) (e : Entry) → e .kind ≡ 5 → holdsInState ss s e ≡ true
 unfolding holdsInState supportedBy
 every-holds ss s e q = rw (holdsInState, q) (bool-cases (eqb s passed) (λ z. rw z) (λ z. rw z))
-
--- a kind that is allowed is a number of the table
-pub form-kind : (e : Entry) → formOk Description e ≡ true → (1 ≤ e .kind) × (e .kind ≤ 6)
-unfolding formOk
-form-kind e h =
-    let k : (ltb 0 (e .kind) && leb (e .kind) 6) ≡ true = and-left (kindOk Description (e .kind)) _ h in
-    (ltb-lt (and-left (ltb 0 (e .kind)) (leb (e .kind) 6) k), leb-le (and-right (ltb 0 (e .kind)) (leb (e .kind) 6) k))
 
 module _ (rs : List (Row Atom ℕ)) (few : length (slots rs) ≤ 1008) (d : List Entry) (lawful : Legal Description d) where
   -- the state of the place that an entry owns stands for the links into it: first for entries below a bound

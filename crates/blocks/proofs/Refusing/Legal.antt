@@ -1,19 +1,20 @@
 -- Lists of entries that break none of numbers 4 to 6 of the table of refusals.
 -- Assumes nothing.
 use Prim.Native.Nat.{_+_, _<_, _≤_, suc, zero, ℕ}
-use lib.Dec.{eqb, ltb}
+use lib.Dec.{eqb, leb, ltb}
 use lib.ListN.{length}
 use mathlib.Core.Bool.{_&&_, true}
 use mathlib.Core.List.{List}
 use mathlib.Core.Logic.{_≢_}
 use mathlib.Core.Path.{_≡_}
 use native.Mathlib.Omega.{arith}
-use Rattle.base.proofs.Tests.{and-left, and-right, eq-cases, eqb-eq, ltb-lt, not-to-false, or-cases, tests, true-of-not}
-use Rattle.blocks.specs.Entries.{formOk, nth, owningKind}
+use Rattle.base.proofs.Tests.{and-left, and-right, eq-cases, eqb-eq, leb-le, ltb-lt, not-to-false, or-cases, tests, true-of-not}
+use Rattle.blocks.specs.Entries.{formOk, kindOk, nth, owningKind}
 use Rattle.blocks.specs.Faults.{entryFaults}
 use Rattle.blocks.specs.Owners.{depthOk, ownerOf, ownerOk}
 use Rattle.blocks.specs.Promise.{Legal, None}
 use Rattle.blocks.specs.declared.Entry.{Entry}
+use Rattle.blocks.specs.declared.Schema.the-variants.{Description}
 use Rattle.blocks.specs.declared.Schema.{Schema}
 
 -- owners stand earlier
@@ -65,3 +66,10 @@ pub legal-none : {σ : Schema} {es : List Entry} → Legal σ es → None (entry
 legal-none {σ} {es} L =
     none-entries σ es 1 (length es)
     (λ k lo hi. (L .form k lo (omega arith), (L .owner k lo (omega arith), L .depth k lo (omega arith))))
+
+-- a kind that is allowed is a number of the table
+pub form-kind : (e : Entry) → formOk Description e ≡ true → (1 ≤ e .kind) × (e .kind ≤ 6)
+unfolding formOk
+form-kind e h =
+    let k : (ltb 0 (e .kind) && leb (e .kind) 6) ≡ true = and-left (kindOk Description (e .kind)) _ h in
+    (ltb-lt (and-left (ltb 0 (e .kind)) (leb (e .kind) 6) k), leb-le (and-right (ltb 0 (e .kind)) (leb (e .kind) 6) k))

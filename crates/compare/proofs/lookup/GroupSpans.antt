@@ -15,7 +15,6 @@ use Rattle.blocks.specs.Promise.{Legal}
 use Rattle.blocks.specs.declared.Entry.{Entry}
 use Rattle.blocks.specs.declared.Schema.the-variants.{Description}
 use Rattle.compare.proofs.lookup.NameSpans.{name-at, names-extra, names-over, names-plain, names-under, number-at, span-inside, span-only, span-order, span-increasing}
-use Rattle.compare.proofs.table.Lookups.{find-some, match-first}
 use Rattle.compare.proofs.table.WordNames.{increasing-at}
 use Rattle.compare.specs.code.Codes.{codeBelow, groupAt, groupsAt, groupsFrom, propertiesAt, targetAt, targetBelow}
 use Rattle.compare.specs.code.Laying.{Joint, joint}
@@ -27,6 +26,7 @@ use Rattle.logic.specs.Normal.{find, rank}
 use Rattle.logic.specs.Place.{Atom, Kind, has, least}
 use Rattle.logic.specs.SpecimenTree.{Group, group}
 use Rattle.logic.specs.Witness.{member, names, targetLinks, targetProperties}
+use Rattle.meaning.proofs.Descriptions.Lookups.{find-some, match-first}
 use Rattle.meaning.specs.Description.{placeOf}
 
 -- ---- other links than the target's

@@ -10,7 +10,6 @@ use Rattle.blocks.specs.Entries.{nth}
 use Rattle.blocks.specs.Promise.{Legal}
 use Rattle.blocks.specs.declared.Entry.{Entry}
 use Rattle.blocks.specs.declared.Schema.the-variants.{Description}
-use Rattle.compare.proofs.table.Lookups.{kind-range}
 use Rattle.compare.proofs.table.TablePlaces.{places-normal}
 use Rattle.compare.proofs.table.WordNames.{each-name, names-own, names-parts, own-span}
 use Rattle.compare.specs.code.Table.{Narrow, Ranked, Table, keyOf, nameIn, namesFrom, numberIn, wordOf}
@@ -20,6 +19,7 @@ use Rattle.logic.specs.Canonical.{Ascending, Canonical, canonical}
 use Rattle.logic.specs.Normal.{rank}
 use Rattle.logic.specs.Place.{Kind, Place, has, lacks, least, most, nothing}
 use Rattle.logic.specs.Witness.{names}
+use Rattle.meaning.proofs.Descriptions.Lookups.{kind-range}
 use Rattle.meaning.specs.Description.{placeOf}
 
 -- ---- the table

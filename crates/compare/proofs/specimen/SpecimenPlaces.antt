@@ -16,11 +16,11 @@ use Rattle.base.proofs.Tests.{and-left, bool-cases, eq-cases, eq-eqb, eqb-ne, e
 use Rattle.blocks.specs.Promise.{Legal}
 use Rattle.blocks.specs.declared.Entry.{Entry}
 use Rattle.blocks.specs.declared.Schema.the-variants.{Description}
-use Rattle.compare.proofs.table.Lookups.{match-within, sub-place}
+use Rattle.compare.proofs.table.PlaceBelow.{sub-place}
 use Rattle.compare.proofs.table.TablePlaces.{places-normal}
 use Rattle.compare.specs.code.Codes.{codeBelow, groupsAt, propertiesAt, targetAt, targetBelow, treeAt}
 use Rattle.compare.specs.code.Laying.{codes, joint, joints, leaves}
-use Rattle.compare.specs.code.Table.{Table, entryFor, placeBelow}
+use Rattle.compare.specs.code.Table.{Table, placeBelow}
 use Rattle.logic.proofs.SpecimenTrees.Names.{member-names}
 use Rattle.logic.proofs.SpecimenTrees.WitnessTree.{below-witness}
 use Rattle.logic.specs.Background.{unrestricted}
@@ -29,7 +29,9 @@ use Rattle.logic.specs.Normal.{find, found}
 use Rattle.logic.specs.Place.{Atom, Place, atom, has, lacks, least, most, nothing}
 use Rattle.logic.specs.SpecimenTree.{Group, SpecimenTree, group}
 use Rattle.logic.specs.Witness.{Target, below, build, countFor, groupsBy, member, names, next, off, on, targetLinks, want, withProperties, witness}
+use Rattle.meaning.proofs.Descriptions.Lookups.{match-within}
 use Rattle.meaning.specs.Description.{placeOf}
+use Rattle.meaning.specs.Lookup.{entryFor}
 use Rattle.normal.proofs.FillLaws.{Codes}
 
 -- ---- the target, by its number

@@ -14,8 +14,9 @@ use Rattle.base.proofs.Split.{row-of}
 use Rattle.base.proofs.Tests.{bool-cases, eq-cases, lt-cases, ltb-ge, ltb-lt}
 use Rattle.blocks.specs.Entries.{Bounded, nth}
 use Rattle.blocks.specs.declared.Entry.{Entry}
-use Rattle.compare.proofs.table.Lookups.{match-first, match-missing}
-use Rattle.compare.specs.code.Table.{Narrow, Ranked, Rising, Table, Unpacked, entryFor, keyOf, wordOf}
+use Rattle.compare.specs.code.Table.{Narrow, Ranked, Rising, Table, Unpacked, keyOf, wordOf}
+use Rattle.meaning.proofs.Descriptions.Lookups.{match-first, match-missing}
+use Rattle.meaning.specs.Lookup.{entryFor}
 
 -- ---- filling the table
 

@@ -15,7 +15,6 @@ use Rattle.blocks.specs.Owners.{ownerOf}
 use Rattle.blocks.specs.Promise.{Legal}
 use Rattle.blocks.specs.declared.Entry.{Entry}
 use Rattle.blocks.specs.declared.Schema.the-variants.{Description}
-use Rattle.compare.proofs.table.Lookups.{kind-range}
 use Rattle.compare.specs.code.Table.{Narrow, Table, Unpacked, wordOf}
 use Rattle.logic.proofs.NormalForm.IsNormal.{alive}
 use Rattle.logic.proofs.OneMeaning.Plain.{plain-normal}
@@ -23,6 +22,7 @@ use Rattle.logic.proofs.Records.Kept.{lawful-unrestricted}
 use Rattle.logic.specs.Background.{unrestricted}
 use Rattle.logic.specs.Canonical.{Canonical}
 use Rattle.logic.specs.Normal.{before, isBottom}
+use Rattle.meaning.proofs.Descriptions.Lookups.{kind-range}
 use Rattle.meaning.proofs.NormalForms.NormalAscends.{normal-ascends}
 use Rattle.meaning.proofs.NormalForms.NormalEntriesLaws.{normal-fewer, normal-place}
 use Rattle.meaning.proofs.NormalForms.NormalLegal.{normal-legal}

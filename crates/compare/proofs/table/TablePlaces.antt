@@ -15,14 +15,15 @@ use Rattle.blocks.specs.Owners.{ownerOf}
 use Rattle.blocks.specs.Promise.{Legal}
 use Rattle.blocks.specs.declared.Entry.{Entry}
 use Rattle.blocks.specs.declared.Schema.the-variants.{Description}
-use Rattle.compare.proofs.table.Lookups.{match-first, sub-some, tree-none}
-use Rattle.compare.specs.code.Table.{Table, entryFor, wordOf}
+use Rattle.compare.specs.code.Table.{Table, wordOf}
 use Rattle.logic.proofs.NormalForm.IsNormal.{canonical-end, canonical-sub}
 use Rattle.logic.proofs.Records.Kept.{lawful-unrestricted}
 use Rattle.logic.specs.Background.{unrestricted}
 use Rattle.logic.specs.Canonical.{Canonical}
 use Rattle.logic.specs.Tree.{end}
+use Rattle.meaning.proofs.Descriptions.Lookups.{match-first, sub-some, tree-none}
 use Rattle.meaning.specs.Description.{placeOf}
+use Rattle.meaning.specs.Lookup.{entryFor}
 
 -- ---- places of a description
 

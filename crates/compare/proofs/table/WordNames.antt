@@ -11,13 +11,13 @@ use native.Mathlib.Omega.{arith}
 use Rattle.base.proofs.Tests.{and-both, and-left, and-right, bool-cases, both-ways, eq-cases, eq-eqb, lt-cases, ne-eqb, tests}
 use Rattle.blocks.specs.Entries.{zeroEntry}
 use Rattle.blocks.specs.declared.Entry.{Entry}
-use Rattle.compare.proofs.table.Lookups.{rank-kind, rank-other}
 use Rattle.compare.specs.code.Table.{nameIn, namesFrom}
 use Rattle.logic.proofs.SpecimenTrees.IncreasingNames.{Increasing, kindNames}
 use Rattle.logic.proofs.SpecimenTrees.WitnessFields.{AllNames}
 use Rattle.logic.specs.Normal.{rank}
 use Rattle.logic.specs.Place.{Kind}
 use Rattle.logic.specs.Tree.{tree}
+use Rattle.meaning.proofs.Descriptions.Lookups.{rank-kind, rank-other}
 use Rattle.meaning.specs.Description.{rowOf}
 
 -- ---- the names of n words

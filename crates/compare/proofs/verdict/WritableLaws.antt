@@ -20,10 +20,9 @@ use Rattle.blocks.specs.declared.Schema.the-variants.{Description}
 use Rattle.compare.proofs.lookup.GroupSpans.{groups-extra, groups-plain, properties-extra, properties-plain}
 use Rattle.compare.proofs.places.SpanLaws.{around-none, around-some, rank-ranked}
 use Rattle.compare.proofs.specimen.SpecimenPlaces.{tree-places}
-use Rattle.compare.proofs.table.Lookups.{find-none, find-some}
 use Rattle.compare.proofs.table.NormalTable.{normal-canonical, normal-table}
 use Rattle.compare.specs.code.Codes.{Writable, askedBy, codeBelow, groupAt, groupsWith, jointsBy, leastFor, propertiesBy, specimenNumber, targetAt, treeAt, treeBy, upFrom}
-use Rattle.compare.specs.code.Table.{Formed, Narrow, Ranked, Table, Unpacked, entriesFrom, entriesIn, entryFor, entryIn, keyOf, nameIn, nameOr, namesWith, numberIn, spanFrom, wordOf}
+use Rattle.compare.specs.code.Table.{Formed, Narrow, Ranked, Table, Unpacked, entriesFrom, entriesIn, entryIn, keyOf, nameIn, nameOr, namesWith, numberIn, spanFrom, wordOf}
 use Rattle.logic.specs.Background.{unrestricted}
 use Rattle.logic.specs.Canonical.{Canonical}
 use Rattle.logic.specs.Layout.{write}
@@ -32,11 +31,13 @@ use Rattle.logic.specs.Place.{least}
 use Rattle.logic.specs.SpecimenTree.{Group}
 use Rattle.logic.specs.Tree.{Row}
 use Rattle.logic.specs.Witness.{on, orZero, targetLinks, targetProperties, witness}
+use Rattle.meaning.proofs.Descriptions.Lookups.{find-none, find-some}
 use Rattle.meaning.proofs.NormalForms.NormalEntriesLaws.{normal-place}
 use Rattle.meaning.proofs.NormalForms.NormalLegal.{normal-legal}
 use Rattle.meaning.proofs.Verdicts.NotContained.{not-contained-shown}
 use Rattle.meaning.specs.Description.{atomOf, linksTo, placeOf}
 use Rattle.meaning.specs.Failing.{failing, normalOf, specimenOf}
+use Rattle.meaning.specs.Lookup.{entryFor}
 use Rattle.meaning.specs.NormalEntries.{normalEntries}
 use Rattle.meaning.specs.Promise.{Shown}
 use Rattle.meaning.specs.SpecimenFor.{rowEntry, specimenEntries, specimenFor}

@@ -11,13 +11,14 @@ use mathlib.Core.Path.{_≡_}
 use Rattle.blocks.specs.Entries.{nth, packed}
 use Rattle.blocks.specs.declared.Entry.{Entry}
 use Rattle.compare.specs.code.Laying.{Joint, Placed, codes, joint, joints, leaves, placeNumbers}
-use Rattle.compare.specs.code.Table.{Formed, around, entriesIn, entryFor, nameIn, nameOr, namesWith, numberIn, placeBelow, spanFrom}
+use Rattle.compare.specs.code.Table.{Formed, around, entriesIn, nameIn, nameOr, namesWith, numberIn, placeBelow, spanFrom}
 use Rattle.logic.specs.Layout.{write}
 use Rattle.logic.specs.Place.{Atom, has, least}
 use Rattle.logic.specs.SpecimenTree.{Group, SpecimenTree, group}
 use Rattle.logic.specs.Tree.{Row}
 use Rattle.logic.specs.Witness.{Target, countFor, names, off, on, targetLinks, targetProperties, want, witness}
 use Rattle.meaning.specs.Description.{atomOf, placeOf}
+use Rattle.meaning.specs.Lookup.{entryFor}
 use Rattle.meaning.specs.SpecimenFor.{rowEntry}
 
 -- the target of number g: 0 asks nothing, i + 1 asks for the atom at the end of the path, of which i links are passed

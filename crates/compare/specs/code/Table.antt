@@ -3,11 +3,12 @@
 use Prim.Native.Nat.{_%_, _*_, _+_, _-_, _/_, _<_, _≤_, suc, zero, ℕ}
 use lib.Dec.{eqb, ltb}
 use lib.ListN.{getD, length}
-use mathlib.Core.Bool.{_&&_, cond}
+use mathlib.Core.Bool.{cond}
 use mathlib.Core.List.{List, [], _++_, _∷_}
 use mathlib.Core.Path.{_≡_}
 use Rattle.blocks.specs.Entries.{Bounded, nth}
 use Rattle.blocks.specs.declared.Entry.{Entry}
+use Rattle.meaning.specs.Lookup.{entryFor}
 
 -- ---- words
 
@@ -40,14 +41,6 @@ abbrev pub entriesIn : List ℕ → ℕ → List Entry
 entriesIn form k = entriesFrom form 0 k
 
 -- ---- looking up
-
--- the number of the first entry of an owner, a kind and a name, where the entries count from i; 0 if there is none
-unfoldable pub firstMatch : ℕ → ℕ → ℕ → ℕ → List Entry → ℕ
-firstMatch i v k n [] = 0
-firstMatch i v k n (e ∷ es) = cond (eqb v (e .owner) && (eqb k (e .kind) && eqb n (e .name))) i (firstMatch (suc i) v k n es)
-
-abbrev pub entryFor : List Entry → ℕ → ℕ → ℕ → ℕ
-entryFor es v k n = firstMatch 1 v k n es
 
 -- the place that the link l leads to from place v; 1,023, which owns nothing, where no 'every' of l stands there
 unfoldable pub placeBelow : List Entry → ℕ → ℕ → ℕ

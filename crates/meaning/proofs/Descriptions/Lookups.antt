@@ -10,19 +10,18 @@ use mathlib.Core.Option.{Option, none, some}
 use mathlib.Core.Path.{_∙_, _≡_, refl, sym}
 use native.Mathlib.Omega.{arith}
 use Rattle.base.proofs.Tests.{and-both, and-left, and-right, and-zero, bool-cases, eq-cases, eq-eqb, eqb-eq, ne-eqb, tests}
-use Rattle.blocks.proofs.Refusing.Legal.{owner-earlier}
+use Rattle.blocks.proofs.Refusing.Legal.{form-kind, owner-earlier}
 use Rattle.blocks.specs.Entries.{formOk, nth, zeroEntry}
 use Rattle.blocks.specs.Owners.{ownerOf}
 use Rattle.blocks.specs.Promise.{Legal}
 use Rattle.blocks.specs.declared.Entry.{Entry}
 use Rattle.blocks.specs.declared.Schema.the-variants.{Description}
-use Rattle.compare.specs.code.Table.{entryFor, firstMatch, placeBelow}
 use Rattle.logic.specs.Normal.{find, rank, sub}
 use Rattle.logic.specs.Place.{Kind, has, kindOf, lacks, least, most, nothing}
 use Rattle.logic.specs.Tree.{Early, end, tree}
 use Rattle.meaning.proofs.Descriptions.Places.{early-rows, tree-skip}
 use Rattle.meaning.specs.Description.{placeOf, rowOf}
-use Rattle.slots.proofs.HoldingLaws.{form-kind}
+use Rattle.meaning.specs.Lookup.{entryFor, firstMatch}
 
 -- ---- the first entry that matches
 
@@ -251,11 +250,3 @@ module _ (es : List Entry) (legal : Legal Description es) where
   unfolding placeOf
   place-end v l =
       tree-none 1 es v (λ p b q. let o = owner-earlier legal (suc p) (omega arith) (omega arith) in let o′ : getD es p zeroEntry .owner < suc p = (unfold ownerOf nth in o) in omega arith)
-
-  -- the place below a link
-  pub sub-place : length es ≤ 1008 → (v l : ℕ) → sub l (placeOf es v) ≡ placeOf es (placeBelow es v l)
-  unfolding placeBelow
-  sub-place few v l =
-      eq-cases (entryFor es v 5 l) 0
-      (λ z. rw (eq-eqb z) (sub-none v l z ∙ sym (place-end 1023 (omega arith))))
-      (λ z. rw (ne-eqb z) (sub-some v l refl z))
