@@ -2,8 +2,8 @@
 -- Assumes nothing.
 use Prim.Native.Nat.{_+_, _<_, _≤_, ℕ}
 use lib.ListN.{length}
-use mathlib.Core.Bool.{false}
 use mathlib.Core.List.{List}
+use mathlib.Core.Option.{none}
 use mathlib.Core.Logic.{_≢_}
 use mathlib.Core.Path.{_≡_, ap, refl}
 use native.Mathlib.Omega.{arith}
@@ -77,17 +77,17 @@ module _ (c d out : List ℕ) where
 module _ (c d out : List ℕ) where
   -- "In one input: .." of input 1
   pub returned-first : {k p : ℕ} → FirstOf (faults Description c) k p
-      → returned (compareOf c d out) ≡ record { contained = false; entry = 0; entries = 0; number = k; input = 1; place = p }
+      → returned (compareOf c d out) ≡ record { contained = none; entry = 0; entries = 0; number = k; input = 1; place = p }
   returned-first f = ap returned (first-refused c d out (refused-by-first Description 1 c f))
 
   -- of input 2, where input 1 is accepted
   pub returned-second : {k p : ℕ} → None (faults Description c) → FirstOf (faults Description d) k p
-      → returned (compareOf c d out) ≡ record { contained = false; entry = 0; entries = 0; number = k; input = 2; place = p }
+      → returned (compareOf c d out) ≡ record { contained = none; entry = 0; entries = 0; number = k; input = 2; place = p }
   returned-second n f = ap returned (second-refused c d out (accepted-by-none Description 1 c n) (refused-by-first Description 2 d f))
 
   -- "then 7", "0 for number 7"
   pub returned-short : None (faults Description c) → None (faults Description d) → length out < length c + length d
-      → returned (compareOf c d out) ≡ record { contained = false; entry = 0; entries = 0; number = 7; input = 0; place = 0 }
+      → returned (compareOf c d out) ≡ record { contained = none; entry = 0; entries = 0; number = 7; input = 0; place = 0 }
   returned-short n m h = ap returned (too-short c d out (accepted-by-none Description 1 c n) (accepted-by-none Description 2 d m) h)
 
   -- otherwise the two are compared

@@ -4,3 +4,5 @@ pub mod AnswerLaws
 pub mod Cases
 -- The comparison of two inputs.
 pub mod PromiseKept
+-- Demand 3 as one statement: an answer for all accepted inputs, each exactly as the finite records have it; and when 7 is answered.
+pub mod Demand

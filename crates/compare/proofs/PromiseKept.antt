@@ -15,6 +15,7 @@ use Rattle.blocks.proofs.Format.EntryBytes.{length-entries}
 use Rattle.blocks.proofs.Format.Lawful.{plain-lawful}
 use Rattle.blocks.proofs.Format.Lengths.{some-block, whole-blocks}
 use Rattle.blocks.proofs.Format.WordBytes.{Bytes}
+use Rattle.base.specs.Ascending.{Sorted}
 use Rattle.blocks.proofs.Refusing.Bounds.{AllBounded, encode-bytes, entries-bounded}
 use Rattle.blocks.proofs.RoundTrip.Accepting.{Sound, accepted-of-sound, encoded-accepted, sound-of-accepted}
 use Rattle.blocks.proofs.RoundTrip.Decoding.{decode-encode, length-encode}
@@ -33,9 +34,11 @@ use Rattle.compare.specs.declared.Comparison.the-variants.{Contained, No
 use Rattle.fit.proofs.AnswerLaws.{first-accepted, second-no, second-yes}
 use Rattle.fit.specs.Answer.{fitOf, topFits}
 use Rattle.fit.specs.declared.FitAnswer.the-variants.{No, Yes}
+use Rattle.meaning.proofs.Specimens.SpecimenAscends.{specimen-ascends}
 use Rattle.meaning.proofs.Verdicts.Contained.{contained-all, failing-first}
 use Rattle.meaning.proofs.Verdicts.NotContained.{not-contained-bounded, not-contained-shown}
-use Rattle.meaning.specs.Failing.{failing, specimenOf}
+use Rattle.meaning.specs.Failing.{failing, normalOf, specimenOf}
+use Rattle.meaning.specs.RowEntries.{entryBefore}
 use Rattle.meaning.specs.Promise.{Shown}
 
 -- ---- the fit answer for accepted inputs
@@ -98,6 +101,10 @@ module _ (c d out : List ℕ) (r : Comparable c d out) where
     unfolding topFits
     shown-no = fit-no (encode shown) d shown-read service (rw (topFits, decode-encode shown) (is-shown .missing))
 
+    shown-ascending : Sorted entryBefore (entriesOf (encode shown))
+    unfolding specimenOf
+    shown-ascending = rw (decode-encode shown) (specimen-ascends (normalOf (entriesOf c)) (entriesOf d) (failing (entriesOf c) (entriesOf d)))
+
     shown-output : outputOf c d out ≡ encode shown ++ drop (512 * blocksFor plain (length shown)) out
     unfolding outputOf
     shown-output = ap (outputAfter c d out) (compared c d out r ∙ verdict-not (entriesOf c) (entriesOf d) z)
@@ -118,6 +125,7 @@ module _ (c d out : List ℕ) (r : Comparable c d out) where
           blocks = front;
           accepted = rw front shown-read;
           few = is-shown .size;
+          ascending = rw front shown-ascending;
           yes = rw front shown-yes;
           no = rw front shown-no;
         })

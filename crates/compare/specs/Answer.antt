@@ -5,6 +5,7 @@ use lib.Dec.{eqb, ltb}
 use lib.ListN.{drop, length}
 use mathlib.Core.Bool.{Bool, cond, false, true}
 use mathlib.Core.List.{List, _++_}
+use mathlib.Core.Option.{Option, none, some}
 use Rattle.blocks.specs.Encoding.{blocksFor, encode}
 use Rattle.blocks.specs.Entries.{entriesOf}
 use Rattle.blocks.specs.Frame.{plain}
@@ -52,10 +53,10 @@ outputAfter c d out (Refused k i p) = out
 unfoldable pub outputOf : List ℕ → List ℕ → List ℕ → List ℕ
 outputOf c d out = outputAfter c d out (compareOf c d out)
 
--- The paper's numbers for each case: whether C is contained in D; the number of the first entry that fails and the number of
--- specimen entries; the number returned, the input and the place. 0 where a case has none.
+-- The paper's numbers for each case: whether C is contained in D, and neither where an input is refused or the output too short; the number
+-- of the first entry that fails and the number of specimen entries; the number returned, the input and the place. 0 where a case has none.
 pub record Returned : Type 0 where
-  pub contained : Bool
+  pub contained : Option Bool
   pub entry : ℕ
   pub entries : ℕ
   pub number : ℕ
@@ -63,6 +64,6 @@ pub record Returned : Type 0 where
   pub place : ℕ
 
 abbrev pub returned : Comparison → Returned
-returned Contained = record { contained = true; entry = 0; entries = 0; number = 0; input = 0; place = 0 }
-returned (NotContained j k) = record { contained = false; entry = j; entries = k; number = 0; input = 0; place = 0 }
-returned (Refused k i p) = record { contained = false; entry = 0; entries = 0; number = k; input = i; place = p }
+returned Contained = record { contained = some true; entry = 0; entries = 0; number = 0; input = 0; place = 0 }
+returned (NotContained j k) = record { contained = some false; entry = j; entries = k; number = 0; input = 0; place = 0 }
+returned (Refused k i p) = record { contained = none; entry = 0; entries = 0; number = k; input = i; place = p }

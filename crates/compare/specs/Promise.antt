@@ -1,11 +1,13 @@
 -- What the promises of the comparison speak of: inputs that are compared, containment in every finite record, what 'not contained' says of
--- the output, and what each line of the starred cases says.
+-- the output, demand 3 as one statement, and what each line of the starred cases says.
 -- Assumes nothing.
 use Prim.Native.Nat.{_*_, _+_, _<_, _≤_, ℕ}
 use lib.ListN.{drop, length}
-use mathlib.Core.Bool.{true}
+use mathlib.Core.Bool.{false, true}
 use mathlib.Core.List.{List, _++_, map}
+use mathlib.Core.Logic.{_⊎_, _↔_}
 use mathlib.Core.Path.{_≡_}
+use Rattle.base.specs.Ascending.{Sorted}
 use Rattle.blocks.specs.Encoding.{blocksFor, encode, firstBlocks}
 use Rattle.blocks.specs.Entries.{entriesOf}
 use Rattle.blocks.specs.Frame.{plain}
@@ -24,6 +26,7 @@ use Rattle.meaning.specs.CompareCases.{Line, Outcome, compares, impossible, ins
 use Rattle.meaning.specs.Description.{placeOf, rowOf}
 use Rattle.meaning.specs.Failing.{normalOf, specimenOf}
 use Rattle.meaning.specs.Promise.{FirstNotEntailed}
+use Rattle.meaning.specs.RowEntries.{entryBefore}
 
 -- both inputs are accepted, and the output is at least as long as both
 pub record Comparable (c d out : List ℕ) : Type 0 where
@@ -37,6 +40,20 @@ pub record Comparable (c d out : List ℕ) : Type 0 where
 abbrev pub ContainedInAll : List ℕ → List ℕ → Type 0
 ContainedInAll c d = (r : Record) (x : ℕ) → x < r .size → fits r (placeOf (entriesOf c) 0) x ≡ true → fits r (placeOf (entriesOf d) 0) x ≡ true
 
+-- an item of a finite record that fits C and misses D: in the field's terms, a countermodel of the subsumption
+pub record Countermodel (c d : List ℕ) : Type 0 where
+  pub shown : Record
+  pub item : ℕ
+  pub inside : item < shown .size
+  pub fitting : fits shown (placeOf (entriesOf c) 0) item ≡ true
+  pub missing : fits shown (placeOf (entriesOf d) 0) item ≡ false
+
+-- the answer is 'not contained', with an entry's number and the specimen's number of entries
+pub record AnswersNot (c d out : List ℕ) : Type 0 where
+  pub entry : ℕ
+  pub entries : ℕ
+  pub answer : compareOf c d out ≡ NotContained entry entries
+
 -- What the answer 'not contained', with the numbers j and k, says of the output.
 pub record Refuted (c d out : List ℕ) (j k : ℕ) : Type 0 where
   -- j is the number of the first entry of D, apart from 'every' entries, that C does not say
@@ -48,9 +65,19 @@ pub record Refuted (c d out : List ℕ) (j k : ℕ) : Type 0 where
   pub blocks : firstBlocks k (outputOf c d out) ≡ encode (specimenOf (entriesOf c) (entriesOf d))
   pub accepted : readingOf Specimen 1 (firstBlocks k (outputOf c d out)) ≡ reading.Accepted k
   pub few : k ≤ length (entriesOf c) + length (entriesOf d)
+  -- "Order as in the normal form": so each property of a place, and each group of a place and link, stands once
+  pub ascending : Sorted entryBefore (entriesOf (firstBlocks k (outputOf c d out)))
   -- whose top item fits C and does not fit D
   pub yes : fitOf (firstBlocks k (outputOf c d out)) c ≡ Yes
   pub no : fitOf (firstBlocks k (outputOf c d out)) d ≡ No
+
+-- Demand 3: "the comparison answers 'contained' (no finite record of any size .. has an item that fits the first and misses the second) or
+-- 'not contained' (exactly when such a record exists)", and shows it.
+pub record Decided (c d out : List ℕ) : Type 0 where
+  pub answers : (compareOf c d out ≡ Contained) ⊎ AnswersNot c d out
+  pub contained : (compareOf c d out ≡ Contained) ↔ ContainedInAll c d
+  pub not-contained : AnswersNot c d out ↔ Countermodel c d
+  pub refuted : {j k : ℕ} → compareOf c d out ≡ NotContained j k → Refuted c d out j k
 
 -- the answer, and the output after it
 abbrev pub answerOf : Outcome → Comparison

@@ -24,15 +24,17 @@ use Rattle.blocks.specs.Reading.{readingOf}
 use Rattle.blocks.specs.declared.Entry.{Entry}
 use Rattle.blocks.specs.declared.Reading.the-variants as reading
 use Rattle.blocks.specs.declared.Schema.the-variants.{Description}
-use Rattle.logic.specs.SpecimenTree.{total}
+use Rattle.meaning.proofs.NormalForms.Irreducible.{irreducible-fixed}
 use Rattle.meaning.proofs.NormalForms.NormalAscends.{normal-ascends}
 use Rattle.meaning.proofs.NormalForms.NormalEntriesLaws.{normal-again, normal-fewer, same-items}
+use Rattle.meaning.proofs.NormalForms.RulesLaws.{no-rule}
 use Rattle.meaning.proofs.NormalForms.NormalLegal.{normal-bounded, normal-legal}
 use Rattle.meaning.specs.NormalEntries.{normalEntries}
 use Rattle.meaning.specs.RowEntries.{entryBefore}
+use Rattle.meaning.specs.Rules.{Applies}
 use Rattle.normal.proofs.AnswerLaws.{Ready, input-refused, normalise-cases, normalised, normalised-ready, refused-output, too-short}
 use Rattle.normal.specs.Answer.{normaliseOf, normalisedOf, outputAfter}
-use Rattle.normal.specs.Promise.{Normalises, SameItems}
+use Rattle.normal.specs.Promise.{Normalises, OwnNormalForm, SameItems}
 use Rattle.normal.specs.declared.NormalAnswer.the-variants.{Normalised}
 
 -- ---- the normal form in blocks
@@ -90,6 +92,10 @@ module _ (d out : List ℕ) (r : Ready d out) where
   form-same : SameItems (encode form) d
   form-same c x i = rw (decode-encode form) (same-items (entriesOf d) c x i)
 
+  form-irreducible : (n : ℕ) → Applies n (entriesOf (encode form)) → ⊥
+  unfolding normalEntries
+  form-irreducible n = rw (decode-encode form) (no-rule (entriesOf d) n)
+
   form-ascending : Sorted entryBefore (entriesOf (encode form))
   form-ascending = rw (decode-encode form) (normal-ascends (entriesOf d))
 
@@ -113,6 +119,7 @@ module _ (d out : List ℕ) (r : Ready d out) where
         accepted = rw front form-read;
         few = normal-fewer (entriesOf d);
         ascending = rw front form-ascending;
+        irreducible = rw front form-irreducible;
         same = rw front form-same;
         again = rw front (λ out′ h. (form-again out′ h, form-itself out′ h));
       })
@@ -141,3 +148,10 @@ normal-bytes i d a b =
     let bound = normal-bounded (entriesOf d) (input .entries) (entries-bounded b) (omega arith) in
     let blocks = blocks-limit plain plain-lawful (length (normalEntries (entriesOf d))) 16 (omega arith) (omega (arith, normal-fewer (entriesOf d))) in
     (bound, encode-bytes (normalEntries (entriesOf d)) bound (omega arith))
+
+-- ---- the rules leave nothing out
+
+-- entries of an accepted description that ascend, and to which no rule applies, are their own normal form
+pub irreducible-own : (i : ℕ) (d : List ℕ) {n : ℕ} → readingOf Description i d ≡ reading.Accepted n → Sorted entryBefore (entriesOf d)
+    → ((k : ℕ) → Applies k (entriesOf d) → ⊥) → OwnNormalForm (entriesOf d)
+irreducible-own i d a up none = irreducible-fixed (entriesOf d) (sound-of-accepted Description i d a .entries) up none

@@ -12,10 +12,14 @@ use Rattle.blocks.specs.Reading.{readingOf}
 use Rattle.blocks.specs.declared.Reading.the-variants as reading
 use Rattle.blocks.specs.declared.Schema.the-variants.{Description}
 use Rattle.logic.specs.Record.{Record, fits}
+use Rattle.blocks.specs.declared.Entry.{Entry}
+use Rattle.logic.specs.Background.{unrestricted}
+use Rattle.logic.specs.Normal.{nf}
 use Rattle.meaning.specs.Description.{placeOf}
 use Rattle.meaning.specs.NormalCases.{Line, normalises}
 use Rattle.meaning.specs.NormalEntries.{normalEntries}
 use Rattle.meaning.specs.RowEntries.{entryBefore}
+use Rattle.meaning.specs.Rules.{Applies}
 use Rattle.normal.specs.Answer.{normaliseOf, normalisedOf}
 use Rattle.normal.specs.declared.NormalAnswer.the-variants.{Normalised}
 
@@ -34,6 +38,8 @@ pub record Normalises (d out : List ℕ) (k : ℕ) : Type 0 where
   pub accepted : readingOf Description 1 (firstBlocks k (normalisedOf d out)) ≡ reading.Accepted k
   pub few : k ≤ length (entriesOf d)
   pub ascending : Sorted entryBefore (entriesOf (firstBlocks k (normalisedOf d out)))
+  -- "none of the nine rules applies" to the entries that are read back from them, nor that equal entries become one
+  pub irreducible : (n : ℕ) → Applies n (entriesOf (firstBlocks k (normalisedOf d out))) → ⊥
   -- the same items fit them as the input
   pub same : SameItems (firstBlocks k (normalisedOf d out)) d
   -- they are normalised to themselves, into any output that is as long
@@ -46,3 +52,7 @@ abbrev pub Right : Line → Type 0
 Right (normalises c n) =
     (out : List ℕ) → length (encode c) ≤ length out
     → (normaliseOf (encode c) out ≡ Normalised (length n)) × (normalisedOf (encode c) out ≡ encode n ++ drop (512 * blocksFor plain (length n)) out)
+
+-- "The rules leave nothing out": an accepted list of entries that ascends, and to which none of them applies, is its own normal form
+abbrev pub OwnNormalForm : List Entry → Type 0
+OwnNormalForm es = nf unrestricted (placeOf es 0) ≡ placeOf es 0

@@ -3,6 +3,7 @@
 use Prim.Native.Nat.{_≤_, suc, ℕ}
 use lib.ListN.{getD, length}
 use mathlib.Core.Bool.{Bool, false, true}
+use mathlib.Core.Option.{none}
 use mathlib.Core.List.{List, [], _∷_, map}
 use mathlib.Core.Logic.{_≢_}
 use mathlib.Core.Path.{_∙_, _≡_, ap, refl, sym}
@@ -112,12 +113,12 @@ module _ (c d : List ℕ) where
 module _ (c d : List ℕ) where
   -- "In one input: .." of input 1
   pub returned-first : {k p : ℕ} → FirstOf (faults Description c) k p
-      → holdingReturned (holdingOf c d) ≡ record { all = false; entry = 0; number = k; input = 1; place = p }
+      → holdingReturned (holdingOf c d) ≡ record { all = none; entry = 0; number = k; input = 1; place = p }
   returned-first f = ap holdingReturned (first-refused c d (refused-by-first Description 1 c f))
 
   -- of input 2, where input 1 is accepted
   pub returned-second : {k p : ℕ} → None (faults Description c) → FirstOf (faults Description d) k p
-      → holdingReturned (holdingOf c d) ≡ record { all = false; entry = 0; number = k; input = 2; place = p }
+      → holdingReturned (holdingOf c d) ≡ record { all = none; entry = 0; number = k; input = 2; place = p }
   returned-second n f = ap holdingReturned (second-refused c d (accepted-by-none Description 1 c n) (refused-by-first Description 2 d f))
 
   -- otherwise the number of the first that fails

@@ -4,6 +4,7 @@ use Prim.Native.Nat.{ℕ}
 use lib.Dec.{eqb}
 use mathlib.Core.Bool.{Bool, cond, false, true}
 use mathlib.Core.List.{List}
+use mathlib.Core.Option.{Option, none, some}
 use Rattle.blocks.specs.Entries.{entriesOf}
 use Rattle.blocks.specs.Reading.{readingOf}
 use Rattle.blocks.specs.declared.Reading.{Reading}
@@ -36,16 +37,16 @@ firstHolding c d (reading.Accepted n) = secondHolding c d (readingOf Description
 unfoldable pub holdingOf : List ℕ → List ℕ → Holding
 holdingOf c d = firstHolding c d (readingOf Description 1 c)
 
--- The paper's numbers for each case: whether all hold, the number of the first that fails; the number returned, the input and the
--- place. 0 where a case has none.
+-- The paper's numbers for each case: whether all hold, and neither where an input is refused; the number of the first that fails; the
+-- number returned, the input and the place. 0 where a case has none.
 pub record HoldingReturned : Type 0 where
-  pub all : Bool
+  pub all : Option Bool
   pub entry : ℕ
   pub number : ℕ
   pub input : ℕ
   pub place : ℕ
 
 abbrev pub holdingReturned : Holding → HoldingReturned
-holdingReturned All = record { all = true; entry = 0; number = 0; input = 0; place = 0 }
-holdingReturned (Fails n) = record { all = false; entry = n; number = 0; input = 0; place = 0 }
-holdingReturned (Refused k i p) = record { all = false; entry = 0; number = k; input = i; place = p }
+holdingReturned All = record { all = some true; entry = 0; number = 0; input = 0; place = 0 }
+holdingReturned (Fails n) = record { all = some false; entry = n; number = 0; input = 0; place = 0 }
+holdingReturned (Refused k i p) = record { all = none; entry = 0; number = k; input = i; place = p }
