@@ -23,6 +23,10 @@ entryFrom s at = record {
   number = wordAt s (at + 6);
 }
 
+-- an entry of kind k, owner o, a name and a number
+abbrev pub entry : ℕ → ℕ → ℕ → ℕ → Entry
+entry k o name number = record { kind = k; reserved = 0; owner = o; name = name; number = number }
+
 -- the 8 bytes of an entry
 unfoldable pub entryBytes : Entry → List ℕ
 entryBytes e = e .kind ∷ e .reserved ∷ (wordBytes (e .owner) ++ (wordBytes (e .name) ++ wordBytes (e .number)))

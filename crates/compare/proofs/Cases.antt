@@ -33,11 +33,13 @@ use Rattle.logic.specs.Place.{kindOf}
 use Rattle.logic.specs.Tree.{tree}
 use Rattle.logic.specs.Witness.{below, build, groupsBy, member, names, once, path, putAscending, withProperties, witness}
 use Rattle.meaning.proofs.Verdicts.FirstLaws.{none-failing}
-use Rattle.meaning.specs.CompareCases.{Line, Outcome, compares, impossible, inside, lines, normalises, outside}
 use Rattle.meaning.specs.Description.{linksTo, linksUp, placeOf, rowOf}
 use Rattle.meaning.specs.Failing.{failing, normalOf, specimenOf}
+use Rattle.normal.proofs.Cases.{computed-form}
+use Rattle.meaning.specs.NormalEntries.{normalEntries}
 use Rattle.meaning.specs.First.{entryHolds, firstFailing}
 use Rattle.meaning.specs.SpecimenFor.{specimenEntries, specimenFor}
+use Rattle.meaning.specs.StarredCases.{Line, Outcome, compares, impossible, inside, lines, normalises, outside}
 
 -- ---- by computing
 
@@ -52,7 +54,7 @@ Shows c d (outside n sp) = specimenOf c d ≡ sp
 -- what computes
 abbrev Computes : Line → Type 0
 Computes (compares c d o) = Lawful c × Lawful d × (verdict c d ≡ answerOf o) × Shows c d o
-Computes (normalises c n) = write (normalOf c) ≡ map rowOf n
+Computes (normalises c n) = Lawful c × (normalEntries c ≡ n)
 Computes (impossible c) = normalOf c ≡ bottom
 
 lawful-legal : (es : List Entry) → Lawful es → Legal Description es
@@ -92,7 +94,7 @@ computes-right : (l : Line) → Computes l → Right l
 computes-right (compares c d o) h = λ out room.
     let e = compared-entries c d (h .0) (h .1) out room ∙ h .2 in
     (e, output-entries c d (h .0) (h .1) out room o (h .3) e)
-computes-right (normalises c n) h = h
+computes-right (normalises c n) h = computed-form c n (h .0 .0) (h .0 .1) (h .1)
 computes-right (impossible c) h = λ d out r.
     compared (encode c) d out r
     ∙ verdict-contained (entriesOf (encode c)) (entriesOf d) (rw decode-encode (none-fails c (entriesOf d) h))
@@ -111,19 +113,19 @@ each-right (_also_ {l = a} h hs) l m = ⊎-elim (λ q. rw q (computes-right a h)
 
 -- every desk example is right
 pub lines-right : (l : Line) → List·Memᴰ l lines → Right l
-unfolding lines verdict failing normalOf specimenOf firstFailing firstFrom entryHolds specimenFor specimenEntries first entryFaults formOk nameOk numberOk ownerOk ownerOf nth depthOk depthOf chain kindOf rowOf placeOf linksTo linksUp tree nf add within fill insert put putEvery remove removeEvery removeLacks find sub excluded isBottom holds holdsAt witness build names once putAscending member groupsBy withProperties below path write lay later weight
+unfolding lines verdict normalEntries failing normalOf specimenOf firstFailing firstFrom entryHolds specimenFor specimenEntries first entryFaults formOk nameOk numberOk ownerOk ownerOf nth depthOk depthOf chain kindOf rowOf placeOf linksTo linksUp tree nf add within fill insert put putEvery remove removeEvery removeLacks find sub excluded isBottom holds holdsAt witness build names once putAscending member groupsBy withProperties below path write lay later weight
 lines-right =
     each-right
     (((refl, refl), (refl, refl), refl, tt)
     also ((refl, refl), (refl, refl), refl, tt)
     also ((refl, refl), (refl, refl), refl, refl)
-    also refl
+    also ((refl, refl), refl)
     also ((refl, refl), (refl, refl), refl, tt)
     also ((refl, refl), (refl, refl), refl, tt)
     also ((refl, refl), (refl, refl), refl, tt)
     also ((refl, refl), (refl, refl), refl, tt)
     also ((refl, refl), (refl, refl), refl, refl)
-    also refl
+    also ((refl, refl), refl)
     also refl
     also ((refl, refl), (refl, refl), refl, refl)
     also ((refl, refl), (refl, refl), refl, refl)

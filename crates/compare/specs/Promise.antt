@@ -4,7 +4,7 @@
 use Prim.Native.Nat.{_*_, _+_, _<_, _≤_, ℕ}
 use lib.ListN.{drop, length}
 use mathlib.Core.Bool.{false, true}
-use mathlib.Core.List.{List, _++_, map}
+use mathlib.Core.List.{List, _++_}
 use mathlib.Core.Logic.{_⊎_, _↔_}
 use mathlib.Core.Path.{_≡_}
 use Rattle.base.specs.Ascending.{Sorted}
@@ -15,18 +15,18 @@ use Rattle.blocks.specs.Reading.{readingOf}
 use Rattle.blocks.specs.declared.Reading.the-variants as reading
 use Rattle.blocks.specs.declared.Schema.the-variants.{Description, Specimen}
 use Rattle.compare.specs.Answer.{compareOf, outputOf}
-use Rattle.compare.specs.declared.Comparison.the-variants.{Contained, NotContained}
 use Rattle.compare.specs.declared.Comparison.{Comparison}
+use Rattle.compare.specs.declared.Comparison.the-variants.{Contained, NotContained}
 use Rattle.fit.specs.Answer.{fitOf}
 use Rattle.fit.specs.declared.FitAnswer.the-variants.{No, Yes}
 use Rattle.logic.specs.Background.{unrestricted}
-use Rattle.logic.specs.Layout.{write}
 use Rattle.logic.specs.Record.{Record, fits}
-use Rattle.meaning.specs.CompareCases.{Line, Outcome, compares, impossible, inside, normalises, outside}
-use Rattle.meaning.specs.Description.{placeOf, rowOf}
-use Rattle.meaning.specs.Failing.{normalOf, specimenOf}
+use Rattle.meaning.specs.Description.{placeOf}
+use Rattle.meaning.specs.Failing.{specimenOf}
 use Rattle.meaning.specs.Promise.{FirstNotEntailed}
 use Rattle.meaning.specs.RowEntries.{entryBefore}
+use Rattle.normal.specs.Promise.{NormalisedAs}
+use Rattle.meaning.specs.StarredCases.{Line, Outcome, compares, impossible, inside, normalises, outside}
 
 -- both inputs are accepted, and the output is at least as long as both
 pub record Comparable (c d out : List ℕ) : Type 0 where
@@ -88,11 +88,11 @@ abbrev pub outputFor : Outcome → List ℕ → List ℕ
 outputFor inside out = out
 outputFor (outside n sp) out = encode sp ++ drop (512 * blocksFor plain (length sp)) out
 
--- the entries as blocks give the answer and the output, for each output that is long enough; the normal form has the rows given;
+-- the entries as blocks give the answer and the output, for each output that is long enough; the normal form is written as the entries given;
 -- every accepted description contains what nothing fits
 abbrev pub Right : Line → Type 0
 Right (compares c d o) =
     (out : List ℕ) → length (encode c) + length (encode d) ≤ length out
     → (compareOf (encode c) (encode d) out ≡ answerOf o) × (outputOf (encode c) (encode d) out ≡ outputFor o out)
-Right (normalises c n) = write (normalOf c) ≡ map rowOf n
+Right (normalises c n) = NormalisedAs c n
 Right (impossible c) = (d out : List ℕ) → Comparable (encode c) d out → compareOf (encode c) d out ≡ Contained

@@ -21,7 +21,7 @@ use Rattle.fit.proofs.FitByNumber.{fit-by-groups}
 use Rattle.fit.specs.Promise.{Shows}
 use Rattle.fit.specs.code.Groups.{fitsPlace, groupsBy, hasProperty, meetsEntry, totalBy}
 use Rattle.logic.proofs.Records.Counting.{everyIn}
-use Rattle.meaning.specs.FitCases.{Case, cases}
+use Rattle.meaning.specs.FitExamples.{Case, cases}
 use Rattle.meaning.specs.Owned.{allWhere, sumWhere}
 
 -- ---- by computing

@@ -15,7 +15,7 @@ use Rattle.fit.specs.Answer.{fitOf}
 use Rattle.fit.specs.declared.FitAnswer.the-variants.{No, Yes}
 use Rattle.logic.specs.Record.{fits}
 use Rattle.meaning.specs.Description.{placeOf}
-use Rattle.meaning.specs.FitCases.{Case}
+use Rattle.meaning.specs.FitExamples.{Case}
 use Rattle.meaning.specs.Specimen.{recordOf}
 
 -- both inputs are accepted

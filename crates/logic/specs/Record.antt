@@ -4,6 +4,7 @@ use mathlib.Core.Bool.{Bool, true, false, not, _&&_, _||_}
 use mathlib.Core.List.{List, [], _∷_}
 use Prim.Native.Nat.{ℕ, zero, suc, _+_}
 use lib.Dec.{leb}
+use Rattle.base.specs.Range.{bit}
 use Rattle.logic.specs.Place.{has, lacks, least, most, nothing, Atom, atom, Place}
 use Rattle.logic.specs.Tree.{end, leaf, node}
 
@@ -13,10 +14,6 @@ pub record Record : Type 0 where
   pub size : ℕ
   pub property : ℕ → ℕ → Bool
   pub link : ℕ → ℕ → ℕ → Bool
-
-abbrev pub bit : Bool → ℕ
-bit true = 1
-bit false = 0
 
 -- how many numbers below n pass
 unfoldable pub count : (ℕ → Bool) → ℕ → ℕ

@@ -14,15 +14,15 @@ pub mod First
 pub mod SpecimenFor
 -- The first entry of a second description that fails, and the specimen that shows it.
 pub mod Failing
--- The starred desk examples that have a specimen, as one list.
-pub mod FitCases
--- The starred desk examples that give a normal form, the report's example, and one for each of the nine rules, as one list.
-pub mod NormalCases
--- The starred desk examples, as one list.
-pub mod CompareCases
 -- What the promises of the comparison speak of, for lists of entries.
 pub mod Promise
 -- The rows of a description's places as entries.
 pub mod RowEntries
 -- The entry of an owner, a kind and a name.
 pub mod Lookup
+-- "The starred cases form one list": all of them, each about answers and output bytes.
+pub mod StarredCases
+-- The starred desk examples that give a normal form, the report's example, and one for each of the nine rules, as one list.
+pub mod NormalExamples
+-- The starred desk examples that have a specimen, as one list.
+pub mod FitExamples

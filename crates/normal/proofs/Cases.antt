@@ -23,14 +23,13 @@ use Rattle.blocks.specs.declared.Schema.the-variants.{Description}
 use Rattle.logic.specs.Layout.{later, lay, weight, write}
 use Rattle.logic.specs.Normal.{add, excluded, fill, find, insert, isBottom, nf, put, putEvery, remove, removeEvery, removeLacks, sub, within}
 use Rattle.logic.specs.Place.{kindOf}
-use Rattle.logic.specs.SpecimenTree.{total}
 use Rattle.logic.specs.Tree.{tree}
 use Rattle.meaning.specs.Description.{placeOf, rowOf}
-use Rattle.meaning.specs.NormalCases.{Line, lines, normalises}
 use Rattle.meaning.specs.NormalEntries.{normalEntries}
+use Rattle.meaning.specs.NormalExamples.{Line, lines, normalises}
 use Rattle.normal.proofs.AnswerLaws.{normalised}
 use Rattle.normal.specs.Answer.{normaliseOf, normalisedOf, outputAfter}
-use Rattle.normal.specs.Promise.{Right}
+use Rattle.normal.specs.Promise.{NormalisedAs, Right}
 use Rattle.normal.specs.declared.NormalAnswer.the-variants.{Normalised}
 use Rattle.passes.proofs.CellPlaces.Forms.{form}
 
@@ -38,16 +37,20 @@ use Rattle.passes.proofs.CellPlaces.Forms.{form}
 abbrev Computes : Line → Type 0
 Computes (normalises c n) = (first (entryFaults Description c 1 (length c)) ≡ Clean) × (leb (length c) 1008 ≡ true) × (normalEntries c ≡ n)
 
--- a line that computes is right
-computes-right : (l : Line) → Computes l → Right l
+-- a normal form that computes, in blocks
+pub computed-form : (c n : List Entry) → first (entryFaults Description c 1 (length c)) ≡ Clean → leb (length c) 1008 ≡ true → normalEntries c ≡ n → NormalisedAs c n
 unfolding normalisedOf
-computes-right (normalises c n) h = λ out room.
-    let few : length c ≤ 1008 = leb-le (h .1) in
-    let read = encoded-accepted Description 1 c (none-legal (clean-none _ (h .0))) (omega arith) in
-    let form : normalEntries (entriesOf (encode c)) ≡ n = rw (decode-encode c) (h .2) in
+computed-form c n clean small h out room =
+    let few : length c ≤ 1008 = leb-le small in
+    let read = encoded-accepted Description 1 c (none-legal (clean-none _ clean)) (omega arith) in
+    let form : normalEntries (entriesOf (encode c)) ≡ n = rw (decode-encode c) h in
     let e : normaliseOf (encode c) out ≡ Normalised (length n) =
     normalised (encode c) out (record { total = length c; read = read; room = room }) ∙ ap (λ (es : List Entry). Normalised (length es)) form in
     (e, ap (outputAfter (encode c) out) e ∙ rw form)
+
+-- a line that computes is right
+computes-right : (l : Line) → Computes l → Right l
+computes-right (normalises c n) h = computed-form c n (h .0) (h .1) (h .2)
 
 -- each line computes
 data Each : List Line → Type 0 where

@@ -9,15 +9,15 @@ use Rattle.blocks.specs.Encoding.{blocksFor, encode, firstBlocks}
 use Rattle.blocks.specs.Entries.{entriesOf}
 use Rattle.blocks.specs.Frame.{plain}
 use Rattle.blocks.specs.Reading.{readingOf}
+use Rattle.blocks.specs.declared.Entry.{Entry}
 use Rattle.blocks.specs.declared.Reading.the-variants as reading
 use Rattle.blocks.specs.declared.Schema.the-variants.{Description}
-use Rattle.logic.specs.Record.{Record, fits}
-use Rattle.blocks.specs.declared.Entry.{Entry}
 use Rattle.logic.specs.Background.{unrestricted}
 use Rattle.logic.specs.Normal.{nf}
+use Rattle.logic.specs.Record.{Record, fits}
 use Rattle.meaning.specs.Description.{placeOf}
-use Rattle.meaning.specs.NormalCases.{Line, normalises}
 use Rattle.meaning.specs.NormalEntries.{normalEntries}
+use Rattle.meaning.specs.NormalExamples.{Line, normalises}
 use Rattle.meaning.specs.RowEntries.{entryBefore}
 use Rattle.meaning.specs.Rules.{Applies}
 use Rattle.normal.specs.Answer.{normaliseOf, normalisedOf}
@@ -47,11 +47,15 @@ pub record Normalises (d out : List ℕ) (k : ℕ) : Type 0 where
       → (normaliseOf (firstBlocks k (normalisedOf d out)) out′ ≡ Normalised k)
       × (firstBlocks k (normalisedOf (firstBlocks k (normalisedOf d out)) out′) ≡ firstBlocks k (normalisedOf d out))
 
--- what a line says: the entries as blocks give the number of entries, and their blocks at the start of each output that is long enough
-abbrev pub Right : Line → Type 0
-Right (normalises c n) =
+-- the entries c as blocks give the number of the entries n, and their blocks at the start of each output that is long enough
+abbrev pub NormalisedAs : List Entry → List Entry → Type 0
+NormalisedAs c n =
     (out : List ℕ) → length (encode c) ≤ length out
     → (normaliseOf (encode c) out ≡ Normalised (length n)) × (normalisedOf (encode c) out ≡ encode n ++ drop (512 * blocksFor plain (length n)) out)
+
+-- what a line of the examples says
+abbrev pub Right : Line → Type 0
+Right (normalises c n) = NormalisedAs c n
 
 -- "The rules leave nothing out": an accepted list of entries that ascends, and to which none of them applies, is its own normal form
 abbrev pub OwnNormalForm : List Entry → Type 0

@@ -10,7 +10,7 @@ use Rattle.blocks.specs.Encoding.{blocksFor, encode}
 use Rattle.blocks.specs.declared.Entry.{Entry}
 use Rattle.compare.proofs.AnswerLaws.{not-contained-ready}
 use Rattle.compare.proofs.Cases.{lines-right}
-use Rattle.meaning.specs.CompareCases.{compares, lines, outside}
+use Rattle.meaning.specs.StarredCases.{compares, lines, outside}
 use Rattle.report.proofs.Printed.{joined-printed, linesFor, printed}
 use Rattle.report.proofs.WrittenLines.{lines-written}
 use Rattle.report.specs.Lines.{Piece, count, entryLine, entryLines, field, group, has, link, linesOf, notContained, owner, pieces, property}

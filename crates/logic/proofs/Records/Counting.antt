@@ -8,7 +8,8 @@ use mathlib.Core.Path.{_∙_, _≡_, ap, refl}
 use native.Mathlib.Nat.{add-suc, add-zero, suc-add}
 use native.Mathlib.Omega.{arith}
 use Rattle.base.proofs.Tests.{and-both, and-left, and-right, and-swap, bool-cases, eq-cases, iff-eq}
-use Rattle.logic.specs.Record.{bit, count, every}
+use Rattle.base.specs.Range.{bit}
+use Rattle.logic.specs.Record.{count, every}
 
 -- ---- numbers below a size
 

@@ -126,23 +126,24 @@ module _ (all : List Entry) (legal : Legal Description all) (sorted : Sorted ent
   unfolding ownerOf
   owning k [] lo t h = tt
   owning k (e ∷ es) lo t h =
-      let i : e ≡ nth all k = h 0 (omega arith) ∙ (let w : k + 0 ≡ k = omega arith in rw w) in
-      (λ z. not-true (λ y. none-applies 9 (rule-9 (record {
-        entry = k;
-        every = record {
-          owner = nth all k .owner;
-          link = nth all k .name;
-          number = nth all k .number;
-          is-every = record { from-one = lo; to-last = omega arith; its-kind = rw (← i) z; its-owner = refl; its-name = refl; its-number = refl };
-        };
-        owns-none = λ n a b q. lt-cases k n
-            (λ l.
-            let p : ℕ = n - suc k in
-            let j : getD es p zeroEntry ≡ nth all n = h (suc p) (omega arith) ∙ (let w : k + suc p ≡ n = omega arith in rw w) in
-            unowned (suc k) k es y p (omega arith) (rw j q))
-            (λ l. omega (arith, owner-earlier legal n a b, q));
-      }))),
-      owning (suc k) es (omega arith) (omega arith) (λ p l. h (suc p) (omega arith) ∙ (let w : k + suc p ≡ suc k + p = omega arith in rw w)))
+      let i : e ≡ nth all k = h 0 (omega arith) ∙ (let w : k + 0 ≡ k = omega arith in rw w) in (
+        λ z. not-true (λ y. none-applies 9 (rule-9 (record {
+          entry = k;
+          every = record {
+            owner = nth all k .owner;
+            link = nth all k .name;
+            number = nth all k .number;
+            is-every = record { from-one = lo; to-last = omega arith; its-kind = rw (← i) z; its-owner = refl; its-name = refl; its-number = refl };
+          };
+          owns-none = λ n a b q. lt-cases k n
+              (λ l.
+              let p : ℕ = n - suc k in
+              let j : getD es p zeroEntry ≡ nth all n = h (suc p) (omega arith) ∙ (let w : k + suc p ≡ n = omega arith in rw w) in
+              unowned (suc k) k es y p (omega arith) (rw j q))
+              (λ l. omega (arith, owner-earlier legal n a b, q));
+        }))),
+        owning (suc k) es (omega arith) (omega arith) (λ p l. h (suc p) (omega arith) ∙ (let w : k + suc p ≡ suc k + p = omega arith in rw w)),
+      )
 
   itself : (p : ℕ) → p < length all → getD all p zeroEntry ≡ nth all (1 + p)
   unfolding nth
@@ -211,25 +212,29 @@ module _ (all : List Entry) (legal : Legal Description all) (sorted : Sorted ent
 
     clean : (o : ℕ) → Home o → Clean unrestricted (placeOf all o)
     clean o h has n m e =
-        let x = is-listed has o n m e in
-        (clash-plain (placeOf all o) (atom has n m) ∙ opt-cases (find lacks n (placeOf all o)) (λ q. rw q)
-        (λ m′ q. absurd (no-clash o h (inl (record { having = x .entry; lacking = is-listed lacks o n m′ q .entry; property = n; number = m; number′ = m′; is-having = x .is; is-lacking = is-listed lacks o n m′ q .is })))),
-        no-numbers has x (λ z. omega arith) (λ z. omega arith) (λ z. omega arith))
+        let x = is-listed has o n m e in (
+          clash-plain (placeOf all o) (atom has n m) ∙ opt-cases (find lacks n (placeOf all o)) (λ q. rw q)
+              (λ m′ q. absurd (no-clash o h (inl (record { having = x .entry; lacking = is-listed lacks o n m′ q .entry; property = n; number = m; number′ = m′; is-having = x .is; is-lacking = is-listed lacks o n m′ q .is })))),
+          no-numbers has x (λ z. omega arith) (λ z. omega arith) (λ z. omega arith),
+        )
     clean o h lacks n m e =
-        let x = is-listed lacks o n m e in
-        (clash-plain (placeOf all o) (atom lacks n m) ∙ opt-cases (find has n (placeOf all o)) (λ q. rw q)
-        (λ m′ q. absurd (no-clash o h (inl (record { having = is-listed has o n m′ q .entry; lacking = x .entry; property = n; number = m′; number′ = m; is-having = is-listed has o n m′ q .is; is-lacking = x .is })))),
-        and-both (no-numbers lacks x (λ z. omega arith) (λ z. omega arith) (λ z. omega arith)) (not-to-true (excluded-plain n (placeOf all o))))
+        let x = is-listed lacks o n m e in (
+          clash-plain (placeOf all o) (atom lacks n m) ∙ opt-cases (find has n (placeOf all o)) (λ q. rw q)
+              (λ m′ q. absurd (no-clash o h (inl (record { having = is-listed has o n m′ q .entry; lacking = x .entry; property = n; number = m′; number′ = m; is-having = is-listed has o n m′ q .is; is-lacking = x .is })))),
+          and-both (no-numbers lacks x (λ z. omega arith) (λ z. omega arith) (λ z. omega arith)) (not-to-true (excluded-plain n (placeOf all o))),
+        )
     clean o h least n m e =
-        let x = is-listed least o n m e in
-        (clash-plain (placeOf all o) (atom least n m) ∙ opt-cases (find most n (placeOf all o)) (λ q. rw q)
-        (λ m′ q. rw q (not-true (λ y. no-cross o h (record { asking = x .entry; allowing = is-listed most o n m′ q .entry; link = n; n = m; m = m′; is-asking = x .is; is-allowing = is-listed most o n m′ q .is; less = omega tests })))),
-        not-to-true (not-true (λ y. let z : m ≡ 0 = eqb-eq y in let x₀ = is-listed least o n 0 (e ∙ ap some z) in none-applies 8 (rule-8 (record { entry = x₀ .entry; owner = o; link = n; is-least = x₀ .is })))))
+        let x = is-listed least o n m e in (
+          clash-plain (placeOf all o) (atom least n m) ∙ opt-cases (find most n (placeOf all o)) (λ q. rw q)
+              (λ m′ q. rw q (not-true (λ y. no-cross o h (record { asking = x .entry; allowing = is-listed most o n m′ q .entry; link = n; n = m; m = m′; is-asking = x .is; is-allowing = is-listed most o n m′ q .is; less = omega tests })))),
+          not-to-true (not-true (λ y. let z : m ≡ 0 = eqb-eq y in let x₀ = is-listed least o n 0 (e ∙ ap some z) in none-applies 8 (rule-8 (record { entry = x₀ .entry; owner = o; link = n; is-least = x₀ .is })))),
+        )
     clean o h most n m e =
-        let x = is-listed most o n m e in
-        (clash-plain (placeOf all o) (atom most n m) ∙ opt-cases (find least n (placeOf all o)) (λ q. rw q)
-        (λ m′ q. rw q (not-true (λ y. no-cross o h (record { asking = is-listed least o n m′ q .entry; allowing = x .entry; link = n; n = m′; m = m; is-asking = is-listed least o n m′ q .is; is-allowing = x .is; less = omega tests })))),
-        refl)
+        let x = is-listed most o n m e in (
+          clash-plain (placeOf all o) (atom most n m) ∙ opt-cases (find least n (placeOf all o)) (λ q. rw q)
+              (λ m′ q. rw q (not-true (λ y. no-cross o h (record { asking = is-listed least o n m′ q .entry; allowing = x .entry; link = n; n = m′; m = m; is-asking = is-listed least o n m′ q .is; is-allowing = x .is; less = omega tests })))),
+          refl,
+        )
     clean o h nothing n m e =
         let x = is-listed nothing o n m e in
         absurd (no-clash o h (inr (record { entry = x .entry; name = n; number = m; is-nothing = x .is })))

@@ -12,12 +12,12 @@ use native.Mathlib.Omega.{arith}
 use Rattle.base.proofs.Elements.{member-at}
 use Rattle.base.proofs.Parts.{length-low, length-put-low, lowOf, putLow, take-low}
 use Rattle.base.proofs.Tests.{bool-cases, eq-cases, eq-eqb, lt-cases, ne-eqb}
+use Rattle.base.specs.Range.{bit}
 use Rattle.blocks.specs.Entries.{entriesOf}
 use Rattle.logic.specs.Background.{unrestricted}
 use Rattle.logic.specs.Layout.{write}
 use Rattle.logic.specs.Normal.{nf, same}
 use Rattle.logic.specs.Place.{atom, nothing}
-use Rattle.logic.specs.Record.{bit}
 use Rattle.logic.specs.Tree.{leafRow}
 use Rattle.meaning.proofs.Verdicts.FirstLaws.{first-same}
 use Rattle.meaning.specs.Description.{placeOf, rowOf}

@@ -12,8 +12,8 @@ use Rattle.base.proofs.AscendingLaws.{AllApart, sort-sorted}
 use Rattle.base.proofs.Missing.{not-true}
 use Rattle.base.proofs.Tests.{and-swap, bool-cases, eqb-eq, eqb-sym, neither-left, neither-right, tests}
 use Rattle.base.specs.Ascending.{Sorted, insertIn, sort}
+use Rattle.base.specs.Range.{bit}
 use Rattle.logic.proofs.PlaceTrees.Order.{before-not, before-total, before-trans}
-use Rattle.logic.specs.Record.{bit}
 use Rattle.passes.proofs.Cells.WrittenPasses.{allCells}
 use Rattle.passes.proofs.SlotLists.SlotLaws.{exchange, name-class, name-eq}
 use Rattle.passes.specs.code.Pipeline.{beforeCell}

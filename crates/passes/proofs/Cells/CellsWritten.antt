@@ -8,11 +8,11 @@ use mathlib.Core.Path.{_∙_, _≡_, ap, refl, sym}
 use native.Mathlib.Omega.{arith}
 use Rattle.base.proofs.Tests.{and-left, and-right, bool-cases, false-of-not}
 use Rattle.base.specs.Ascending.{AllAfter, Sorted}
+use Rattle.base.specs.Range.{bit}
 use Rattle.logic.proofs.PlaceTrees.Order.{before-cases, before-eq, before-lt}
 use Rattle.logic.specs.Canonical.{Above, Ascending}
 use Rattle.logic.specs.Normal.{atMost, before, isEnd, rank}
 use Rattle.logic.specs.Place.{Kind, Place, atom, has, lacks, least, most}
-use Rattle.logic.specs.Record.{bit}
 use Rattle.logic.specs.Tree.{end, leaf, node}
 use Rattle.passes.proofs.SlotLists.SlotLaws.{class-eq}
 use Rattle.passes.specs.code.Pipeline.{beforeCell}

@@ -9,11 +9,11 @@ use mathlib.Core.Path.{_∙_, _≡_, refl, sym}
 use native.Mathlib.Omega.{arith}
 use Rattle.base.proofs.Tests.{and-zero, bool-cases, eqb-eq, eqb-sym, tests}
 use Rattle.base.specs.Ascending.{AllAfter, Sorted}
+use Rattle.base.specs.Range.{bit}
 use Rattle.logic.proofs.PlaceTrees.Lookup.{is-end, same-self}
 use Rattle.logic.proofs.PlaceTrees.Order.{before-cases}
 use Rattle.logic.specs.Normal.{atMost, before, find, isEnd, rank, same, sub}
 use Rattle.logic.specs.Place.{Kind, Place, has, lacks, least, most, nothing}
-use Rattle.logic.specs.Record.{bit}
 use Rattle.logic.specs.Tree.{end}
 use Rattle.passes.proofs.Cells.CellsWritten.{kept, leafIf, ofEvery, ofKind, written}
 use Rattle.passes.proofs.SlotLists.SlotLaws.{class-eq}

@@ -9,10 +9,10 @@ use mathlib.Core.Path.{_≡_, refl}
 use native.Mathlib.Omega.{arith}
 use Rattle.base.proofs.Missing.{opt-cases}
 use Rattle.base.proofs.Tests.{and-both, and-left, and-right, bool-cases, iff-eq, tests}
+use Rattle.base.specs.Range.{bit}
 use Rattle.logic.proofs.PlaceTrees.Order.{before-eq, before-lt}
 use Rattle.logic.specs.Normal.{before}
 use Rattle.logic.specs.Place.{Atom, Kind, atom, has, lacks, least, most, nothing}
-use Rattle.logic.specs.Record.{bit}
 use Rattle.logic.specs.Tree.{Row, leafRow, nodeRow}
 use Rattle.passes.specs.code.Keys.{Small, SmallRows, SmallSlot, SmallSlots, SmallTop, keyNumber}
 use Rattle.passes.specs.code.Slots.{Slot, build, high, isLink, leading, low, position, sameKey, slot, slots, smaller, tighten}

@@ -4,8 +4,8 @@ use Prim.Native.Nat.{_*_, _+_, _<_, ℕ}
 use mathlib.Core.Bool.{Bool}
 use mathlib.Core.List.{List, [], _∷_}
 use mathlib.Core.Option.{Option, none, some}
+use Rattle.base.specs.Range.{bit}
 use Rattle.logic.specs.Place.{Atom, atom}
-use Rattle.logic.specs.Record.{bit}
 use Rattle.logic.specs.Tree.{Row, leafRow, nodeRow}
 use Rattle.passes.specs.code.Slots.{Slot, slot}
 

@@ -7,10 +7,10 @@ use mathlib.Core.Bool.{Bool, _&&_, _||_, cond, not}
 use mathlib.Core.List.{List, [], _∷_}
 use mathlib.Core.Option.{Option, none, some}
 use Rattle.base.specs.Ascending.{sort}
+use Rattle.base.specs.Range.{bit}
 use Rattle.logic.specs.Layout.{Queue, done, job, later}
 use Rattle.logic.specs.Normal.{atMost, before}
 use Rattle.logic.specs.Place.{Atom, Kind, atom, has, lacks, least, most, nothing}
-use Rattle.logic.specs.Record.{bit}
 use Rattle.logic.specs.Tree.{Row, leafRow, nodeRow}
 use Rattle.passes.specs.code.Slots.{Cell, Slot, cell, cells, closed, inconsistent, isLink, nonempty, sameClass, settled, slot, slots, value}
 

@@ -9,10 +9,10 @@ use native.Mathlib.Nat.{zero-add}
 use native.Mathlib.Omega.{arith}
 use Rattle.base.proofs.Lists.{Holds, holds-both, holds-eq, holds-zeros, length-listed, listed, listed-eq, part-held}
 use Rattle.base.proofs.Tests.{ge-ltb, lt-cases, lt-ltb}
+use Rattle.base.specs.Range.{bit}
 use Rattle.blocks.specs.Reading.{readingOf}
 use Rattle.blocks.specs.declared.Reading.the-variants as reading
 use Rattle.blocks.specs.declared.Schema.the-variants.{Description}
-use Rattle.logic.specs.Record.{bit}
 use Rattle.passes.proofs.SlotLists.KeyLaws.{key-parts}
 use Rattle.passes.specs.code.Slots.{inconsistent, nonempty, settled}
 use Rattle.slots.proofs.PassLaws.{slots-counted}

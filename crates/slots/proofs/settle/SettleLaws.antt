@@ -10,8 +10,8 @@ use mathlib.Core.Logic.{inl}
 use mathlib.Core.Path.{_∙_, _≡_, ap, refl}
 use native.Mathlib.Omega.{arith}
 use Rattle.base.proofs.Tests.{and-zero, bool-cases, eq-cases, eq-eqb, ne-eqb}
+use Rattle.base.specs.Range.{bit}
 use Rattle.logic.specs.Normal.{found}
-use Rattle.logic.specs.Record.{bit}
 use Rattle.logic.specs.Witness.{below}
 use Rattle.passes.specs.code.Slots.{Slot, broken, closed, inconsistent, nonempty, settled, slot}
 use Rattle.slots.proofs.slots.TableLaws.{high-made, key-made, low-made, slots-other}

@@ -1,16 +1,12 @@
 -- The starred desk examples that give a normal form, the report's example, and one for each of the nine rules, as one list.
 -- Assumes nothing.
-use Prim.Native.Nat.{ℕ}
 use mathlib.Core.List.{List, [], _∷_}
+use Rattle.blocks.specs.Entries.{entry}
 use Rattle.blocks.specs.declared.Entry.{Entry}
 
 -- a description, and its normal form
 pub data Line : Type 0 where
   normalises : List Entry → List Entry → Line
-
--- an entry of kind k, owner o, a name and a number
-abbrev entry : ℕ → ℕ → ℕ → ℕ → Entry
-entry k o name number = record { kind = k; reserved = 0; owner = o; name = name; number = number }
 
 unfoldable pub lines : List Line
 lines =

@@ -1,7 +1,8 @@
--- The starred desk examples, as one list.
+-- "The starred cases form one list": all of them, each about answers and output bytes.
 -- Assumes nothing.
 use Prim.Native.Nat.{ℕ}
 use mathlib.Core.List.{List, [], _∷_}
+use Rattle.blocks.specs.Entries.{entry}
 use Rattle.blocks.specs.declared.Entry.{Entry}
 
 -- what the comparison is to answer: contained, or the number of the first entry that fails and the specimen's entries
@@ -14,10 +15,6 @@ pub data Line : Type 0 where
   compares : List Entry → List Entry → Outcome → Line
   normalises : List Entry → List Entry → Line
   impossible : List Entry → Line
-
--- an entry of kind k, owner o, a name and a number
-abbrev entry : ℕ → ℕ → ℕ → ℕ → Entry
-entry k o name number = record { kind = k; reserved = 0; owner = o; name = name; number = number }
 
 unfoldable pub lines : List Line
 lines =

@@ -1,7 +1,7 @@
 -- The starred desk examples that have a specimen, as one list.
 -- Assumes nothing.
 use mathlib.Core.List.{List, [], _∷_}
-use Prim.Native.Nat.{ℕ}
+use Rattle.blocks.specs.Entries.{entry}
 use Rattle.blocks.specs.declared.Entry.{Entry}
 
 -- the supplier's description C, the service's description D, and a specimen whose top item is to fit C and not D
@@ -13,10 +13,6 @@ pub record Case : Type 0 where
 -- C, D and the specimen, in the order of the desk's lines
 abbrev case : List Entry → List Entry → List Entry → Case
 case c d s = record { specimen = s; supplier = c; service = d }
-
--- an entry of kind k and owner o
-abbrev entry : ℕ → ℕ → ℕ → ℕ → Entry
-entry k o name number = record { kind = k; reserved = 0; owner = o; name = name; number = number }
 
 unfoldable pub cases : List Case
 cases =
