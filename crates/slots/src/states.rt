@@ -27,6 +27,7 @@ use blocks::Property;
 // Two states that are no place of the normal form: below NOWHERE nothing stands, and after PASSED, an at most 0, all holds. A slot has
 // neither number.
 const NOWHERE: u64 = 1023;
+
 const PASSED: u64 = 1024;
 
 // The slot of a property at a place, or 0.
