@@ -35,6 +35,7 @@ use Rattle.passes.proofs.SlotLists.SlotLaws.{position-from}
 use Rattle.passes.proofs.SlotLists.SlotNumbers.{no-link-slot, no-slot, position-range, slot-lists, slot-owns}
 use Rattle.passes.specs.code.Slots.{Slot, inconsistent, isLink, position, slots, taken, value}
 use Rattle.slots.specs.code.States.{entrySlot, holdsInState, holdsBySlots, highAt, lowAt, nowhere, passed, slotFor, stateBelow, stateOf, supportedBy}
+use Rattle.slots.specs.code.Tables.{linkKind}
 
 -- ---- the states
 
@@ -138,7 +139,7 @@ module _ (rs : List (Row Atom ℕ)) where
   pub support-slots : (v : ℕ) (e : Entry) → 1 ≤ e .kind → e .kind ≤ 6 → e .kind ≢ 5
       → supportedBy (e .kind) (e .number) (lowAt (slots rs) (entrySlot (slots rs) v (e .kind) (e .name))) (highAt (slots rs) (entrySlot (slots rs) v (e .kind) (e .name)))
       ≡ supports unrestricted (form (slots rs) v) (atomOf e)
-  unfolding supportedBy entrySlot kindOf
+  unfolding supportedBy entrySlot linkKind kindOf
   support-slots v e lo hi z =
       rw supports-plain
       (eq-cases (e .kind) 1 (λ q. rw q (has-said v (e .name)))

@@ -4,30 +4,13 @@ ghost use mathlib.Core.Path.{_≡_};
 ghost use Prim.Native.Nat.{_≤_, _<_, max};
 ghost use lib.ListN.{length, replicate};
 ghost use Rattle.blocks.specs.Entries.{entriesOf};
-ghost use Rattle.passes.specs.code.Keys.{keyNumber};
-ghost use Rattle.slots.specs.code.Tables.{linkKind, lowKind, highKind, noBound, Built};
+ghost use Rattle.slots.specs.code.Tables.{lowKind, highKind, noBound, Built};
 ghost use Rattle.meaning.specs.Owned.{Owned};
 use crate::slots::NO_BOUND;
 use crate::slots::enter;
-use crate::slots::link_key;
+use crate::slots::entry_key;
 use crate::slots::long;
-use crate::slots::property_key;
 use crate::slots::wide;
-use blocks::Entry;
-
-// The key of an entry's slot at a place: its name is a link's for kinds 3 to 5, else a property's.
-fn entry_key(place: u64, e: Entry) -> u64
-    requires { ⌜ place < 1024 ⌝ }
-    ensures { λ r. ⌜ (r ≡ keyNumber place (linkKind (e .kind)) (e .name)) × (r < 1073741824) ⌝ }
-{
-    let kind = e.kind;
-    match kind {
-        3 => link_key(place, e.link()),
-        4 => link_key(place, e.link()),
-        5 => link_key(place, e.link()),
-        _ => property_key(place, e.property()),
-    }
-}
 
 // At least so many, by an entry of this kind and number.
 fn low_kind(kind: u8, number: u16) -> u64

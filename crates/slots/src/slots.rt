@@ -6,7 +6,8 @@ ghost use Prim.Native.Nat.{_+_, _*_, _≤_, _<_, min, max, ℕ};
 ghost use lib.ListN.{getD, set};
 ghost use Rattle.slots.specs.code.Chain.{scan};
 ghost use Rattle.passes.specs.code.Keys.{keyNumber};
-ghost use Rattle.slots.specs.code.Tables.{keyIn, lowPart, highPart, slotNumber, hashOf, Kept, Entered, noBound};
+ghost use Rattle.slots.specs.code.Tables.{keyIn, lowPart, highPart, slotNumber, hashOf, Kept, Entered, linkKind, noBound};
+use blocks::Entry;
 use blocks::Link;
 use blocks::Property;
 
@@ -144,6 +145,29 @@ pub(crate) fn link_key(place: u64, l: Link) -> u64
     ensures { λ r. ⌜ (r ≡ keyNumber place true (l .0)) × (r < 1073741824) ⌝ }
 {
     131072 * place + (65536 + long(l.0))
+}
+
+// Whether the name of an entry of this kind is a link's.
+fn link_kind(kind: u8) -> bool
+    ensures { λ r. ⌜ r ≡ linkKind kind ⌝ }
+{
+    match kind {
+        3 => true,
+        4 => true,
+        _ => kind == 5,
+    }
+}
+
+// The key of an entry's slot at a place. Two ways that compute alike, and no jump by kind: entries come in any order of kinds.
+pub(crate) fn entry_key(place: u64, e: Entry) -> u64
+    requires { ⌜ place < 1024 ⌝ }
+    ensures { λ r. ⌜ (r ≡ keyNumber place (linkKind (e .kind)) (e .name)) × (r < 1073741824) ⌝ }
+{
+    if link_kind(e.kind) {
+        link_key(place, e.link())
+    } else {
+        property_key(place, e.property())
+    }
 }
 
 // Enters an entry: the slot of its key, found or made, gets the entry's bounds too. Returns the slot's number.

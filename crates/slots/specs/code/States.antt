@@ -11,7 +11,7 @@ use Rattle.blocks.specs.Owners.{ownerOf}
 use Rattle.blocks.specs.declared.Entry.{Entry}
 use Rattle.logic.specs.Normal.{atMost, found}
 use Rattle.passes.specs.code.Slots.{Slot, position, settled, slotAt, slotHigh, slotLow, taken}
-use Rattle.slots.specs.code.Tables.{Kept, slotsFrom}
+use Rattle.slots.specs.code.Tables.{Kept, linkKind, slotsFrom}
 
 -- ---- slots by key
 
@@ -55,10 +55,9 @@ unfoldable pub supportedBy : ℕ → ℕ → ℕ → Option ℕ → Bool
 supportedBy k n lo hi =
     cond (eqb k 1) (not (eqb lo 0)) (cond (eqb k 2) (found hi) (cond (eqb k 3) (leb n lo) (cond (eqb k 4) (atMost n hi) (eqb k 5))))
 
--- the slot whose bounds tell at place v, by the kind and name of an entry; 0 for kinds 5 and 6, where none is needed
+-- the slot whose bounds tell at place v, by the kind and name of an entry; 0 for an 'every', where none is needed
 unfoldable pub entrySlot : List Slot → ℕ → ℕ → ℕ → ℕ
-entrySlot ss v k n =
-    cond (eqb k 1) (slotFor ss v false n) (cond (eqb k 2) (slotFor ss v false n) (cond (eqb k 3) (slotFor ss v true n) (cond (eqb k 4) (slotFor ss v true n) 0)))
+entrySlot ss v k n = cond (eqb k 5) 0 (slotFor ss v (linkKind k) n)
 
 -- the entry holds in a place of that state
 unfoldable pub holdsInState : List Slot → ℕ → Entry → Bool

@@ -1,35 +1,23 @@
--- `entry_slot` meets its contract, kind by kind.
+-- `entry_slot` meets its contract.
 use borrow.Author.Needs.{needs}
 use native.Mathlib.Omega.{arith}
-use Rattle.base.proofs.Tests.{ne-eqb}
+use Rattle.base.proofs.Tests.{eq-eqb, ne-eqb}
+use Rattle.slots.proofs.states.BoundLaws.{scan-most}
+use Rattle.slots.proofs.states.SlotSearch.{search-slot}
 use Rattle.slots.specs.code.States.{entrySlot}
 use Rattle.slots.proofs.states.entry_slot.Statement.{statement}
 use Rattle.slots.proofs.states.entry_slot.Tie as tie
 
 returns : tie.Need-returns
 unfolding entrySlot
-returns c = (c .property-slot .ensures .0, λ ss i. rw (entrySlot, c .before .before .match .keys1, ← c .before .property .ensures) (c .property-slot .ensures .1 ss i))
+returns c = (omega arith, λ ss i. rw (entrySlot, eq-eqb (c .if1 .taken)))
 
 returns-2 : tie.Need-returns-2
 unfolding entrySlot
-returns-2 c = (c .property-slot2 .ensures .0, λ ss i. rw (entrySlot, c .before .before .match .keys2, ← c .before .property2 .ensures) (c .property-slot2 .ensures .1 ss i))
-
-returns-3 : tie.Need-returns-3
-unfolding entrySlot
-returns-3 c = (c .link-slot .ensures .0, λ ss i. rw (entrySlot, c .before .before .match .keys3, ← c .before .link .ensures) (c .link-slot .ensures .1 ss i))
-
-returns-4 : tie.Need-returns-4
-unfolding entrySlot
-returns-4 c = (c .link-slot2 .ensures .0, λ ss i. rw (entrySlot, c .before .before .match .keys4, ← c .before .link2 .ensures) (c .link-slot2 .ensures .1 ss i))
-
-returns-5 : tie.Need-returns-5
-unfolding entrySlot
-returns-5 c =
-    let z = c .match .rest in
-    (omega arith, λ ss i. rw (entrySlot, ne-eqb (z .0 .0 .0 .1), ne-eqb (z .0 .0 .1), ne-eqb (z .0 .1), ne-eqb (z .1)))
+returns-2 c = (
+  scan-most _ _ _ (c .search .ensures),
+  λ ss i. rw (entrySlot, ne-eqb (c .before .before .if1 .left)) (search-slot i _ _ _ (omega arith) (c .before .entry-key .ensures .0) (c .search .ensures)),
+)
 
 pub entry-slot-spec : {M : Type 1} → statement M
-entry-slot-spec =
-    tie.close
-    (tie.spec (λ c κs. search needs) (λ c κs. search needs) (λ c κs. search needs) (λ c κs. search needs) (λ c κs. search needs) (λ c κs. search needs)
-    (λ c κs. search needs) (λ c κs. search needs) returns returns-2 returns-3 returns-4 returns-5)
+entry-slot-spec = tie.close (tie.spec returns (λ c κs. search needs) (λ c κs. search needs) returns-2)
