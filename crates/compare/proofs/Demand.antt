@@ -20,7 +20,7 @@ use Rattle.compare.proofs.AnswerLaws.{compared, first-refused, not-verd
 use Rattle.compare.proofs.PromiseKept.{contained-exactly, not-contained-means}
 use Rattle.compare.specs.Answer.{compareOf}
 use Rattle.compare.specs.Promise.{AnswersNot, Comparable, Countermodel, Decided}
-use Rattle.compare.specs.declared.Comparison.the-variants.{Contained, NotContained, Refused}
+use Rattle.compare.specs.declared.Comparison.the-variants.{Contained, Refused}
 use Rattle.meaning.proofs.Verdicts.NotContained.{not-contained-shown}
 use Rattle.meaning.specs.Failing.{failing, specimenOf}
 use Rattle.meaning.specs.Specimen.{recordOf}

@@ -2,12 +2,12 @@
 -- is never 7.
 -- Assumes nothing.
 use Prim.Native.Nat.{ℕ}
-use mathlib.Core.Bool.{Bool, false, true}
+use mathlib.Core.Bool.{false, true}
 use mathlib.Core.List.{List}
 use mathlib.Core.Option.{none, some}
 use mathlib.Core.Path.{_∙_, _≡_, ap, refl, sym}
 use native.Mathlib.Omega.{arith}
-use Rattle.base.proofs.Tests.{bool-cases, both-ways}
+use Rattle.base.proofs.Tests.{bool-cases}
 use Rattle.blocks.proofs.RoundTrip.Accepting.{accepted-by-none, refused-by-first}
 use Rattle.blocks.proofs.RoundTrip.RefusalNumbers.{reading-number}
 use Rattle.blocks.specs.Faults.{faults}

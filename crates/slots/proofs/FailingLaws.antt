@@ -1,10 +1,10 @@
 -- The ways to the first entry that a normal form does not hold: refused, nothing fits the first, or found by the slots.
 -- Assumes nothing.
-use Prim.Native.Nat.{_≤_, suc, ℕ}
+use Prim.Native.Nat.{_≤_, ℕ}
 use lib.ListN.{getD, length}
 use mathlib.Core.Bool.{Bool, false, true}
 use mathlib.Core.Option.{none}
-use mathlib.Core.List.{List, [], _∷_, map}
+use mathlib.Core.List.{List, map}
 use mathlib.Core.Logic.{_≢_}
 use mathlib.Core.Path.{_∙_, _≡_, ap, refl, sym}
 use native.Mathlib.Omega.{arith}
@@ -25,7 +25,7 @@ use Rattle.logic.specs.Record.{every}
 use Rattle.meaning.specs.Description.{rowOf}
 use Rattle.meaning.specs.Owned.{Owned}
 use Rattle.passes.proofs.Cells.CellsWritten.{kept}
-use Rattle.passes.specs.code.Slots.{Slot, inconsistent, settled, slot, slots}
+use Rattle.passes.specs.code.Slots.{Slot, inconsistent, slots}
 use Rattle.slots.proofs.HoldingLaws.{bottom-first, slots-first}
 use Rattle.slots.proofs.PassLaws.{slots-counted}
 use Rattle.slots.specs.Holding.{holdingBy, holdingOf, holdingReturned, failingIn}

@@ -2,18 +2,18 @@
 -- slots are those that the normal form holds.
 -- Assumes nothing.
 use Prim.Native.Nat.{_+_, _<_, _≤_, suc, zero, ℕ}
-use lib.Dec.{eqb, leb, ltb}
+use lib.Dec.{eqb, leb}
 use lib.ListN.{length}
-use mathlib.Core.Bool.{Bool, _&&_, _||_, cond, false, not, true}
+use mathlib.Core.Bool.{Bool, _||_, cond, false, not, true}
 use mathlib.Core.List.{List, [], _++_, _∷_, append-assoc, append-nil, map}
 use mathlib.Core.Logic.{_≢_}
 use mathlib.Core.Option.{Option}
 use mathlib.Core.Path.{_∙_, _≡_, refl, sym}
 use native.Mathlib.Omega.{arith}
-use Rattle.base.proofs.Tests.{and-left, and-right, bool-cases, eq-cases, eq-eqb, iff-eq, leb-le, ltb-lt, ne-eqb, or-one, tests}
+use Rattle.base.proofs.Tests.{bool-cases, eq-cases, eq-eqb, iff-eq, ne-eqb, or-one, tests}
 use Rattle.base.specs.Search.{firstFrom}
 use Rattle.blocks.proofs.Refusing.Legal.{form-kind, owner-earlier}
-use Rattle.blocks.specs.Entries.{formOk, kindOk, nth}
+use Rattle.blocks.specs.Entries.{nth}
 use Rattle.blocks.specs.Owners.{ownerOf}
 use Rattle.blocks.specs.Promise.{Legal}
 use Rattle.blocks.specs.declared.Entry.{Entry}

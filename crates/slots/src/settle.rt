@@ -2,7 +2,7 @@
 // and a place is not empty where one of its slots asks something. All slots of a place stand after it, so one pass is enough.
 ghost use mathlib.Core.Path.{_≡_};
 ghost use mathlib.Core.Bool.{not, cond, _&&_, _||_};
-ghost use Prim.Native.Nat.{_-_, _/_, _%_, _≤_, _<_};
+ghost use Prim.Native.Nat.{_/_, _%_, _≤_, _<_};
 ghost use lib.Dec.{eqb};
 ghost use lib.ListN.{length, getD, set, replicate};
 ghost use Rattle.logic.specs.Normal.{found};

@@ -1,7 +1,7 @@
 -- A tree by its places: each place has a code, and lists its leaves and then its nodes, each with the code of the place below it. No
 -- public promise names these.
 -- Assumes nothing.
-use Prim.Native.Nat.{_+_, ℕ}
+use Prim.Native.Nat.{ℕ}
 use mathlib.Core.List.{List, [], _++_, _∷_, map}
 use Rattle.logic.specs.Tree.{Row, Tree, end, leaf, leafRow, node, nodeRow}
 use Rattle.normal.specs.code.Filling.{Filled, Joined}

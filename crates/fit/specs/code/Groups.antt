@@ -1,7 +1,7 @@
 -- Fitting by groups and by entry numbers, as the code goes. No public promise names these: proofs/ shows that they give Table 1's
 -- answer in the record of items.
 -- Assumes nothing.
-use mathlib.Core.Bool.{Bool, true, false, not, cond, _&&_, _||_}
+use mathlib.Core.Bool.{Bool, false, not, cond, _&&_, _||_}
 use mathlib.Core.List.{List}
 use Prim.Native.Nat.{ℕ, zero, suc}
 use lib.Dec.{leb, eqb}

@@ -2,12 +2,12 @@
 -- the rules, as predicates on entries, leave nothing out.
 -- Assumes nothing.
 use Prim.Native.Nat.{_+_, _-_, _<_, _≤_, suc, zero, ℕ}
-use lib.Dec.{eqb, leb, ltb}
+use lib.Dec.{eqb, ltb}
 use lib.ListN.{getD, length}
-use mathlib.Core.Bool.{Bool, _&&_, _||_, false, true}
+use mathlib.Core.Bool.{Bool, _&&_, false, true}
 use mathlib.Core.List.{List, [], _∷_, map}
 use mathlib.Core.Logic.{_≢_, _⊎_, inl, inr}
-use mathlib.Core.Option.{none, some}
+use mathlib.Core.Option.{some}
 use mathlib.Core.Path.{_∙_, _≡_, ap, refl}
 use native.Mathlib.Omega.{arith}
 use Rattle.base.proofs.Missing.{not-true, opt-cases, some-none}
@@ -25,9 +25,9 @@ use Rattle.logic.proofs.OneMeaning.Unique.{normal-fixed}
 use Rattle.logic.proofs.Records.Kept.{lawful-unrestricted}
 use Rattle.logic.specs.Background.{unrestricted}
 use Rattle.logic.specs.Canonical.{Above, Ascending, Canonical, Clean, Normal, canonical}
-use Rattle.logic.specs.Normal.{atMost, before, bottom, find, found, isEnd, nf, over, rank, sub, supports, under}
-use Rattle.logic.specs.Place.{Kind, Place, atom, has, kindOf, lacks, least, most, nothing}
-use Rattle.logic.specs.Tree.{end, tree}
+use Rattle.logic.specs.Normal.{before, bottom, find, isEnd, nf, rank, sub, supports}
+use Rattle.logic.specs.Place.{Kind, atom, has, kindOf, lacks, least, most, nothing}
+use Rattle.logic.specs.Tree.{tree}
 use Rattle.meaning.proofs.Descriptions.Lookups.{find-none, find-some, kind-range, match-fields, match-within, place-end, rank-kind, sub-none, sub-some}
 use Rattle.meaning.specs.Description.{placeOf, rowOf}
 use Rattle.meaning.specs.Lookup.{entryFor}

@@ -1,7 +1,7 @@
 -- The entries of a comparison's specimen ascend by owner, then kind, then name: so each property of a place, and each group of a place
 -- and link, stands once.
 -- Assumes nothing.
-use Prim.Native.Nat.{_<_, _≤_, pred, suc, zero, ℕ}
+use Prim.Native.Nat.{_<_, _≤_, suc, zero, ℕ}
 use lib.Dec.{eqb, ltb}
 use mathlib.Core.Bool.{false, true}
 use mathlib.Core.List.{List, [], _∷_, map}
@@ -17,7 +17,7 @@ use Rattle.logic.specs.Place.{Kind, Place, atom, has, lacks, least, most, nothi
 use Rattle.logic.specs.SpecimenTree.{SpecimenTree, group}
 use Rattle.logic.specs.Tree.{end, leaf, leafRow, node, nodeRow}
 use Rattle.logic.specs.Witness.{Target, below, build, groupsBy, member, names, next, off, on, once, path, pathOf, putAscending, targetLinks, targetProperties, withProperties, witness}
-use Rattle.meaning.specs.Description.{atomOf, linksTo}
+use Rattle.meaning.specs.Description.{linksTo}
 use Rattle.meaning.specs.RowEntries.{entryBefore}
 use Rattle.meaning.specs.SpecimenFor.{rowEntry, specimenEntries, specimenFor}
 

@@ -1,7 +1,5 @@
 -- `has_property` meets its contract: the property is given by none of the entries passed.
-use Prim.Native.Nat.{ℕ}
 use borrow.Author.Needs.{needs}
-use lib.ListN.{getD}
 use mathlib.Core.Bool.{not}
 use mathlib.Core.Path.{_∙_, _≡_, ap, sym}
 use native.Mathlib.Omega.{arith}

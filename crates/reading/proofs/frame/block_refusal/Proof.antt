@@ -1,6 +1,5 @@
 -- `block_refusal` meets its contract: 2 before 3.
 use borrow.Author.Needs.{needs}
-use native.Mathlib.Omega.{arith}
 use Rattle.blocks.proofs.Refusing.BlockLaws.{block-sound, check-fails, frame-fails}
 use Rattle.reading.proofs.frame.block_refusal.Statement.{statement}
 use Rattle.reading.proofs.frame.block_refusal.Tie as tie
