@@ -21,7 +21,6 @@ use Rattle.fit.specs.code.Groups.{fitsPlace}
 use Rattle.fit.specs.code.Index.{Ordered}
 use Rattle.fit.specs.declared.FitAnswer.{FitAnswer}
 use Rattle.fit.specs.declared.FitAnswer.the-variants.{No, Refused, Yes}
-use Rattle.logic.specs.Record.{count}
 
 limit-most : (σ : Schema) → limitOf σ ≤ 32
 limit-most Description = omega arith

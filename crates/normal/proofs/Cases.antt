@@ -31,7 +31,6 @@ use Rattle.normal.proofs.AnswerLaws.{normalised}
 use Rattle.normal.specs.Answer.{normaliseOf, normalisedOf, outputAfter}
 use Rattle.normal.specs.Promise.{NormalisedAs, Right}
 use Rattle.normal.specs.declared.NormalAnswer.the-variants.{Normalised}
-use Rattle.passes.proofs.CellPlaces.Forms.{form}
 
 -- what computes: no rule refuses the entries, they have room in 16 blocks, and the normal form's entries are those given
 abbrev Computes : Line → Type 0

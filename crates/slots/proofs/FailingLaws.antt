@@ -9,7 +9,7 @@ use mathlib.Core.Logic.{_≢_}
 use mathlib.Core.Path.{_∙_, _≡_, ap, refl, sym}
 use native.Mathlib.Omega.{arith}
 use Rattle.base.proofs.Tests.{eq-cases, eq-eqb, ne-eqb}
-use Rattle.base.specs.Range.{all, bit}
+use Rattle.base.specs.Range.{bit}
 use Rattle.base.specs.Search.{firstFrom}
 use Rattle.blocks.proofs.Refusing.Legal.{owner-earlier, owner-kind}
 use Rattle.blocks.proofs.RoundTrip.Accepting.{accepted-by-none, none-of-accepted, refused-by-first, sound-of-accepted}
@@ -21,10 +21,8 @@ use Rattle.blocks.specs.Reading.{readingOf}
 use Rattle.blocks.specs.declared.Reading.{Reading}
 use Rattle.blocks.specs.declared.Reading.the-variants as reading
 use Rattle.blocks.specs.declared.Schema.the-variants.{Description}
-use Rattle.logic.specs.Record.{every}
 use Rattle.meaning.specs.Description.{rowOf}
 use Rattle.meaning.specs.Owned.{Owned}
-use Rattle.passes.proofs.Cells.CellsWritten.{kept}
 use Rattle.passes.specs.code.Slots.{Slot, inconsistent, slots}
 use Rattle.slots.proofs.HoldingLaws.{bottom-first, slots-first}
 use Rattle.slots.proofs.PassLaws.{slots-counted}

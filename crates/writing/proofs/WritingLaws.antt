@@ -13,7 +13,6 @@ use native.Mathlib.Omega.{arith}
 use Rattle.base.proofs.Lists.{getD-map-in, listed, listed-last}
 use Rattle.base.proofs.StoresLaws.{holds-stored, stored-front, stored-none, stored-one, stored-then}
 use Rattle.base.proofs.Tests.{gt-leb, le-leb, tests}
-use Rattle.base.specs.Range.{all}
 use Rattle.base.specs.Stores.{stored}
 use Rattle.blocks.proofs.Format.Blocks.{length-front}
 use Rattle.blocks.proofs.Format.ByteRows.{Rows, length-joined, more, none}

@@ -18,7 +18,6 @@ use Rattle.logic.specs.Canonical.{Ascending, Canonical, Normal, canonica
 use Rattle.logic.specs.Normal.{add, fill, find, isBottom, isEnd, nf, putEvery, removeEvery, sub, supports, within}
 use Rattle.logic.specs.Place.{Kind, Place, atom, most, nothing}
 use Rattle.logic.specs.Tree.{end, leaf, node}
-use Rattle.logic.specs.Witness.{below}
 
 module _ {b : Background} (law : LawfulBackground b) where
   -- an empty place is normal

@@ -25,7 +25,6 @@ use Rattle.logic.specs.Normal.{atMost, bottom, excluded, find, isEnd, nf
 use Rattle.logic.specs.Place.{Atom, Kind, Place, atom, has, lacks, least, most, nothing}
 use Rattle.logic.specs.Record.{Record, along, fits, meets}
 use Rattle.logic.specs.Tree.{end, leaf, node}
-use Rattle.logic.specs.Witness.{below}
 
 -- ---- what a place lists at a path of links
 

@@ -11,7 +11,6 @@ use mathlib.Core.Path.{_∙_, _≡_, ap, refl, sym}
 use native.Mathlib.Omega.{arith}
 use Rattle.base.proofs.Lists.{zeros-read}
 use Rattle.base.proofs.Tests.{bool-cases, eq-cases}
-use Rattle.blocks.proofs.Format.Blocks.{parts}
 use Rattle.logic.specs.Layout.{Queue, done, job}
 use Rattle.logic.specs.Place.{Atom}
 use Rattle.logic.specs.Tree.{Row}

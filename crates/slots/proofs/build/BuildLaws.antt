@@ -16,11 +16,9 @@ use Rattle.base.proofs.Tests.{and-zero, bool-cases, eq-cases, eq-eqb, eqb-eq, i
 use Rattle.blocks.specs.Entries.{nth, zeroEntry}
 use Rattle.blocks.specs.Owners.{ownerOf}
 use Rattle.blocks.specs.declared.Entry.{Entry}
-use Rattle.logic.specs.Normal.{put, same}
 use Rattle.logic.specs.Place.{kindOf}
 use Rattle.meaning.specs.Description.{rowOf}
 use Rattle.meaning.specs.Owned.{Owned}
-use Rattle.meaning.specs.Specimen.{top}
 use Rattle.passes.specs.code.Slots.{Slot, atTop, build, high, isLink, leading, low, position, slots, tighten}
 use Rattle.slots.proofs.slots.ChainLaws.{chain-none}
 use Rattle.slots.specs.code.Chain.{Chains}

@@ -12,7 +12,6 @@ use native.Mathlib.Omega.{arith}
 use Rattle.base.proofs.Tests.{and-zero, bool-cases, eq-cases, eq-eqb, ne-eqb}
 use Rattle.base.specs.Range.{bit}
 use Rattle.logic.specs.Normal.{found}
-use Rattle.logic.specs.Witness.{below}
 use Rattle.passes.specs.code.Slots.{Slot, broken, closed, inconsistent, nonempty, settled, slot}
 use Rattle.slots.proofs.slots.TableLaws.{high-made, key-made, low-made, slots-other}
 use Rattle.slots.specs.code.Tables.{Placed, Settling, Slotted, closedBound, highIn, highPart, keyIn, lowPart, slotIn, slotNumber, slotsFrom}

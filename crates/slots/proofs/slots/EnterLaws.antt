@@ -12,7 +12,6 @@ use mathlib.Core.Path.{_∙_, _≡_, ap, fun-ext, subst, sym}
 use native.Mathlib.Omega.{arith}
 use Rattle.base.proofs.Lists.{set-each}
 use Rattle.base.proofs.Tests.{bool-cases, eq-cases, eqb-eq, ne-eqb, tests}
-use Rattle.logic.specs.Normal.{found, same}
 use Rattle.passes.specs.code.Keys.{keyNumber}
 use Rattle.slots.proofs.slots.ChainLaws.{chain-new}
 use Rattle.slots.proofs.slots.SearchLaws.{keysOf}

@@ -11,7 +11,6 @@ use Rattle.blocks.specs.Entries.{Bounded, entriesOf, nth}
 use Rattle.blocks.specs.Owners.{ownerOf}
 use Rattle.blocks.specs.declared.Entry.{Entry}
 use Rattle.meaning.specs.Description.{rowOf}
-use Rattle.passes.proofs.Cells.CellsWritten.{kept}
 use Rattle.passes.specs.code.Slots as slot-build
 use Rattle.passes.specs.code.Slots.{slots}
 use Rattle.slots.proofs.build.BuildLaws.{build-ends, build-goes, build-starts, kept-starts, nodes-more, nodes-start}

@@ -1,6 +1,5 @@
 -- `chained_slots` meets its contract: the slots are built, then settled.
 use borrow.Author.Needs.{needs}
-use Rattle.passes.proofs.Cells.CellsWritten.{kept}
 use Rattle.slots.proofs.PassLaws.{built-placed, settled-from}
 use Rattle.slots.proofs.states.BoundLaws.{settled-kept}
 use Rattle.slots.proofs.filling.chained_slots.Statement.{statement}

@@ -2,7 +2,6 @@
 use borrow.Author.Needs.{needs}
 use mathlib.Core.Path.{_∙_}
 use native.Mathlib.Omega.{arith}
-use Rattle.meaning.specs.Specimen.{top}
 use Rattle.slots.specs.code.Tables.{keyIn}
 use Rattle.slots.proofs.settle.settle_slot.Statement.{statement}
 use Rattle.slots.proofs.settle.settle_slot.Tie as tie
