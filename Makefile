@@ -1,9 +1,10 @@
-# make run: compares two shipped descriptions. make lib: the static library for C and Rust. make test: the gate, then the library
-# from C and from Rust, under valgrind, and against the reference. make fuzz: the library against the reference on drawn cases, for
-# SECONDS from SEED. make vectors: the vectors of crates/vectors and what the reference answers to them, made again. make bench: how
-# long a run of each program takes, and each call of the library beside plain Rust (docs/BENCHMARKS.md). make stack: the stack that
-# each call of the library takes.
-.PHONY: run lib test memory fuzz vectors bench stack
+# make run: compares two shipped descriptions. make lib: the static library for C and Rust. make test: the gate, which proves everything,
+# tries to break it, runs the programs, and then all of make outside: the library from C and from Rust, the program and the library
+# beside the reference, and the Rust side under valgrind. make fuzz: the library against the reference on drawn cases, for SECONDS from
+# SEED. make vectors: the vectors of crates/vectors and what the reference answers to them, made again. make bench: how long a run of
+# each program takes, and each call of the library beside plain Rust (docs/BENCHMARKS.md). make stack: the stack that each call of the
+# library takes.
+.PHONY: run lib test outside memory fuzz vectors bench stack
 
 CC = gcc
 CFLAGS = -O2 -Wall -Wextra -Werror -Iinclude
@@ -22,12 +23,14 @@ lib:
 
 test:
 	bash .ci/run
-	$(MAKE) lib
+
+outside: lib
 	mkdir -p target/c
 	$(CC) $(CFLAGS) examples/compare.c target/staticlib/libcapi.a -o target/c/compare
 	test "$$(target/c/compare)" = "not contained, entry 1; specimen of 2 entries"
 	cargo test --quiet --manifest-path rust/bindings/Cargo.toml
 	cargo test --release --quiet --manifest-path rust/differential/Cargo.toml
+	cargo test --release --quiet --manifest-path rust/bench/Cargo.toml
 	$(MAKE) memory
 
 # The tests of the Rust side, and twenty seconds of drawn cases, with each use of memory watched.
