@@ -4,3 +4,5 @@ pub mod Division
 pub mod Lines
 -- What the promise of the division speaks of: the first later block with number 1.
 pub mod Promise
+-- The bytes that the program prints: of a number, of a word, of a line, and of all lines.
+pub mod Text
