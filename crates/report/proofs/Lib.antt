@@ -10,3 +10,7 @@ pub mod SecondExample
 pub mod DivisionLaws
 -- The lines of a specimen that is written at the start of the output are the lines of its entries.
 pub mod WrittenLines
+-- Numbers in decimal: their digits, one after the other, what these mean, and how many they are.
+pub mod Decimals
+-- Laws of putting text into a buffer, one for each way through the code.
+pub mod TextLaws
