@@ -8,14 +8,14 @@ use mathlib.Core.Logic.{_≢_}
 use mathlib.Core.Path.{_∙_, _≡_, ap, refl, sym}
 use native.Mathlib.Omega.{arith}
 use Rattle.base.proofs.Fronts.{take-next}
-use Rattle.base.proofs.StoresLaws.{stored-none, stored-one, stored-then}
+use Rattle.base.proofs.StoresLaws.{length-stored, stored-front, stored-none, stored-one, stored-then}
 use Rattle.base.specs.Stores.{stored}
 use Rattle.blocks.specs.declared.Link.{Link}
 use Rattle.blocks.specs.declared.Property.{Property}
 use Rattle.compare.specs.declared.Comparison.{Comparison}
 use Rattle.report.proofs.Decimals.{decimal-few, decimal-more, long-number, short-number}
 use Rattle.report.specs.Lines.{answerLine, specimenLine, specimenLines}
-use Rattle.report.specs.Text.{ascii, decimal, lineOf, lineWords}
+use Rattle.report.specs.Text.{ascii, decimal, lineOf, lineText, lineWords}
 use Rattle.report.specs.declared.Line.{Line}
 use Rattle.report.specs.declared.Line.the-variants.{Contained, Group, Has, NotContained, Refused}
 
@@ -123,6 +123,21 @@ pub group-words : (n o : ℕ) (l : Link) (k : ℕ) → (((ascii "group " ++ deci
 unfolding lineWords
 group-words n o l k =
     fields-joined (ascii "group ") (decimal n) (ascii " owner ") (decimal o) (ascii " link ") (decimal (l .0)) (ascii " count ") (decimal k)
+
+-- the words and the line's end, as a list
+pub text-put : (l : List ℕ) {t u : Line} {l₁ l₂ : List ℕ} {m r : ℕ} → length l₁ ≡ 64 → t ≡ u → Line-put l t l₁ m
+    → Put l₁ m (ascii "\n") l₂ r
+    → (r ≡ length (lineText u)) × (r ≤ 64) × (l₂ ≡ lineText u ++ drop r l)
+unfolding lineText
+text-put l {t} {u} {r = r} n e p q =
+    let X = lineWords t in
+    let k₀ : length l ≡ 64 = sym (length-stored l X 0) ∙ ap length (sym (p .2)) ∙ n in
+    let a = p .0 in
+    let b = p .1 in
+    let s = put-then l X (ascii "\n") 0 (omega arith, p .2) q in
+    let k : r ≡ length (X ++ ascii "\n") = let c = s .0 in omega arith in
+    let h : r ≤ 64 = let c = q .0 in omega arith in
+    rw (← e) (k, h, s .1 ∙ stored-front l (X ++ ascii "\n") (omega arith) ∙ ap (λ (j : ℕ). (X ++ ascii "\n") ++ drop j l) (sym k))
 
 -- ---- the line of a number
 

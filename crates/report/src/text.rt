@@ -5,7 +5,7 @@ ghost use mathlib.Core.List.{_++_, _∷_, []};
 ghost use Prim.Native.Nat.{_+_, _≤_, _<_};
 ghost use lib.ListN.{drop, length};
 ghost use Rattle.base.specs.Stores.{stored};
-ghost use Rattle.report.specs.Text.{decimal, lineOf, lineText, lineWords};
+ghost use Rattle.report.specs.Text.{ascii, decimal, lineOf, lineText, lineWords};
 ghost use Rattle.report.specs.declared.Line.the-variants.{Group, Has, Refused};
 use crate::Line;
 use crate::lines::answer_line;
@@ -103,6 +103,15 @@ fn put_words(buffer: &mut [u8; 64], line: Line) -> usize
     }
 }
 
+// Puts the end of a line.
+fn put_end(buffer: &mut [u8], at: usize) -> usize
+    requires { ⌜ at < length (now buffer) ⌝ }
+    ensures { λ r. ⌜ (r ≡ at + 1) × (now (buffer .exit) ≡ stored (now (buffer .entry)) at (ascii "\n")) ⌝ }
+{
+    buffer[at] = b'\n';
+    at + 1
+}
+
 // Line n of an answer whose specimen stands in `blocks`: line 0 is the answer's, and line n that of specimen entry n.
 fn nth_line(answer: Comparison, blocks: &[u8], n: u16) -> Line
     ensures { λ r. ⌜ r ≡ lineOf answer (now (blocks .entry)) n ⌝ }
@@ -121,5 +130,5 @@ pub fn line_text(answer: Comparison, blocks: &[u8], n: u16, buffer: &mut [u8; 64
 {
     let line = nth_line(answer, blocks, n);
     let end = put_words(buffer, line);
-    put_word(buffer, end, b"\n")
+    put_end(buffer, end)
 }
