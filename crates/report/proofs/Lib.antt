@@ -6,7 +6,7 @@ pub mod Joined
 pub mod Printed
 -- The lines that the paper gives.
 pub mod SecondExample
--- Laws of the search for the second description, one for each way through its loop.
+-- Laws of the search for the second description, one for each way through its loop, and of the two parts.
 pub mod DivisionLaws
 -- The lines of a specimen that is written at the start of the output are the lines of its entries.
 pub mod WrittenLines

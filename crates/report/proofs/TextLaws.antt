@@ -126,18 +126,20 @@ group-words n o l k =
 
 -- the words and the line's end, as a list
 pub text-put : (l : List ℕ) {t u : Line} {l₁ l₂ : List ℕ} {m r : ℕ} → length l₁ ≡ 64 → t ≡ u → Line-put l t l₁ m
-    → Put l₁ m (ascii "\n") l₂ r
-    → (r ≡ length (lineText u)) × (r ≤ 64) × (l₂ ≡ lineText u ++ drop r l)
+    → Put l₁ m (ascii "\n") l₂ r → (r ≡ length (lineText u)) × (r ≤ length l₂) × (l₂ ≡ lineText u ++ drop r l)
 unfolding lineText
-text-put l {t} {u} {r = r} n e p q =
+text-put l {t} {u} {l₂ = l₂} {r = r} n e p q =
     let X = lineWords t in
-    let k₀ : length l ≡ 64 = sym (length-stored l X 0) ∙ ap length (sym (p .2)) ∙ n in
+    let T = X ++ ascii "\n" in
     let a = p .0 in
     let b = p .1 in
+    let c = q .0 in
     let s = put-then l X (ascii "\n") 0 (omega arith, p .2) q in
-    let k : r ≡ length (X ++ ascii "\n") = let c = s .0 in omega arith in
-    let h : r ≤ 64 = let c = q .0 in omega arith in
-    rw (← e) (k, h, s .1 ∙ stored-front l (X ++ ascii "\n") (omega arith) ∙ ap (λ (j : ℕ). (X ++ ascii "\n") ++ drop j l) (sym k))
+    let long : r ≡ length T = let d = s .0 in omega arith in
+    let whole : length l ≡ 64 = sym (length-stored l X 0) ∙ ap length (sym (p .2)) ∙ n in
+    let bytes : l₂ ≡ T ++ drop r l = s .1 ∙ stored-front l T (omega arith) ∙ ap (λ (j : ℕ). T ++ drop j l) (sym long) in
+    let held : length l₂ ≡ length T + length (drop r l) = ap length bytes ∙ length-append T (drop r l) in
+    rw (← e) (long, omega arith, bytes)
 
 -- ---- the line of a number
 

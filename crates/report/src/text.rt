@@ -15,8 +15,11 @@ use blocks::Link;
 use blocks::Property;
 use compare::Comparison;
 
+// Room for the longest line.
+pub const LINE_BYTES: usize = 64;
+
 // Puts a word.
-fn put_word(buffer: &mut [u8; 64], at: usize, word: &[u8]) -> usize
+fn put_word(buffer: &mut [u8; LINE_BYTES], at: usize, word: &[u8]) -> usize
     requires { ⌜ at + length (now word) ≤ 64 ⌝ }
     ensures { λ r. ⌜ (r ≡ at + length (now (word .entry))) × (now (buffer .exit) ≡ stored (now (buffer .entry)) at (now (word .entry))) ⌝ }
 {
@@ -29,7 +32,7 @@ fn put_word(buffer: &mut [u8; 64], at: usize, word: &[u8]) -> usize
 }
 
 // Puts a digit.
-fn put_digit(buffer: &mut [u8; 64], at: usize, digit: u32) -> usize
+fn put_digit(buffer: &mut [u8; LINE_BYTES], at: usize, digit: u32) -> usize
     requires { ⌜ (at < 64) × (digit < 10) ⌝ }
     ensures { λ r. ⌜ (r ≡ at + 1) × (now (buffer .exit) ≡ stored (now (buffer .entry)) at ((48 + digit) ∷ [])) ⌝ }
 {
@@ -38,7 +41,7 @@ fn put_digit(buffer: &mut [u8; 64], at: usize, digit: u32) -> usize
 }
 
 // Puts the digits of a number: those of a tenth of it, and then its last digit.
-fn put_number(buffer: &mut [u8; 64], at: usize, number: u32) -> usize
+fn put_number(buffer: &mut [u8; LINE_BYTES], at: usize, number: u32) -> usize
     requires { ⌜ at + length (decimal number) ≤ 64 ⌝ }
     ensures { λ r. ⌜ (r ≡ at + length (decimal number)) × (now (buffer .exit) ≡ stored (now (buffer .entry)) at (decimal number)) ⌝ }
 {
@@ -50,7 +53,7 @@ fn put_number(buffer: &mut [u8; 64], at: usize, number: u32) -> usize
 }
 
 // Puts a word and a number.
-fn put_field(buffer: &mut [u8; 64], at: usize, word: &[u8], number: u32) -> usize
+fn put_field(buffer: &mut [u8; LINE_BYTES], at: usize, word: &[u8], number: u32) -> usize
     requires { ⌜ at + length (now word ++ decimal number) ≤ 64 ⌝ }
     ensures { λ r. ⌜ (r ≡ at + length (now (word .entry) ++ decimal number))
         × (now (buffer .exit) ≡ stored (now (buffer .entry)) at (now (word .entry) ++ decimal number)) ⌝ }
@@ -60,7 +63,7 @@ fn put_field(buffer: &mut [u8; 64], at: usize, word: &[u8], number: u32) -> usiz
 }
 
 // Puts the words of a refusal.
-fn put_refused(buffer: &mut [u8; 64], number: u8, input: u16, place: u16) -> usize
+fn put_refused(buffer: &mut [u8; LINE_BYTES], number: u8, input: u16, place: u16) -> usize
     ensures { λ r. ⌜ (r ≡ length (lineWords (Refused number input place))) × (r < 64)
         × (now (buffer .exit) ≡ stored (now (buffer .entry)) 0 (lineWords (Refused number input place))) ⌝ }
 {
@@ -70,7 +73,7 @@ fn put_refused(buffer: &mut [u8; 64], number: u8, input: u16, place: u16) -> usi
 }
 
 // Puts the words of a property that entry n gives.
-fn put_has(buffer: &mut [u8; 64], n: u16, owner: u16, p: Property) -> usize
+fn put_has(buffer: &mut [u8; LINE_BYTES], n: u16, owner: u16, p: Property) -> usize
     ensures { λ r. ⌜ (r ≡ length (lineWords (Has n owner p))) × (r < 64)
         × (now (buffer .exit) ≡ stored (now (buffer .entry)) 0 (lineWords (Has n owner p))) ⌝ }
 {
@@ -80,7 +83,7 @@ fn put_has(buffer: &mut [u8; 64], n: u16, owner: u16, p: Property) -> usize
 }
 
 // Puts the words of a group that entry n gives.
-fn put_group(buffer: &mut [u8; 64], n: u16, owner: u16, l: Link, count: u32) -> usize
+fn put_group(buffer: &mut [u8; LINE_BYTES], n: u16, owner: u16, l: Link, count: u32) -> usize
     ensures { λ r. ⌜ (r ≡ length (lineWords (Group n owner l count))) × (r < 64)
         × (now (buffer .exit) ≡ stored (now (buffer .entry)) 0 (lineWords (Group n owner l count))) ⌝ }
 {
@@ -91,7 +94,7 @@ fn put_group(buffer: &mut [u8; 64], n: u16, owner: u16, l: Link, count: u32) -> 
 }
 
 // Puts the words of a line.
-fn put_words(buffer: &mut [u8; 64], line: Line) -> usize
+fn put_words(buffer: &mut [u8; LINE_BYTES], line: Line) -> usize
     ensures { λ r. ⌜ (r ≡ length (lineWords line)) × (r < 64) × (now (buffer .exit) ≡ stored (now (buffer .entry)) 0 (lineWords line)) ⌝ }
 {
     match line {
@@ -124,8 +127,8 @@ fn nth_line(answer: Comparison, blocks: &[u8], n: u16) -> Line
 
 // Puts the text of line n of an answer at the start of the buffer, and returns its length; later bytes stay. Line 0 is the answer's; for
 // `not contained`, line n is that of entry n of the specimen in `blocks`. Entries above the specimen's read as the zero entry.
-pub fn line_text(answer: Comparison, blocks: &[u8], n: u16, buffer: &mut [u8; 64]) -> usize
-    ensures { λ r. ⌜ (r ≡ length (lineText (lineOf answer (now (blocks .entry)) n))) × (r ≤ 64)
+pub fn line_text(answer: Comparison, blocks: &[u8], n: u16, buffer: &mut [u8; LINE_BYTES]) -> usize
+    ensures { λ r. ⌜ (r ≡ length (lineText (lineOf answer (now (blocks .entry)) n))) × (r ≤ length (now (buffer .exit)))
         × (now (buffer .exit) ≡ lineText (lineOf answer (now (blocks .entry)) n) ++ drop r (now (buffer .entry))) ⌝ }
 {
     let line = nth_line(answer, blocks, n);
