@@ -4,6 +4,8 @@ pub mod Dividing
 pub mod Joined
 -- The lines to print, by the answer and by the input.
 pub mod Printed
+-- What the program writes, to its last byte: by the input, and by the answer.
+pub mod PrintedText
 -- The lines that the paper gives.
 pub mod SecondExample
 -- Laws of the search for the second description, one for each way through its loop, and of the two parts.
