@@ -6,7 +6,7 @@ pub mod Joined
 pub mod Printed
 -- What the program writes, to its last byte: by the input, and by the answer.
 pub mod PrintedText
--- The lines that the paper gives.
+-- The lines that the paper gives, to their last byte.
 pub mod SecondExample
 -- Laws of the search for the second description, one for each way through its loop, and of the two parts.
 pub mod DivisionLaws

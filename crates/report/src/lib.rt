@@ -10,7 +10,6 @@ mod text;
 
 use blocks::Link;
 use blocks::Property;
-
 pub use input::compare_parts;
 pub use input::input_buffer;
 pub use lines::answer_line;
