@@ -4,9 +4,15 @@ pub mod Dividing
 pub mod Joined
 -- The lines to print, by the answer and by the input.
 pub mod Printed
--- The lines that the paper gives.
+-- What the program writes, to its last byte: by the input, and by the answer.
+pub mod PrintedText
+-- The lines that the paper gives, to their last byte.
 pub mod SecondExample
--- Laws of the search for the second description, one for each way through its loop.
+-- Laws of the search for the second description, one for each way through its loop, and of the two parts.
 pub mod DivisionLaws
 -- The lines of a specimen that is written at the start of the output are the lines of its entries.
 pub mod WrittenLines
+-- Numbers in decimal: their digits, one after the other, what these mean, and how many they are.
+pub mod Decimals
+-- Laws of putting text into a buffer, one for each way through the code.
+pub mod TextLaws

@@ -1,5 +1,4 @@
--- The lines to print, by the answer and by the input. The program calls `answer_line` once and then `specimen_line` for each entry, and
--- so prints `linesOf`; that it prints these data in the paper's words is not proved here.
+-- The lines to print, by the answer and by the input. What the program writes are the bytes of these lines: see PrintedText.
 -- Assumes nothing.
 use Prim.Native.Nat.{_%_, _<_, ℕ}
 use lib.ListN.{length}

@@ -2,5 +2,7 @@
 pub mod Division
 -- The lines that the program prints.
 pub mod Lines
--- What the promise of the division speaks of: the first later block with number 1.
+-- What the promises of the program speak of: the first later block with number 1, a number in decimal, and what the program writes.
 pub mod Promise
+-- The bytes that the program prints: of a number, of a word, of a line, and of all lines.
+pub mod Text

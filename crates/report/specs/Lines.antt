@@ -25,7 +25,7 @@ specimenLines (comparison.Refused n i p) = 0
 
 -- "`has` or `group` with its entry number"; "`count` is the number of items, one more than the stored number": entry n
 unfoldable pub entryLine : ℕ → Entry → Line
-entryLine n e = cond (eqb (e .kind) 7) (Group n (e .owner) (e .name) (e .number + 1)) (Has n (e .owner) (e .name))
+entryLine n e = cond (eqb (e .kind) 7) (Group n (e .owner) (record { 0 = e .name }) (e .number + 1)) (Has n (e .owner) (record { 0 = e .name }))
 
 -- the line of entry n of the specimen in the blocks s that have `total` entries
 unfoldable pub specimenLine : List ℕ → ℕ → ℕ → Line
@@ -59,5 +59,5 @@ abbrev pub pieces : Line → List Piece
 pieces Contained = contained ∷ []
 pieces (NotContained e) = notContained ∷ field e ∷ []
 pieces (Refused n i p) = refused ∷ field n ∷ input ∷ field i ∷ place ∷ field p ∷ []
-pieces (Has n o name) = has ∷ field n ∷ owner ∷ field o ∷ property ∷ field name ∷ []
-pieces (Group n o name items) = group ∷ field n ∷ owner ∷ field o ∷ link ∷ field name ∷ count ∷ field items ∷ []
+pieces (Has n o name) = has ∷ field n ∷ owner ∷ field o ∷ property ∷ field (name .0) ∷ []
+pieces (Group n o name items) = group ∷ field n ∷ owner ∷ field o ∷ link ∷ field (name .0) ∷ count ∷ field items ∷ []

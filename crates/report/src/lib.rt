@@ -3,13 +3,21 @@
 //
 // The contracts cite specs/: Division and Lines. What these mean is proved in proofs/: that two accepted descriptions, joined, divide into
 // just these two, that the lines after the first are those of the specimen's entries, and the lines that the paper gives.
+mod input;
 mod lines;
 mod split;
+mod text;
 
+use blocks::Link;
+use blocks::Property;
+pub use input::compare_parts;
+pub use input::input_buffer;
 pub use lines::answer_line;
 pub use lines::specimen_line;
 pub use lines::specimen_lines;
 pub use split::first_length;
+pub use text::LINE_BYTES;
+pub use text::line_text;
 
 // What a printed line says: `contained`; `not contained` with the entry that fails; `refused` with its number, input and place; `has`
 // with its entry number, owner and property; or `group` with its entry number, owner, link and count, which is the number of items.
@@ -17,6 +25,6 @@ pub enum Line {
     Contained,
     NotContained(u16),
     Refused(u8, u16, u16),
-    Has(u16, u16, u16),
-    Group(u16, u16, u16, u32),
+    Has(u16, u16, Property),
+    Group(u16, u16, Link, u32),
 }

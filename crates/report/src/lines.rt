@@ -33,7 +33,7 @@ pub fn specimen_line(blocks: &[u8], total: usize, n: u16) -> Line
 {
     let e = blocks::nth_entry(blocks, total, n as usize);
     if e.kind == 7 {
-        return Line::Group(n, e.owner, e.name, e.number as u32 + 1);
+        return Line::Group(n, e.owner, e.link(), e.number as u32 + 1);
     }
-    Line::Has(n, e.owner, e.name)
+    Line::Has(n, e.owner, e.property())
 }
