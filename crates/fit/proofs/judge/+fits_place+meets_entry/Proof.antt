@@ -1,5 +1,5 @@
 -- `fits_place` and `meets_entry` meet their contracts. Each call goes to fewer levels, or from a place to its entries at the same level.
-use Prim.Native.Nat.{ℕ, _+_, _*_, _-_}
+use Prim.Native.Nat.{ℕ, _+_, _*_, _-_, _<_}
 use native.Mathlib.Omega.{arith}
 use mathlib.Core.Path.{_≡_, sym, _∙_}
 use mathlib.Core.Logic.{⊎-elim}
