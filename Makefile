@@ -13,10 +13,21 @@ SEED = $(shell date +%s)
 VALGRIND = valgrind --quiet --error-exitcode=1
 
 run: target/bin/goltximen
-	target/bin/goltximen < examples/pair.blocks
+	@target/bin/goltximen < examples/pair.blocks
 
+# How many crates the program needs, itself among them: crates.txt from its end, since each crate stands below those that it uses.
+NEEDED = tac crates.txt | awk -F '[: ]+' '/^goltximen:/ { need[$$1] } \
+	$$1 in need { n++; for (i = 2; i <= NF; i++) need[$$i] } END { print n }'
+
+# Shows rt's line on each crate; target/run.log has all that rt prints. Where nothing has changed rt leaves the program as it is, so
+# its date is set here: now where all is proved, so that the next run answers at once; else an old one, so that it proves again.
+target/bin/goltximen: SHELL := /bin/bash
 target/bin/goltximen: crates.txt $(shell find crates -type f)
-	rt check goltximen
+	@echo "proving $$($(NEEDED)) crates, some 4 minutes the first time; the answer follows"
+	@mkdir -p target
+	@set -o pipefail; rt check goltximen 2>&1 | tee target/run.log | grep --line-buffered '^rt:' || \
+		{ touch -c -d @0 $@; echo "NOT PROVED. The end of target/run.log:"; tail -n 40 target/run.log; exit 1; }
+	@touch -c $@
 
 lib:
 	rt staticlib capi

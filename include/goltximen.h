@@ -2,14 +2,20 @@
  * Goltximen: soil sample descriptions, what fits them, their normal form, and whether one holds another.
  *
  * The static library is target/staticlib/libcapi.a, for x86-64 Linux; `make lib` builds it. Its five functions are proved to
- * answer what is said here for all bytes and lengths, to read and write no memory but that of their slices, and to return.
+ * answer what is said here for all bytes and lengths, to read and write no memory but that of their slices and their own
+ * stack, and to return.
  *
  * Slices. A slice is a pointer and a length in bytes. Any bytes may stand in it. An input is only read. Inputs may be the same
  * memory, or overlap each other; the output must overlap no input. Nobody else may write an input or touch the output during
  * a call. An empty slice may come with any pointer, also a null pointer; any other slice must lie in memory of the caller's.
- * Nothing is allocated and nothing is kept between calls, so any number of threads may call at once.
+ * Nothing is allocated and nothing is kept between calls, so any number of threads may call at once, each on its own stack.
  *
- * Descriptions have 1 to 16 blocks of 512 bytes, specimens 1 to 32.
+ * An output that shares even one byte with an input breaks these terms. The library does not look for it and does not refuse
+ * it, and nothing that is said here holds of such a call: neither its answer nor the bytes that it writes. So no call works
+ * in place; give it an output of its own.
+ *
+ * Descriptions have 1 to 16 blocks of 512 bytes, 63 entries to a block, specimens 1 to 32; k entries take GX_BYTES(k) bytes.
+ * docs/FORMAT.md says what stands in a block, and examples/build.c makes one.
  *
  * The answer is one number of 64 bits, answer + 256 * number + 65,536 * first + 4,294,967,296 * second:
  *
@@ -27,10 +33,12 @@
  *     number   when                                                                              place
  *     1        an input's length is 0, no multiple of 512, or over the limit                     0
  *     2        a block's check is wrong                                                          block
- *     3        a block's number, used count or a byte that is due to be zero is wrong            block
+ *     3        a block's number or used count is wrong, or a byte due to be zero in its frame
+ *              (bytes 508-509) or in its unused entries is not zero                              block
  *     4        an entry's kind is not allowed, its byte 1 is not zero, or its name or number
  *              is outside the table                                                              entry
- *     5        an entry's owner is not an earlier entry of kind 5 (description) or 7 (specimen)  entry
+ *     5        an entry's owner is neither 0, the top, which always passes, nor an earlier
+ *              entry of kind 5 (description) or 7 (specimen)                                     entry
  *     6        an entry's depth is over 32                                                       entry
  *     7        the output is too short                                                           0
  *
@@ -63,10 +71,19 @@ extern "C" {
 #define GX_FIRST(r) ((unsigned)((r) >> 16 & 0xffff))
 #define GX_SECOND(r) ((unsigned)((r) >> 32 & 0xffffffff))
 
+/* The count, where the answer is a count: its second field. */
+#define GX_COUNT(r) GX_SECOND(r)
+
 /* The cases of an answer. */
 #define GX_REFUSED 0
 #define GX_YES 1
 #define GX_NO 2
+
+/*
+ * The bytes that k entries take as blocks: 512 times the blocks, of which there are k / 63, rounded up, and at least one.
+ * Evaluates k once, and is a constant where k is. For k = 0 it counts on -1 / 63 being 0.
+ */
+#define GX_BYTES(k) ((size_t)(512 * (1 + ((int64_t)(k) - 1) / 63)))
 
 /* Reads the description d: a count, its number of entries; or refused. */
 uint64_t gx_read_description(const uint8_t *d, size_t d_len);

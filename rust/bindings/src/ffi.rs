@@ -1,8 +1,8 @@
 //! The five functions of the library as C declares them, behind calls that take slices. All unsafe code is here.
 //!
 //! The library is proved to read and write nothing but the memory that its pointers and lengths name, whatever bytes stand
-//! there. Each call below lends it the memory of whole slices for the time of the call. The borrow checker keeps an output
-//! apart from the inputs.
+//! there, and its own stack. Each call below lends it the memory of whole slices for the time of the call. The borrow
+//! checker keeps an output apart from the inputs.
 
 extern "C" {
     fn gx_read_description(d: *const u8, d_len: usize) -> u64;

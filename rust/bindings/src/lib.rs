@@ -4,7 +4,11 @@
 //!
 //! A description and a specimen are bytes in blocks of 512: the block's number, how many of its 63 entries are used, the
 //! entries of 8 bytes, two zero bytes, and the check, which is the sum of all other words of two bytes. Any bytes may be
-//! handed over; those that break a rule are refused. No call panics, allocates or keeps anything.
+//! handed over; those that break a rule are refused. No call panics, allocates or keeps anything. `docs/FORMAT.md` has each
+//! byte and each refusal.
+//!
+//! `k` entries take `512 * k.div_ceil(63).max(1)` bytes, `GX_BYTES(k)` of the C header: a call that writes `k` entries writes
+//! just those bytes, from the start of the output.
 //!
 //! A thread with 96 KiB of stack has room for each call; `include/goltximen.h` has what was measured.
 //!

@@ -10,11 +10,12 @@ pub enum Reason {
     Length,
     /// 2: a block's check is wrong.
     Check,
-    /// 3: a block's number, its used count or a byte that is due to be zero is wrong.
+    /// 3: a block's number or its used count is wrong, or a byte due to be zero in its frame or in its unused entries is not.
     Frame,
     /// 4: an entry's kind is not allowed, its byte 1 is not zero, or its name or number is outside the table.
     Form,
-    /// 5: an entry's owner is not earlier, or cannot own.
+    /// 5: an entry's owner is neither 0, the top, nor an earlier entry that may own: one of kind 5 in a description, of kind
+    /// 7 in a specimen.
     Owner,
     /// 6: an entry's depth is over 32.
     Depth,
