@@ -8,7 +8,7 @@ use lib.Dec.{ltb}
 use mathlib.Core.Bool.{cond}
 use mathlib.Core.List.{List, [], _++_, _∷_}
 use Rattle.compare.specs.declared.Comparison.{Comparison}
-use Rattle.report.specs.Lines.{Piece, answerLine, contained, count, field, group, has, input, link, linesOf, notContained, owner, pieces, place, property, refused, specimenLine, specimenLines}
+use Rattle.report.specs.Lines.{Piece, answerLine, contained, count, field, group, has, input, link, notContained, owner, pieces, place, property, refused, specimenLine, specimenLines}
 use Rattle.report.specs.declared.Line.{Line}
 
 -- the bytes of a text of ASCII characters

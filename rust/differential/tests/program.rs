@@ -3,7 +3,7 @@
 //! `rt check goltximen` builds it; where it is not built, a line says so and nothing is tested.
 
 use std::io::Write;
-use std::path::PathBuf;
+use std::path::{Path, PathBuf};
 use std::process::{Command, Stdio};
 
 use differential::chance::Chance;
@@ -27,7 +27,7 @@ fn program() -> Option<PathBuf> {
 }
 
 /// What the program writes for this input, which comes by a pipe in two parts. It may end before it has read all.
-fn written(program: &PathBuf, input: &[u8]) -> Vec<u8> {
+fn written(program: &Path, input: &[u8]) -> Vec<u8> {
     let mut child = Command::new(program)
         .stdin(Stdio::piped())
         .stdout(Stdio::piped())
@@ -50,7 +50,7 @@ fn written(program: &PathBuf, input: &[u8]) -> Vec<u8> {
 }
 
 /// The program writes what the reference gives; that text.
-fn same(program: &PathBuf, input: &[u8]) -> String {
+fn same(program: &Path, input: &[u8]) -> String {
     let expected = run_program(input);
     let text = written(program, input);
     let shown = String::from_utf8_lossy(&text);
@@ -158,15 +158,13 @@ fn longer_inputs() {
         same(&program, &input);
         same(&program, &vec![0; length]);
     }
-    // A block with number 1 at the end of 16,384 bytes is not whole in what is read.
-    let many = [
-        &contained[..8_192],
-        &contained[512..8_192],
-        &contained[512..1_536],
-    ]
-    .concat();
-    same(&program, &many);
-    same(&program, &[&many[..16_384], &contained[..512]].concat());
+    // Block 33 has number 1, and is not whole in what is read: C is all of it.
+    let one = &contained[..512];
+    let later = &contained[512..1_024];
+    let mut input = one.to_vec();
+    (1..32).for_each(|_| input.extend(later));
+    input.extend(one);
+    assert_eq!(same(&program, &input), "refused 1 input 1 place 0\n");
 }
 
 /// The comparisons of the vectors, which the paper's cases are among.

@@ -1,5 +1,4 @@
 -- `put_field` meets its contract: a word, and then a number.
-use borrow.Author.Needs.{needs}
 use Rattle.report.proofs.TextLaws.{put-then, room-first, room-second}
 use Rattle.report.specs.Text.{decimal}
 use Rattle.report.proofs.text.put_field.Statement.{statement}
