@@ -79,7 +79,7 @@ pub enum Comparison {
 ///
 /// # Errors
 ///
-/// The refusal by the first row of the table that applies.
+/// The refusal by the first number of the table that applies.
 pub fn read_description(d: &[u8]) -> Result<u16, Refusal> {
     packed::count(ffi::read_description(d))
 }
@@ -99,7 +99,7 @@ pub fn read_description(d: &[u8]) -> Result<u16, Refusal> {
 ///
 /// # Errors
 ///
-/// The refusal by the first row of the table that applies.
+/// The refusal by the first number of the table that applies.
 pub fn read_specimen(s: &[u8]) -> Result<u16, Refusal> {
     packed::count(ffi::read_specimen(s))
 }

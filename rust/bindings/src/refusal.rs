@@ -3,7 +3,7 @@
 use std::error::Error;
 use std::fmt;
 
-/// Why an input or an output is refused: a row of the table of refusals.
+/// Why an input or an output is refused: a number of the table of refusals.
 #[derive(Clone, Copy, Debug, PartialEq, Eq, Hash)]
 pub enum Reason {
     /// 1: the input's length is 0, no multiple of 512, or over the limit.
