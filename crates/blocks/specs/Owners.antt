@@ -29,3 +29,8 @@ depthOf es n = chain es n n
 -- "at most 32"
 unfoldable pub depthOk : List Entry → ℕ → Bool
 depthOk es n = leb (depthOf es n) 32
+
+-- The level of an owner: 0 where it may own nothing, else one more than the depth of what it owns. The top's is 1.
+unfoldable pub levelOf : Schema → List Entry → ℕ → ℕ
+levelOf σ es zero = 1
+levelOf σ es (suc k) = cond (eqb (nth es (suc k) .kind) (owningKind σ)) (2 + depthOf es (suc k)) 0

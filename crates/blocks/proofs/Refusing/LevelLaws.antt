@@ -17,8 +17,8 @@ use Rattle.base.proofs.Tests.{bool-cases, eq-cases, eq-eqb, ge-ltb, lt-cases, l
 use Rattle.blocks.proofs.Refusing.FirstFault.{step, step-found, step-more}
 use Rattle.blocks.specs.Entries.{formOk, nth, owningKind}
 use Rattle.blocks.specs.Faults.{entryFaults, first}
-use Rattle.blocks.specs.Owners.{chain, depthOf, depthOk, ownerOf, ownerOk}
-use Rattle.blocks.specs.code.ReadingSteps.{entryRefusal, levelBy, levelOf, levelUnder}
+use Rattle.blocks.specs.Owners.{chain, depthOf, depthOk, levelOf, ownerOf, ownerOk}
+use Rattle.blocks.specs.code.ReadingSteps.{entryRefusal, levelBy, levelUnder}
 use Rattle.blocks.specs.declared.Entry.{Entry}
 use Rattle.blocks.specs.declared.Finding.the-variants.{Clean, Faulty}
 use Rattle.blocks.specs.declared.Schema.{Schema}

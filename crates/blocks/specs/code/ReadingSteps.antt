@@ -1,15 +1,14 @@
 -- The steps of the passes over blocks and entries, as the code takes them. No public promise names them: proofs/ ties them to
 -- the table of refusals and to the encoding.
 -- Assumes nothing.
-use Prim.Native.Nat.{_+_, _/_, suc, zero, ℕ}
+use Prim.Native.Nat.{_+_, _/_, ℕ}
 use lib.Dec.{eqb, ltb}
 use lib.ListN.{getD, length}
 use mathlib.Core.Bool.{cond}
 use mathlib.Core.List.{List}
-use Rattle.blocks.specs.Entries.{formOk, nth, owningKind}
+use Rattle.blocks.specs.Entries.{formOk, owningKind}
 use Rattle.blocks.specs.Faults.{lengthWrong}
 use Rattle.blocks.specs.Frame.{checkWrong, frameWrong, plain}
-use Rattle.blocks.specs.Owners.{depthOf}
 use Rattle.blocks.specs.declared.Entry.{Entry}
 use Rattle.blocks.specs.declared.Schema.{Schema}
 
@@ -20,11 +19,6 @@ blockRefusal s n i = cond (checkWrong plain s i) 2 (cond (frameWrong plain s n i
 -- the blocks of an input whose length number 1 allows, or 0
 unfoldable pub blocksRead : Schema → List ℕ → ℕ
 blocksRead σ s = cond (lengthWrong σ s) 0 (length s / 512)
-
--- The level of an owner: 0 where it may own nothing, else one more than the depth of what it owns. The top's is 1.
-unfoldable pub levelOf : Schema → List Entry → ℕ → ℕ
-levelOf σ es zero = 1
-levelOf σ es (suc k) = cond (eqb (nth es (suc k) .kind) (owningKind σ)) (2 + depthOf es (suc k)) 0
 
 -- the level of owner o of entry n, from a table of the levels of the entries before n
 unfoldable pub levelBy : List ℕ → ℕ → ℕ → ℕ

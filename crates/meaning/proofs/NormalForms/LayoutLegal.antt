@@ -13,9 +13,8 @@ use native.Mathlib.Numerals.{one-add}
 use Rattle.base.proofs.Tests.{and-both, eq-cases, eq-eqb, le-leb, lt-ltb, ne-eqb, or-left, or-right}
 use Rattle.blocks.proofs.Refusing.LevelLaws.{depth-top, depth-under}
 use Rattle.blocks.specs.Entries.{formOk, nth, owningKind, zeroEntry}
-use Rattle.blocks.specs.Owners.{depthOf, depthOk, ownerOf, ownerOk}
+use Rattle.blocks.specs.Owners.{depthOf, depthOk, levelOf, ownerOf, ownerOk}
 use Rattle.blocks.specs.Promise.{Legal}
-use Rattle.blocks.specs.code.ReadingSteps.{levelOf}
 use Rattle.blocks.specs.declared.Entry.{Entry}
 use Rattle.blocks.specs.declared.Schema.{Schema}
 use Rattle.logic.proofs.TreeRows.LayoutLaws.{write-early}
