@@ -44,7 +44,7 @@ fn link_slot(
     search(table, next, head, used, link_key(place, l))
 }
 
-// The slot whose bounds tell whether an entry holds at a place, or 0. An 'every' is not looked up: it holds in any case.
+// The slot of an entry at a place, or 0.
 fn entry_slot(
     table: &[u64; 1009],
     next: &[u16; 1009],
@@ -54,11 +54,8 @@ fn entry_slot(
     e: Entry,
 ) -> usize
     requires { ⌜ Kept (now table) (now next) (now head) used × (used ≤ 1008) × (place < 1024) ⌝ }
-    ensures { λ r. ⌜ (r ≤ used) × ((ss : List Slot) → Indexed ss (now (table .entry)) (now (next .entry)) (now (head .entry)) used → r ≡ entrySlot ss place (e .kind) (e .name)) ⌝ }
+    ensures { λ r. ⌜ (r ≤ used) × ((ss : List Slot) → Indexed ss (now (table .entry)) (now (next .entry)) (now (head .entry)) used → r ≡ entrySlot ss place e) ⌝ }
 {
-    if e.kind == 5 {
-        return 0;
-    }
     search(table, next, head, used, entry_key(place, e))
 }
 
@@ -89,7 +86,7 @@ fn supported(kind: u8, number: u16, lo: u64, hi: u64) -> bool
     }
 }
 
-// Whether an entry holds in a place of this state.
+// Whether an entry holds in a place of this state. An 'every' is not looked up: it holds in any case.
 fn holds(
     table: &[u64; 1009],
     next: &[u16; 1009],
@@ -101,6 +98,9 @@ fn holds(
     requires { ⌜ Kept (now table) (now next) (now head) used × (used ≤ 1008) × (state ≤ passed) ⌝ }
     ensures { λ r. ⌜ ((ss : List Slot) → Indexed ss (now (table .entry)) (now (next .entry)) (now (head .entry)) used → r ≡ holdsInState ss state e) ⌝ }
 {
+    if e.kind == 5 {
+        return true;
+    }
     if state == PASSED {
         return true;
     }
