@@ -137,9 +137,9 @@ module _ (rs : List (Row Atom ℕ)) where
 
   -- the place supports what an entry says that is no 'every'
   pub support-slots : (v : ℕ) (e : Entry) → 1 ≤ e .kind → e .kind ≤ 6 → e .kind ≢ 5
-      → supportedBy (e .kind) (e .number) (lowAt (slots rs) (entrySlot (slots rs) v (e .kind) (e .name))) (highAt (slots rs) (entrySlot (slots rs) v (e .kind) (e .name)))
+      → supportedBy (e .kind) (e .number) (lowAt (slots rs) (entrySlot (slots rs) v e)) (highAt (slots rs) (entrySlot (slots rs) v e))
       ≡ supports unrestricted (form (slots rs) v) (atomOf e)
-  unfolding supportedBy entrySlot linkKind kindOf
+  unfolding supportedBy linkKind kindOf
   support-slots v e lo hi z =
       rw supports-plain
       (eq-cases (e .kind) 1 (λ q. rw q (has-said v (e .name)))
@@ -213,7 +213,7 @@ module _ (rs : List (Row Atom ℕ)) (few : length (slots rs) ≤ 1008) where
 -- ---- the entries that hold
 
 -- "kind 5 always holds"
-every-holds : (ss : List Slot) (s : ℕ) (e : Entry) → e .kind ≡ 5 → holdsInState ss s e ≡ true
+pub every-holds : (ss : List Slot) (s : ℕ) (e : Entry) → e .kind ≡ 5 → holdsInState ss s e ≡ true
 unfolding holdsInState supportedBy
 every-holds ss s e q = rw (holdsInState, q) (bool-cases (eqb s passed) (λ z. rw z) (λ z. rw z))
 

@@ -1,7 +1,7 @@
 // Which entries of a second description hold: one pass over them, with the state of each 'every' in a table, and one look at the slots for
 // an entry. The slots are not sorted.
 ghost use mathlib.Core.Path.{_≡_};
-ghost use mathlib.Core.Bool.{cond, true};
+ghost use mathlib.Core.Bool.{cond, false, true};
 ghost use mathlib.Core.List.{List};
 ghost use Prim.Native.Nat.{_≤_, _<_};
 ghost use lib.Dec.{eqb};
@@ -13,21 +13,37 @@ ghost use Rattle.slots.specs.code.States.{Indexed, entrySlot, holdsInSta
 ghost use Rattle.slots.specs.code.Tables.{Kept, highIn, noBound};
 ghost use Rattle.meaning.specs.Owned.{Owned};
 use crate::slots::NO_BOUND;
-use crate::slots::entry_key;
 use crate::slots::high_in;
 use crate::slots::link_key;
 use crate::slots::long;
 use crate::slots::low_in;
+use crate::slots::property_key;
 use crate::slots::search;
 use crate::slots::wide;
 use blocks::Entry;
 use blocks::Link;
+use blocks::Property;
 
 // Two states that are no place of the normal form: below NOWHERE nothing stands, and after PASSED, an at most 0, all holds. A slot has
 // neither number.
 const NOWHERE: u64 = 1023;
 
 const PASSED: u64 = 1024;
+
+// The slot of a property at a place, or 0.
+fn property_slot(
+    table: &[u64; 1009],
+    next: &[u16; 1009],
+    head: &[u16; 1021],
+    used: usize,
+    place: u64,
+    p: Property,
+) -> usize
+    requires { ⌜ Kept (now table) (now next) (now head) used × (used ≤ 1008) × (place < 1024) ⌝ }
+    ensures { λ r. ⌜ (r ≤ used) × ((ss : List Slot) → Indexed ss (now (table .entry)) (now (next .entry)) (now (head .entry)) used → r ≡ slotFor ss place false (p .0)) ⌝ }
+{
+    search(table, next, head, used, property_key(place, p))
+}
 
 // The slot of a link at a place, or 0.
 fn link_slot(
@@ -44,7 +60,7 @@ fn link_slot(
     search(table, next, head, used, link_key(place, l))
 }
 
-// The slot whose bounds tell whether an entry holds at a place, or 0. An 'every' is not looked up: it holds in any case.
+// The slot of an entry at a place, or 0. One way for each kind, so that the kind is known when its bounds are judged.
 fn entry_slot(
     table: &[u64; 1009],
     next: &[u16; 1009],
@@ -54,12 +70,15 @@ fn entry_slot(
     e: Entry,
 ) -> usize
     requires { ⌜ Kept (now table) (now next) (now head) used × (used ≤ 1008) × (place < 1024) ⌝ }
-    ensures { λ r. ⌜ (r ≤ used) × ((ss : List Slot) → Indexed ss (now (table .entry)) (now (next .entry)) (now (head .entry)) used → r ≡ entrySlot ss place (e .kind) (e .name)) ⌝ }
+    ensures { λ r. ⌜ (r ≤ used) × ((ss : List Slot) → Indexed ss (now (table .entry)) (now (next .entry)) (now (head .entry)) used → r ≡ entrySlot ss place e) ⌝ }
 {
-    if e.kind == 5 {
-        return 0;
+    let kind = e.kind;
+    match kind {
+        3 => link_slot(table, next, head, used, place, e.link()),
+        4 => link_slot(table, next, head, used, place, e.link()),
+        5 => link_slot(table, next, head, used, place, e.link()),
+        _ => property_slot(table, next, head, used, place, e.property()),
     }
-    search(table, next, head, used, entry_key(place, e))
 }
 
 // The bounds of a slot, as a slot; none where there is no slot.
@@ -89,7 +108,7 @@ fn supported(kind: u8, number: u16, lo: u64, hi: u64) -> bool
     }
 }
 
-// Whether an entry holds in a place of this state.
+// Whether an entry holds in a place of this state. An 'every' is not looked up: it holds in any case.
 fn holds(
     table: &[u64; 1009],
     next: &[u16; 1009],
@@ -101,6 +120,9 @@ fn holds(
     requires { ⌜ Kept (now table) (now next) (now head) used × (used ≤ 1008) × (state ≤ passed) ⌝ }
     ensures { λ r. ⌜ ((ss : List Slot) → Indexed ss (now (table .entry)) (now (next .entry)) (now (head .entry)) used → r ≡ holdsInState ss state e) ⌝ }
 {
+    if e.kind == 5 {
+        return true;
+    }
     if state == PASSED {
         return true;
     }

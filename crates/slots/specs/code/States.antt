@@ -55,15 +55,15 @@ unfoldable pub supportedBy : ℕ → ℕ → ℕ → Option ℕ → Bool
 supportedBy k n lo hi =
     cond (eqb k 1) (not (eqb lo 0)) (cond (eqb k 2) (found hi) (cond (eqb k 3) (leb n lo) (cond (eqb k 4) (atMost n hi) (eqb k 5))))
 
--- the slot whose bounds tell at place v, by the kind and name of an entry; 0 for an 'every', where none is needed
-unfoldable pub entrySlot : List Slot → ℕ → ℕ → ℕ → ℕ
-entrySlot ss v k n = cond (eqb k 5) 0 (slotFor ss v (linkKind k) n)
+-- the slot of an entry at place v
+abbrev pub entrySlot : List Slot → ℕ → Entry → ℕ
+entrySlot ss v e = slotFor ss v (linkKind (e .kind)) (e .name)
 
 -- the entry holds in a place of that state
 unfoldable pub holdsInState : List Slot → ℕ → Entry → Bool
 holdsInState ss s e =
     cond (eqb s passed) true
-    (supportedBy (e .kind) (e .number) (lowAt ss (entrySlot ss s (e .kind) (e .name))) (highAt ss (entrySlot ss s (e .kind) (e .name))))
+    (supportedBy (e .kind) (e .number) (lowAt ss (entrySlot ss s e)) (highAt ss (entrySlot ss s e)))
 
 -- entry n of D holds
 unfoldable pub holdsBySlots : List Slot → List Entry → ℕ → Bool

@@ -1,8 +1,9 @@
 -- `holds` meets its contract.
 use borrow.Author.Needs.{needs}
-use mathlib.Core.Path.{_∙_, ap}
+use mathlib.Core.Path.{_∙_, ap, sym}
 use native.Mathlib.Omega.{arith}
 use Rattle.base.proofs.Tests.{eq-eqb, ne-eqb}
+use Rattle.slots.proofs.HoldingLaws.{every-holds}
 use Rattle.slots.proofs.states.BoundLaws.{bounds-high, bounds-low}
 use Rattle.slots.specs.code.States.{holdsInState}
 use Rattle.slots.specs.code.Tables.{highIn}
@@ -10,23 +11,26 @@ use Rattle.slots.proofs.states.holds.Statement.{statement}
 use Rattle.slots.proofs.states.holds.Tie as tie
 
 returns : tie.Need-returns
-unfolding holdsInState
-returns c = λ ss i. rw (holdsInState, eq-eqb (c .if1 .taken))
-
-bounds-requires : tie.Need-bounds-requires
-bounds-requires c κs = omega (arith, c .entry-slot .ensures .0, c .before .before .pre .1)
+returns c = λ ss i. sym (every-holds ss _ _ (c .if1 .taken))
 
 returns-2 : tie.Need-returns-2
 unfolding holdsInState
-returns-2 c = λ ss i.
+returns-2 c = λ ss i. rw (holdsInState, eq-eqb (c .if2 .taken))
+
+bounds-requires : tie.Need-bounds-requires
+bounds-requires c κs = omega (arith, c .entry-slot .ensures .0, c .before .before .before .before .pre .1)
+
+returns-3 : tie.Need-returns-3
+unfolding holdsInState
+returns-3 c = λ ss i.
     let s = c .before .before .before .before in
     let e = s .entry-slot .ensures in
     let x = c .before .before .before .bounds .ensures in
     let lo = c .before .before .low-in .ensures .0 ∙ bounds-low i (e .0) x in
     let hi = ap highIn (c .before .high-in .ensures .0) ∙ bounds-high i (e .0) x in
-    rw (holdsInState, ne-eqb (c .before .before .before .before .before .if1 .left), ← e .1 ss i, ← lo, ← hi) (c .supported .ensures)
+    rw (holdsInState, ne-eqb (c .before .before .before .before .before .if2 .left), ← e .1 ss i, ← lo, ← hi) (c .supported .ensures)
 
 pub holds-spec : {M : Type 1} → statement M
 holds-spec =
     tie.close
-    (tie.spec returns (λ c κs. search needs) bounds-requires (λ c κs. search needs) (λ c κs. search needs) (λ c κs. search needs) returns-2)
+    (tie.spec returns returns-2 (λ c κs. search needs) bounds-requires (λ c κs. search needs) (λ c κs. search needs) (λ c κs. search needs) returns-3)
