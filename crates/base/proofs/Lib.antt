@@ -8,7 +8,7 @@ pub mod Split
 pub mod Fronts
 -- The two parts of a slice that meet at h.
 pub mod Parts
--- The elements of a list, by membership and by index.
+-- The element at an index of a list is a member of it.
 pub mod Elements
 -- Further laws of tests, and case splits on a value that may be missing.
 pub mod Missing

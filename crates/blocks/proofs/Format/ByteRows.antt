@@ -25,12 +25,6 @@ rows-drop zero p = p
 rows-drop (suc n) none = none
 rows-drop (suc n) (more e p) = rows-drop n p
 
--- as row j has
-pub row-length : {w : ℕ} {rs : List (List ℕ)} → Rows w rs → (j : ℕ) → j < length rs → length (getD rs j []) ≡ w
-row-length none j h = absurd (omega arith)
-row-length (more e p) zero h = e
-row-length (more e p) (suc j) h = row-length p j (omega arith)
-
 -- the length of all of them
 pub length-joined : {w : ℕ} {rs : List (List ℕ)} → Rows w rs → length (joined rs) ≡ w * length rs
 unfolding joined

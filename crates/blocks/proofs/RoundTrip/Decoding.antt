@@ -10,7 +10,7 @@ use Rattle.base.proofs.Lists.{Holds, holds-self, holds-as, listed-eq, getD-map-
 use Rattle.base.proofs.Split.{Split, split, row-below}
 use Rattle.base.proofs.Tests.{lt-cases}
 use Rattle.blocks.proofs.Format.Blocks.{Parts, parts}
-use Rattle.blocks.proofs.Format.ByteRows.{Rows, row-length, row-held}
+use Rattle.blocks.proofs.Format.ByteRows.{Rows, row-held}
 use Rattle.blocks.proofs.Format.Counts.{blocks-for, used-last}
 use Rattle.blocks.proofs.Format.EntryBytes.{rows-entries, entry-read, entries-listed}
 use Rattle.blocks.proofs.Format.Lawful.{Lawful, plain-lawful}
@@ -70,13 +70,6 @@ module _ (F : Frame) (L : Lawful F) {rows : List (List ℕ)} (wide : Rows (F .wi
       (λ h. omega (arith, blocks-for F L p)) in
       let used : j < length (rowsIn F rows i) = simp (length-take, length-drop) (omega arith) in
       holds-as (row-in F rows i j hj ∙ rw e) refl (row-held (wide-in F L wide i) (parts-at i inside .cells) j used)
-
-  -- byte r of row n
-  pub byte-read : (n r : ℕ) → 1 ≤ n → n ≤ length rows → r < F .width
-      → getD (encodeRows F rows) (entryPos F n + r) 0 ≡ getD (getD rows (n - 1) []) r 0
-  byte-read n r lo hi h =
-      let e = row-length wide (n - 1) (omega arith) in
-      row-read n lo hi .each r (omega arith)
 
 -- the encoding of entries has the length of their blocks
 pub length-encode : (es : List Entry) → length (encode es) ≡ 512 * blocksFor plain (length es)

@@ -129,10 +129,6 @@ module _ (es : List Entry) (few : length es ≤ 1008) where
     unfolding codeBelow
     code-some = omega (arith, place-some (c % 1024) l)
 
-    pub code-narrow : length w ≤ 32 → codeBelow es w c l < 65536
-    unfolding codeBelow
-    code-narrow h = omega (arith, place-small (c % 1024) l, target-most w (c / 1024) l)
-
 -- codes that are all good
 codes-each : (Good : ℕ → Type 0) (b : ℕ → Group) (d : ℕ → ℕ) (ls : List ℕ) → ((l : ℕ) → (d l ≢ 0) × Good (d l))
     → Codes Good (codes (map (λ l. joint (b l) (d l)) ls))

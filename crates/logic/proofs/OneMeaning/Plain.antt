@@ -3,21 +3,18 @@
 use Prim.Native.Nat.{_<_, ℕ}
 use lib.Dec.{eqb}
 use mathlib.Core.Bool.{Bool, and-false, false, or-false, true}
-use mathlib.Core.List.{List}
 use mathlib.Core.Logic.{_↔_}
 use mathlib.Core.Path.{_≡_, refl}
 use Rattle.base.proofs.Tests.{or-none}
 use Rattle.logic.proofs.NormalForm.IsNormal.{nf-normal}
 use Rattle.logic.proofs.NormalForm.Sound.{nf-sound}
-use Rattle.logic.proofs.OneMeaning.HoldsExactly.{nf-holds-entails}
-use Rattle.logic.proofs.OneMeaning.Unique.{one-normal, same-normal, unique}
+use Rattle.logic.proofs.OneMeaning.Unique.{same-normal, unique}
 use Rattle.logic.proofs.Records.Kept.{kept-unrestricted, lawful-unrestricted}
 use Rattle.logic.specs.Background.{unrestricted}
 use Rattle.logic.specs.Canonical.{Normal}
-use Rattle.logic.specs.Holds.{holds}
-use Rattle.logic.specs.Normal.{atMost, clash, enough, excluded, find, found, nf, over, rank, removeLacks, supports, under}
+use Rattle.logic.specs.Normal.{atMost, clash, enough, excluded, find, found, nf, over, rank, supports, under}
 use Rattle.logic.specs.Place.{Atom, Place, atom, has, lacks, least, most, nothing}
-use Rattle.logic.specs.Record.{Record, along, fits, meets}
+use Rattle.logic.specs.Record.{Record, fits}
 use Rattle.logic.specs.Tree.{end, leaf, node}
 
 -- ---- what places say
@@ -28,12 +25,6 @@ unfolding excluded
 excluded-plain p end = refl
 excluded-plain p (leaf (atom k q m) r) = or-none (and-false (eqb (rank has) (rank k))) (excluded-plain p r)
 excluded-plain p (node l s r) = excluded-plain p r
-
-pub removeLacks-plain : (p : ℕ) (t : Place) → removeLacks unrestricted p t ≡ t
-unfolding removeLacks
-removeLacks-plain p end = refl
-removeLacks-plain p (leaf (atom k q m) r) = rw (and-false (eqb (rank lacks) (rank k)), removeLacks-plain p r)
-removeLacks-plain p (node l s r) = rw (removeLacks-plain p r)
 
 -- "Kinds 1 and 2 need the same entry; kind 3 needs n = 0 or at least m with m ≥ n; kind 4 needs at most m with m ≤ n; .. kind 6
 -- never does."
@@ -75,19 +66,7 @@ plain-sound c d x i = nf-sound c (kept-unrestricted c) d x i
 pub plain-normal : (d : Place) → Normal unrestricted (nf unrestricted d)
 plain-normal d = nf-normal lawful-unrestricted d
 
--- two normal places that the same items fit in every finite record are one
-pub plain-one-normal : (t u : Place) → Normal unrestricted t → Normal unrestricted u
-    → ((c : Record) (x : ℕ) → x < c .size → fits c t x ≡ fits c u x) → t ≡ u
-plain-one-normal t u n n′ f = one-normal lawful-unrestricted t u n n′ (λ c kept x i. f c x i)
-
 -- two descriptions have one normal form exactly if the same items fit both in every finite record
 pub plain-unique : (d e : Place) → (nf unrestricted d ≡ nf unrestricted e) ↔ ((c : Record) (x : ℕ) → x < c .size → fits c d x ≡ fits c e x)
 plain-unique d e =
     (λ q c x i. same-normal lawful-unrestricted d e q c (kept-unrestricted c) x i, λ f. unique lawful-unrestricted d e (λ c kept x i. f c x i))
-
--- the normal form holds an atom exactly if in every finite record each item that fits the description meets it along the links
-pub plain-holds-entails : (d : Place) (w : List ℕ) (a : Atom)
-    → (holds unrestricted (nf unrestricted d) w a ≡ true) ↔ ((c : Record) (x : ℕ) → x < c .size → fits c d x ≡ true → along c w x (meets c a) ≡ true)
-plain-holds-entails d w a =
-    let e = nf-holds-entails lawful-unrestricted d w a in
-    (λ z c x i h. e .0 z c (kept-unrestricted c) x i h, λ f. e .1 (λ c kept x i h. f c x i h))

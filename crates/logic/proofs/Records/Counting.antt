@@ -34,12 +34,6 @@ unfolding every
 every-ext p q zero f = refl
 every-ext p q (suc n) f = rw (f n (omega arith), every-ext p q n (λ y h. f y (omega arith)))
 
--- tests that agree below n count alike there
-pub count-ext : (p q : ℕ → Bool) (n : ℕ) → ((y : ℕ) → y < n → p y ≡ q y) → count p n ≡ count q n
-unfolding count
-count-ext p q zero f = refl
-count-ext p q (suc n) f = rw (f n (omega arith), count-ext p q n (λ y h. f y (omega arith)))
-
 -- two tests pass everywhere if each of them does
 pub every-and : (p q : ℕ → Bool) (n : ℕ) → every (λ y. p y && q y) n ≡ every p n && every q n
 every-and p q n =

@@ -163,9 +163,6 @@ module _ (es : List Entry) (six : AloneSix es) where
   six-twice : (k : ℕ) → Twice es k → ⊥
   six-twice k h = h .different (only-first (h .is-one) ∙ sym (only-first (h .is-other)))
 
-  six-crosses : {o : ℕ} → Crosses es o → ⊥
-  six-crosses h = omega (arith, only-kind (h .is-asking))
-
   six-every : {n : ℕ} → IsEvery es n → ⊥
   six-every h = omega (arith, only-kind (h .is-every))
 

@@ -1,14 +1,14 @@
 -- The numbers of slots in ascending order are their tags in ascending order, where no two slots have one key.
 -- Assumes nothing.
 use Prim.Native.Nat.{_%_, _+_, _/_, _<_, _≤_, suc, zero, ℕ}
-use lib.Dec.{eqb, ltb}
+use lib.Dec.{eqb, leb, ltb}
 use lib.ListN.{getD, length}
 use mathlib.Core.Bool.{false, true}
 use mathlib.Core.List.{List, List·Memᴰ, List·Memᴰ·cases-cons, List·Memᴰ·not-nil, map}
 use mathlib.Core.Logic.{_≢_, ⊎-elim}
 use mathlib.Core.Path.{_∙_, _≡_, ap, sym}
 use native.Mathlib.Omega.{arith}
-use Rattle.base.proofs.AscendingLaws.{Within}
+use Rattle.base.proofs.AscendingLaws.{Within, sort-within, within-sort}
 use Rattle.base.proofs.Tests.{bool-cases, both-ways, ltb-lt, tests}
 use Rattle.base.specs.Ascending.{Sorted}
 use Rattle.normal.proofs.ordering.Rising.{Different, sorted-map, sorted-rising, within-map}
@@ -17,7 +17,6 @@ use Rattle.normal.specs.code.Ordered.{tagCell, tagIn, tagNumber, tagNumb
 use Rattle.passes.proofs.SlotLists.KeyLaws.{key-below, key-parts}
 use Rattle.passes.specs.code.Pipeline.{beforeTag}
 use Rattle.slots.specs.code.Tables.{keyIn}
-use Rattle.sorting.proofs.SortedElements.{member-of-sorted, member-sorted}
 use Rattle.sorting.proofs.SortedList.{length-sorted, sorted-ascending}
 use Rattle.sorting.specs.Sorted.{sorted}
 
@@ -78,11 +77,11 @@ module _ (t : List ℕ) (used : ℕ) where
 
   -- they have the tags of the unsorted ones
   pub tags-same : Within (map (tagIn t) (tagNumbers t 1 used)) (map (tagIn t) (sorted (tagNumbers t 1 used)))
-  tags-same = within-map (tagIn t) _ _ (λ x m. member-sorted (tagNumbers t 1 used) m)
+  tags-same = within-map (tagIn t) _ _ (within-sort leb (tagNumbers t 1 used))
 
   -- and no others
   pub tags-same-back : Within (map (tagIn t) (sorted (tagNumbers t 1 used))) (map (tagIn t) (tagNumbers t 1 used))
-  tags-same-back = within-map (tagIn t) _ _ (λ x m. member-of-sorted (tagNumbers t 1 used) m)
+  tags-same-back = within-map (tagIn t) _ _ (sort-within leb (tagNumbers t 1 used))
 
   module _ (few : used ≤ 1008) where
     -- they ascend strictly
@@ -112,4 +111,4 @@ module _ (t : List ℕ) (used : ℕ) where
           numbers-rising
         where
           slot-of : (x : ℕ) → List·Memᴰ x (sorted (tagNumbers t 1 used)) → Numbers t 1 used x
-          slot-of x m = numbers-slot t 1 used x (member-of-sorted (tagNumbers t 1 used) m)
+          slot-of x m = numbers-slot t 1 used x (sort-within leb (tagNumbers t 1 used) x m)

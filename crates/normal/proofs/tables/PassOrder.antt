@@ -1,7 +1,7 @@
 -- The third pass and the fourth: what the ordered slots give.
 -- Assumes nothing.
 use Prim.Native.Nat.{_+_, _-_, _/_, _<_, _≤_, suc, zero, ℕ}
-use lib.Dec.{eqb}
+use lib.Dec.{eqb, leb}
 use lib.ListN.{List·getD-eq-default, getD, length, length-map, length-replicate, replicate, take}
 use lib.Seq.{getD-take}
 use mathlib.Core.Bool.{Bool, false, not, true}
@@ -9,6 +9,7 @@ use mathlib.Core.List.{List, [], _∷_, map}
 use mathlib.Core.Logic.{_≢_}
 use mathlib.Core.Path.{_∙_, _≡_, ap, fun-ext, refl, sym}
 use native.Mathlib.Omega.{arith}
+use Rattle.base.proofs.AscendingLaws.{sort-within}
 use Rattle.base.proofs.Elements.{member-at}
 use Rattle.base.proofs.Parts.{length-low, length-put-low, lowOf, putLow, take-low}
 use Rattle.base.proofs.Tests.{bool-cases, eq-cases, eq-eqb, lt-cases, ne-eqb}
@@ -35,7 +36,6 @@ use Rattle.passes.specs.code.Pipeline.{enoughFor, keeping, normalRows, rowsFrom
 use Rattle.passes.specs.code.Slots.{inconsistent, low, nonempty, settled, slot, slots}
 use Rattle.slots.proofs.PassLaws.{all-bounded, low-at, nonempty-far, rows-small, small-settled}
 use Rattle.slots.specs.code.Tables.{Settled, keyIn, lowPart}
-use Rattle.sorting.proofs.SortedElements.{member-of-sorted}
 use Rattle.sorting.specs.Sorted.{sorted}
 
 -- ---- the ordered slots
@@ -45,7 +45,7 @@ number-at : (t z : List ℕ) (used : ℕ) → take used z ≡ sorted (tagNumbers
 number-at t z used e l i h =
     let m : getD z i 0 ≡ getD (sorted (tagNumbers t 1 used)) i 0 = sym (getD-take used z i 0 h) ∙ ap (λ (q : List ℕ). getD q i 0) e in
     let n : i < length (sorted (tagNumbers t 1 used)) = omega (arith, numbers-many t used, h) in
-    rw m (numbers-slot t 1 used _ (member-of-sorted (tagNumbers t 1 used) (member-at 0 (sorted (tagNumbers t 1 used)) i n)))
+    rw m (numbers-slot t 1 used _ (sort-within leb (tagNumbers t 1 used) _ (member-at 0 (sorted (tagNumbers t 1 used)) i n)))
 
 pub settled-low : {d : List ℕ} {used : ℕ} {t bad full : List ℕ} → Settled d used t bad full → (j : ℕ) → 1 ≤ j → j ≤ used → lowPart (getD t j 0) < 65536
 settled-low {d} {used} {t} s j lo hi =

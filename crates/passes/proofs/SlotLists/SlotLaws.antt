@@ -44,9 +44,6 @@ name-class b n b′ n′ e = class-eq b b′ (and-left (sameClass b b′) (eqb n
 pub name-eq : (b : Bool) (n : ℕ) (b′ : Bool) (n′ : ℕ) → sameName b n b′ n′ ≡ true → n ≡ n′
 name-eq b n b′ n′ e = eqb-eq (and-right (sameClass b b′) (eqb n n′) e)
 
-pub name-sym : (b : Bool) (n : ℕ) (b′ : Bool) (n′ : ℕ) → sameName b n b′ n′ ≡ sameName b′ n′ b n
-name-sym b n b′ n′ = rw (class-sym b b′, eqb-sym n n′)
-
 pub key-place : (v : ℕ) (b : Bool) (n v′ : ℕ) (b′ : Bool) (n′ : ℕ) → sameKey v b n v′ b′ n′ ≡ true → v ≡ v′
 key-place v b n v′ b′ n′ e = eqb-eq (and-left (eqb v v′) (sameName b n b′ n′) e)
 
