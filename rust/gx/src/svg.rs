@@ -175,7 +175,7 @@ impl Plan<'_> {
         let mut lines = vec![line_of(title, "gx-title", TITLE)];
         let has: Vec<String> = self.properties(group);
         let mut rest = has.as_slice();
-        let mut begin = "has ";
+        let mut begin = if has.len() == 1 { "has property " } else { "has properties " };
         while !rest.is_empty() {
             let taken = fitting(rest);
             let text = format!("{begin}{}", rest[..taken].join(" · "));
@@ -197,7 +197,7 @@ impl Plan<'_> {
         if group == self.specimen.at {
             list.sort_by_key(|&property| Some(property) != self.specimen.property);
         }
-        let mut has: Vec<String> = list.iter().map(|&p| self.words.property(p)).collect();
+        let mut has: Vec<String> = list.iter().map(|&p| self.words.property_word(p)).collect();
         if has.len() > MOST_PROPERTIES && !self.whole {
             let more = has.len() - MOST_PROPERTIES;
             has.truncate(MOST_PROPERTIES);
@@ -214,7 +214,7 @@ fn groups(count: usize) -> String {
 
 /// How many of these words go on one line, at least one.
 fn fitting(words: &[String]) -> usize {
-    let mut length = 4;
+    let mut length = 12;
     let count = words
         .iter()
         .take_while(|word| {

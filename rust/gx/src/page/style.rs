@@ -10,6 +10,7 @@ h1,h2{line-height:1.2;margin:0;text-wrap:balance}
 h1{font-size:clamp(2rem,6vw,3.25rem);letter-spacing:-.01em}
 h2{font-size:1.2rem}
 p{margin:.4rem 0}
+a{color:var(--way)}
 .answer{border-left:.6rem solid;border-radius:.3rem;padding:1.25rem 1.5rem;background:var(--paper)}
 .answer p{font-size:1.15rem;max-width:46rem}
 .answer .sign{display:inline-block;min-width:1.1em}
@@ -18,7 +19,7 @@ p{margin:.4rem 0}
 .answer.yes{border-color:var(--yes);background:var(--yes-back)}
 .answer.yes h1{color:var(--yes)}
 .card{background:var(--paper);border:1px solid var(--rule);border-radius:.3rem;padding:1rem 1.25rem;margin-top:1.25rem;min-width:0}
-.why{display:grid;grid-template-columns:max-content 1fr;gap:.7rem 1.5rem;margin:.8rem 0 0}
+.why{display:grid;grid-template-columns:max-content 1fr;gap:.7rem 1.5rem;align-items:baseline;margin:.8rem 0 0}
 .why dt{color:var(--soft)}
 .why dd{margin:0;font-size:1.1rem;font-weight:600;overflow-wrap:anywhere}
 .why dd small{display:block;font-size:.9rem;font-weight:400;color:var(--soft)}
