@@ -184,7 +184,7 @@ impl Failure {
             _ => "this".into(),
         };
         if !self.place_known {
-            return format!("nothing of {every}");
+            return format!("nothing about {every}");
         }
         if self.said.is_empty() {
             return format!("of {every}, nothing about {subject}");
@@ -218,7 +218,7 @@ impl Failure {
             Says::Lacks(property) => format!("with {}", words.property(property)),
             Says::AtLeast(link, n) => format!("{}, not at least {n}", items(link)),
             Says::AtMost(link, n) => format!("{}, not at most {n}", items(link)),
-            _ => "here nothing fits".into(),
+            _ => "no item may be here".into(),
         }
     }
 
@@ -238,7 +238,7 @@ impl Failure {
             Says::AtLeast(_, n) if self.specimen.count > 0 => format!("{begin}, not at least {n}"),
             Says::AtLeast(link, _) => format!("{begin}{which} has no {}", words.item(link)),
             Says::AtMost(_, n) => format!("{begin}, not at most {n}"),
-            _ => format!("{begin}, where nothing fits"),
+            _ => format!("{begin}, where no item may be"),
         }
     }
 

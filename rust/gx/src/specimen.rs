@@ -2,7 +2,7 @@
 
 use crate::entry::{Entry, Says};
 use crate::tree::Tree;
-use crate::words::{listed, Words};
+use crate::words::{grouped, listed, Words};
 
 /// A line of the tree.
 #[derive(Clone, Debug, PartialEq, Eq)]
@@ -13,9 +13,14 @@ pub struct Line {
     pub depth: usize,
     /// The count and the word: "2 cores", "the top item".
     pub items: String,
-    /// The properties: "which has property sealed".
+    /// What the items have, up to the groups: ", which has property sealed, and".
     pub rest: String,
+    /// The properties that this leaves out.
+    pub more: Vec<String>,
 }
+
+/// So many properties are told on a line; of more, the first ones and how many follow.
+const MOST_PROPERTIES: usize = 12;
 
 /// The lines of a specimen, from the top item down.
 pub fn lines(entries: &[Entry], words: Words<'_>) -> Vec<Line> {
@@ -39,14 +44,19 @@ fn below(
     };
     let owned = tree.owned(owner);
     let groups: Vec<usize> = owned.iter().copied().filter(|&n| entries[n - 1].owns()).collect();
-    let properties: Vec<String> = properties(entries, owned)
+    let mut properties: Vec<String> = properties(entries, owned)
         .map(|property| words.property_word(property))
         .collect();
+    let more = properties.split_off(properties.len().min(MOST_PROPERTIES));
+    if !more.is_empty() {
+        properties.push(format!("{} more", grouped(more.len() as u32)));
+    }
     lines.push(Line {
         group: owner,
         depth,
         items,
         rest: rest(owner, count, &properties, !groups.is_empty()),
+        more,
     });
     for group in groups {
         below(entries, tree, words, group, depth + 1, lines);

@@ -13,11 +13,9 @@ const MOST_GROUPS: usize = 40;
 const BESIDE: usize = 3;
 /// So many properties of an item are drawn where not all are.
 const MOST_PROPERTIES: usize = 8;
-const INDENT: f64 = 36.0;
+const INDENT: f64 = 28.0;
 const MARGIN: f64 = 12.0;
 const GAP: f64 = 16.0;
-const TITLE: f64 = 16.0;
-const SMALL: f64 = 14.0;
 const LINE: f64 = 20.0;
 const PADDING: f64 = 12.0;
 /// How far the sheets of a group of several items stand apart.
@@ -50,7 +48,6 @@ enum Look {
 struct Written {
     text: String,
     class: &'static str,
-    size: f64,
 }
 
 /// A box of the drawing.
@@ -90,7 +87,7 @@ pub fn drawing(failure: &Failure, words: Words<'_>, whole: bool) -> String {
 
 /// A drawing that only says this.
 pub fn empty(says: &str) -> String {
-    let line = line_of(says.into(), "gx-small", SMALL);
+    let line = line_of(says.into(), "gx-small");
     let mut nodes = vec![node(0, None, Look::More, 0, vec![line])];
     rendered(&mut nodes, says, says)
 }
@@ -128,7 +125,7 @@ impl Plan<'_> {
         let mut lines = self.lines(group, look);
         if cut && !below.is_empty() {
             let more = format!("and {} below, not drawn", groups(self.groups_below(group)));
-            lines.push(line_of(more, "gx-small", SMALL));
+            lines.push(line_of(more, "gx-small"));
         }
         let here = self.nodes.len();
         let sheets = (count as usize - 1).min(2);
@@ -154,7 +151,7 @@ impl Plan<'_> {
         }
         if out > 0 {
             let more = format!("{} more here, not drawn", groups(out));
-            let line = line_of(more, "gx-small", SMALL);
+            let line = line_of(more, "gx-small");
             self.nodes.push(node(depth, Some(above), Look::More, 0, vec![line]));
         }
     }
@@ -172,20 +169,20 @@ impl Plan<'_> {
             Some(Says::Group(link, count)) => self.words.items(count, link),
             _ => "the top item".into(),
         };
-        let mut lines = vec![line_of(title, "gx-title", TITLE)];
+        let mut lines = vec![line_of(title, "gx-title")];
         let has: Vec<String> = self.properties(group);
         let mut rest = has.as_slice();
         let mut begin = if has.len() == 1 { "has property " } else { "has properties " };
         while !rest.is_empty() {
             let taken = fitting(rest);
             let text = format!("{begin}{}", rest[..taken].join(" · "));
-            lines.push(line_of(text, "gx-small", SMALL));
+            lines.push(line_of(text, "gx-small"));
             rest = &rest[taken..];
             begin = "· ";
         }
         if look == Look::Fails {
-            let note = format!("✕ fails here: {}", self.failure.note(self.words));
-            lines.push(line_of(note, "gx-note", SMALL));
+            lines.push(line_of("✕ fails here:".into(), "gx-note"));
+            lines.push(line_of(self.failure.note(self.words), "gx-note"));
         }
         lines
     }
@@ -214,7 +211,7 @@ fn groups(count: usize) -> String {
 
 /// How many of these words go on one line, at least one.
 fn fitting(words: &[String]) -> usize {
-    let mut length = 12;
+    let mut length = 9;
     let count = words
         .iter()
         .take_while(|word| {
@@ -225,8 +222,8 @@ fn fitting(words: &[String]) -> usize {
     count.max(1)
 }
 
-fn line_of(text: String, class: &'static str, size: f64) -> Written {
-    Written { text, class, size }
+fn line_of(text: String, class: &'static str) -> Written {
+    Written { text, class }
 }
 
 fn node(
@@ -236,7 +233,7 @@ fn node(
     sheets: usize,
     lines: Vec<Written>,
 ) -> Node {
-    let widest = lines.iter().map(|line| width_of(&cut(&line.text), line.size));
+    let widest = lines.iter().map(width_of);
     let width = widest.fold(96.0, f64::max) + 2.0 * PADDING;
     Node {
         depth,
@@ -260,16 +257,21 @@ fn cut(text: &str) -> String {
     format!("{begin}…")
 }
 
-/// About how wide a text is: fonts differ, so it is taken rather too wide.
-fn width_of(text: &str, size: f64) -> f64 {
+/// About how wide a line is: fonts differ, so it is taken rather too wide.
+fn width_of(line: &Written) -> f64 {
+    let size = match line.class {
+        "gx-title" => 17.6,
+        "gx-note" => 15.8,
+        _ => 14.0,
+    };
     let width = |sign: char| match sign {
         'i' | 'j' | 'l' | 't' | 'f' | 'r' | ' ' | '.' | ',' | ':' | '\'' | '(' | ')' | '·' => 0.40,
-        'm' | 'w' | 'M' | 'W' | '@' | '✕' | '…' => 0.98,
+        'm' | 'w' | 'M' | 'W' | '@' | '<' | '>' | '&' | '✕' | '…' => 0.98,
         'A'..='Z' => 0.74,
         sign if u32::from(sign) >= 0x1100 => 1.05,
         _ => 0.64,
     };
-    text.chars().map(width).sum::<f64>() * size
+    cut(&line.text).chars().map(width).sum::<f64>() * size
 }
 
 /// Places the boxes one under the other, and writes them.

@@ -52,10 +52,11 @@ pub(super) fn listing(
         0 => body.push_str("<p>It has no entries: everything fits it.</p>\n"),
         _ => list.place(0, &mut body),
     }
+    let digits = count.to_string().len();
     let deepest = (1..=count).map(|entry| list.depth(entry)).max().unwrap_or(0);
     let tight = if deepest > 6 { " tight" } else { "" };
     format!(
-        "<section class=\"card{tight}\" aria-labelledby=\"{id}\">\n<h2 id=\"{id}\">{heading} <span class=\"file\">{}</span></h2>\n\
+        "<section class=\"card{tight}\" style=\"--n:{digits}ch\" aria-labelledby=\"{id}\">\n<h2 id=\"{id}\">{heading} <span class=\"file\">{}</span></h2>\n\
          <p class=\"size\">{}</p>\n{body}</section>\n",
         escaped(&input.title),
         words::entries(count)
@@ -130,23 +131,24 @@ impl Listing<'_> {
         let says = self.input.entries[entry - 1].says();
         let fails = self.marks.fails == Some(entry);
         let (class, flag) = match (fails, self.marks.says.contains(&entry)) {
-            (true, _) => (" fails", "<strong class=\"flag\">✕ fails</strong>"),
-            (_, true) => (" says", "<strong class=\"flag here\">says this there</strong>"),
+            (true, _) => (" fails", " <strong class=\"flag\">✕ fails</strong>"),
+            (_, true) => (" says", " <strong class=\"flag here\">says this there</strong>"),
             _ if self.marks.way.contains(&entry) => (" way", ""),
             _ => ("", ""),
         };
         let words = escaped(&self.words.says(says));
-        let words = match fails {
-            true => format!("<mark>{words}</mark>"),
-            false => words,
+        let words = match (fails, class) {
+            (true, _) => format!("<mark>{words}</mark>"),
+            (_, "") => words,
+            _ => format!("<b>{words}</b>"),
         };
         let count = match (below, says) {
-            (0, Says::Every(_)) => "<span class=\"c\">owns nothing</span>".into(),
+            (0, Says::Every(_)) => " <span class=\"c\">owns nothing</span>".into(),
             (0, _) => String::new(),
-            _ => format!("<span class=\"c\">{}</span>", words::entries(below)),
+            _ => format!(" <span class=\"c\">{}</span>", words::entries(below)),
         };
         format!(
-            "<div class=\"e{class}\"><span class=\"n\">{entry}</span><span class=\"w\">{words}</span>{}{count}{flag}</div>",
+            "<div class=\"e{class}\"><span class=\"n\">{entry}</span><span class=\"w\">{words}{}{count}{flag}</span></div>",
             self.number(says)
         )
     }
@@ -161,6 +163,6 @@ impl Listing<'_> {
             }
             _ => return String::new(),
         };
-        format!("<span class=\"id\">{number}</span>")
+        format!(" <span class=\"c\">{number}</span>")
     }
 }

@@ -31,7 +31,7 @@ pub fn page(
         Explained::NotContained(_) => "Not contained",
     };
     let title = format!("{title}: {} in {}", supplier.title, service.title);
-    framed(&title, &body)
+    framed(&title, &format!("{body}{FOOTER}"))
 }
 
 /// The page of inputs that have no answer.
@@ -48,7 +48,7 @@ fn framed(title: &str, body: &str) -> String {
     format!(
         "<!DOCTYPE html>\n<html lang=\"en\">\n<head>\n<meta charset=\"utf-8\">\n\
          <meta name=\"viewport\" content=\"width=device-width, initial-scale=1\">\n\
-         <title>{}</title>\n<style>\n{}</style>\n</head>\n<body>\n<main>\n{body}{FOOTER}</main>\n</body>\n</html>\n",
+         <title>{}</title>\n<style>\n{}</style>\n</head>\n<body>\n<main>\n{body}</main>\n</body>\n</html>\n",
         escaped(title),
         style::STYLE
     )
@@ -140,8 +140,11 @@ fn drawn(failure: &Failure, words: Words<'_>, whole: bool) -> String {
 
 /// Both descriptions, side by side where there is room.
 fn both(c: &Input, said: &Marks, d: &Input, asked: &Marks, words: Words<'_>) -> String {
+    // Short ones are kept on one sheet of paper.
+    let short = c.entries.len().max(d.entries.len()) <= 40;
     format!(
-        "<div class=\"two\">\n{}{}</div>\n",
+        "<div class=\"two{}\">\n{}{}</div>\n",
+        if short { " short" } else { "" },
         listing("supplier", "The supplier’s description", c, said, words),
         listing("service", "The service’s description", d, asked, words)
     )

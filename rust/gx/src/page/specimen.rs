@@ -46,16 +46,17 @@ impl Listing<'_> {
 
     fn line(&self, at: usize, out: &mut String) {
         let row = self.row(at);
+        let more = more(&self.lines[at].more);
         let mut below = self.below(at).peekable();
         if below.peek().is_none() {
-            out.push_str(&format!("<li>{row}</li>\n"));
+            out.push_str(&format!("<li>{row}{more}</li>\n"));
             return;
         }
         let open = match self.on_way(at) || self.lines.len() <= ALL_OPEN {
             true => " open",
             false => "",
         };
-        out.push_str(&format!("<li><details{open}><summary>{row}</summary>\n<ul>\n"));
+        out.push_str(&format!("<li><details{open}><summary>{row}</summary>\n{more}<ul>\n"));
         below.for_each(|at| self.line(at, out));
         out.push_str("</ul>\n</details></li>\n");
     }
@@ -71,7 +72,7 @@ impl Listing<'_> {
             true => (
                 " fails",
                 format!(
-                    "<strong class=\"flag\">✕ {}</strong>",
+                    " <strong class=\"flag\">✕ {}</strong>",
                     escaped(&self.failure.note(self.words))
                 ),
             ),
@@ -79,9 +80,21 @@ impl Listing<'_> {
             false => ("", String::new()),
         };
         format!(
-            "<div class=\"e{class}\"><span class=\"w\">{}{}</span>{flag}</div>",
+            "<div class=\"e{class}\"><span class=\"w\"><b>{}</b>{}{flag}</span></div>",
             escaped(&line.items),
             escaped(&line.rest)
         )
     }
+}
+
+/// The properties that a row leaves out, behind one line.
+fn more(properties: &[String]) -> String {
+    if properties.is_empty() {
+        return String::new();
+    }
+    format!(
+        "<details class=\"run\"><summary>the {} more properties</summary><p>{}</p></details>\n",
+        words::grouped(properties.len() as u32),
+        escaped(&words::listed(properties))
+    )
 }

@@ -29,10 +29,11 @@ a{color:var(--way)}
 ul{list-style:none;margin:0;padding:0}
 ul ul{margin-left:.55rem;padding-left:.9rem;border-left:1px solid var(--rule)}
 .tight ul{margin-left:.3rem;padding-left:.4rem}
-.e{display:flex;flex-wrap:wrap;align-items:baseline;gap:0 .6rem;padding:.15rem .4rem;border-radius:.2rem;overflow-wrap:anywhere}
-.n{flex:none;min-width:2.1rem;text-align:right;color:var(--soft);font-size:.85rem;font-variant-numeric:tabular-nums}
-.w{flex:0 1 auto;min-width:0}
-.id,.c{color:var(--soft);font-size:.85rem}
+.e{display:flex;align-items:baseline;gap:0 .55rem;padding:.15rem .4rem;border-radius:.2rem}
+.n{flex:none;min-width:var(--n);text-align:right;color:var(--soft);font-size:.85rem;font-variant-numeric:tabular-nums}
+.w{flex:1;min-width:0;overflow-wrap:anywhere}
+.w b{font-weight:600}
+.c{color:var(--soft);font-size:.85rem;margin-left:.35rem;white-space:nowrap}
 summary{cursor:pointer;border-radius:.2rem;list-style:none}
 summary::-webkit-details-marker{display:none}
 summary .e::before{content:\"\\25B8\";flex:none;width:.8rem;margin-right:-.4rem;color:var(--soft)}
@@ -40,32 +41,32 @@ details[open]>summary .e::before{content:\"\\25BE\"}
 li>.e::before{content:\"\";flex:none;width:.8rem;margin-right:-.4rem}
 summary:focus-visible{outline:3px solid var(--way)}
 .way{background:var(--way-back);box-shadow:inset .22rem 0 var(--way)}
-.way .w{font-weight:600}
-.says{background:var(--way-back);outline:2px dashed var(--way);outline-offset:-2px}
-.says .w{font-weight:600}
-.fails{background:var(--no-back);outline:3px solid var(--no);outline-offset:-1px}
+.says{background:var(--way-back);outline:2px dashed var(--way);outline-offset:-1px;margin:.15rem 0}
+.fails{background:var(--no-back);outline:3px solid var(--no);outline-offset:-1px;margin:.2rem 0}
 .fails mark{background:none;color:inherit;font-weight:700}
-.flag{flex:none;font-size:.85rem;font-weight:700;padding:0 .5rem;border-radius:.2rem;background:var(--no);color:#fff}
+.flag{display:inline-block;margin-left:.35rem;font-size:.85rem;font-weight:700;padding:0 .5rem;border-radius:.2rem;background:var(--no);color:#fff}
 .flag.here{background:var(--way)}
-.run>summary{color:var(--soft);padding:.15rem .4rem .15rem .9rem}
+.run>summary{color:var(--soft);padding:.15rem .4rem}
 .run>summary::before{content:\"\\25B8\\00A0\"}
 .run[open]>summary::before{content:\"\\25BE\\00A0\"}
 figure{margin:.8rem 0 0}
 .draw{overflow-x:auto}
 .draw svg{display:block;max-width:none}
 figcaption{color:var(--soft);font-size:.95rem;margin-top:.5rem}
-pre{overflow-x:auto;background:#f3f5f6;padding:.8rem 1rem;border-radius:.2rem;font-size:.95rem}
+pre{white-space:pre-wrap;overflow-wrap:anywhere;background:#f3f5f6;padding:.8rem 1rem;border-radius:.2rem;font-size:.95rem}
 footer{color:var(--soft);font-size:.9rem;margin-top:1.5rem;max-width:60rem}
 @media (max-width:36rem){.why{grid-template-columns:1fr;gap:.1rem}.why dd{margin-bottom:.7rem}.card{padding:.8rem .8rem}}
 @media print{
 @page{margin:14mm}
-body{background:#fff;font-size:9.5pt;-webkit-print-color-adjust:exact;print-color-adjust:exact}
+html{font-size:9.5pt}
+body{background:#fff;-webkit-print-color-adjust:exact;print-color-adjust:exact}
 main{padding:0;max-width:none}
 .card{border:0;border-top:1px solid var(--rule);border-radius:0;padding:.6rem 0 0}
 .two{grid-template-columns:1fr 1fr}
-.e,figure svg,.why dd{break-inside:avoid}
+.two.short{break-inside:avoid}
+.e,.answer,figure svg,.why dd{break-inside:avoid}
 .draw{overflow:visible}
-.draw svg{max-width:100%;height:auto}
+.draw svg{max-width:100%;height:auto;zoom:.75}
 h2{break-after:avoid}
 }
 ";

@@ -65,8 +65,8 @@ fn the_sentences_for_each_kind() {
         ("at least 1 core", "at least 3 core", "of the top item, at least 3 cores", "at least 1 core", "1 core, not at least 3"),
         ("at most 4 core", "at least 3 core", "of the top item, at least 3 cores", "at most 4 cores, and no at least", "no core, not at least 3"),
         ("at most 4 core", "at most 3 core", "of the top item, at most 3 cores", "at most 4 cores", "4 cores, not at most 3"),
-        ("description", "nothing fits", "of the top item, nothing fits", "nothing that shuts out all items", "here nothing fits"),
-        ("has property 9", "every core [ every sample [ has sealed ] ]", "every sample of every core has property sealed", "nothing of every sample of every core", "without property sealed"),
+        ("description", "nothing fits", "of the top item, nothing fits", "nothing that shuts out all items", "no item may be here"),
+        ("has property 9", "every core [ every sample [ has sealed ] ]", "every sample of every core has property sealed", "nothing about every sample of every core", "without property sealed"),
         ("description", "at most 65535 link 3", "at most 65,535 items by link 3", "nothing about items by link 3", "65,536 items by link 3, not at most 65535"),
     ] {
         let ran = folder.put("c", c).put("d", d).gx(&["compare", "c", "d", "--names", "names", "--json"]);
