@@ -19,7 +19,9 @@ fn main() {
 
 /// A description in which one section has at most so many grains.
 fn description(grains: u16) -> String {
-    (1..=SECTIONS).map(|section| one_section(section, grains)).collect()
+    (1..=SECTIONS)
+        .map(|section| one_section(section, grains))
+        .collect()
 }
 
 fn one_section(section: u16, grains: u16) -> String {
@@ -28,7 +30,10 @@ fn one_section(section: u16, grains: u16) -> String {
     let lines = [
         format!("every link {} [\n", 100 + section),
         has(1, 6),
-        format!("at least {} link 2\nat most 9 link 2\nevery link 2 [\n", section % 3 + 1),
+        format!(
+            "at least {} link 2\nat most 9 link 2\nevery link 2 [\n",
+            section % 3 + 1
+        ),
         has(11, 16),
         "at least 1 link 3\nat most 4 link 3\nevery link 3 [\n".into(),
         has(21, 28),
@@ -41,16 +46,28 @@ fn one_section(section: u16, grains: u16) -> String {
 }
 
 fn listed(word: &str, first: u16, last: u16) -> String {
-    (first..=last).map(|property| format!("{word} property {property}\n")).collect()
+    (first..=last)
+        .map(|property| format!("{word} property {property}\n"))
+        .collect()
 }
 
 fn names() -> String {
-    let mut out = String::from("link 2 \"core\" \"cores\"\nlink 3 \"layer\" \"layers\"\nlink 4 \"grain\" \"grains\"\n");
+    let mut out = String::from(
+        "link 2 \"core\" \"cores\"\nlink 3 \"layer\" \"layers\"\nlink 4 \"grain\" \"grains\"\n",
+    );
     for section in 1..=SECTIONS {
         let number = 100 + section;
-        out.push_str(&format!("link {number} \"sample of site {section}\" \"samples of site {section}\"\n"));
+        out.push_str(&format!(
+            "link {number} \"sample of site {section}\" \"samples of site {section}\"\n"
+        ));
     }
-    for (first, last, word) in [(1, 6, "label"), (11, 16, "seal"), (21, 28, "test"), (31, 38, "stain"), (41, 50, "mark")] {
+    for (first, last, word) in [
+        (1, 6, "label"),
+        (11, 16, "seal"),
+        (21, 28, "test"),
+        (31, 38, "stain"),
+        (41, 50, "mark"),
+    ] {
         for property in first..=last {
             let letter = char::from(b'A' + (property - first) as u8);
             out.push_str(&format!("property {property} \"{word} {letter}\"\n"));

@@ -55,20 +55,36 @@ impl Command {
     }
 
     fn called(word: &str) -> Option<Command> {
-        Command::ALL.into_iter().find(|command| command.word() == word)
+        Command::ALL
+            .into_iter()
+            .find(|command| command.word() == word)
     }
 
     /// The options that it takes, beside `--help`.
     pub fn options(self) -> &'static [&'static str] {
         match self {
-            Command::Show => &["--names", "--json", "--from", "--sort", "--to", "--numbers", "--out"],
+            Command::Show => &[
+                "--names",
+                "--json",
+                "--from",
+                "--sort",
+                "--to",
+                "--numbers",
+                "--out",
+            ],
             Command::Write => &["--names", "--json", "--from", "--sort", "--out"],
             Command::Check => &["--names", "--json", "--from", "--sort"],
             Command::Normal => &["--names", "--json", "--from", "--to", "--numbers", "--out"],
             Command::Fit => &["--names", "--json", "--from"],
-            Command::Compare => {
-                &["--names", "--json", "--from", "--svg", "--html", "--specimen", "--whole"]
-            }
+            Command::Compare => &[
+                "--names",
+                "--json",
+                "--from",
+                "--svg",
+                "--html",
+                "--specimen",
+                "--whole",
+            ],
             Command::Owl => &["--names", "--json", "--from", "--out"],
             Command::FromOwl => &["--names", "--json", "--class", "--to", "--numbers", "--out"],
         }
@@ -242,7 +258,11 @@ impl<'a> Line<'a> {
         }
         let value = match joined {
             Some(value) => value.into(),
-            None => self.rest.next().ok_or(format!("{option} takes a value"))?.clone(),
+            None => self
+                .rest
+                .next()
+                .ok_or(format!("{option} takes a value"))?
+                .clone(),
         };
         self.valued(option, value)
     }

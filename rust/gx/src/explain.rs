@@ -123,7 +123,10 @@ fn on_subject(entries: &[Entry], way: &[Link], says: Says) -> (Vec<Says>, Vec<us
         link || property
     };
     let numbers: Vec<usize> = numbers.filter(same).collect();
-    let said = numbers.iter().map(|number| entries[number - 1].says()).collect();
+    let said = numbers
+        .iter()
+        .map(|number| entries[number - 1].says())
+        .collect();
     (said, numbers)
 }
 
@@ -138,7 +141,9 @@ fn marked(entries: Vec<Entry>, way: &[Link], says: Says) -> Specimen {
             at = number;
         }
     }
-    let bounded = says.link().and_then(|link| group(&entries, &tree, at, link));
+    let bounded = says
+        .link()
+        .and_then(|link| group(&entries, &tree, at, link));
     if let Some((number, _)) = bounded {
         path.push(number);
         at = number;
@@ -250,7 +255,11 @@ impl Failure {
         let mut several = false;
         for (at, &group) in path.iter().enumerate().skip(first) {
             if at > first {
-                out.push_str(if several { ", each of which has " } else { ", which has " });
+                out.push_str(if several {
+                    ", each of which has "
+                } else {
+                    ", which has "
+                });
             }
             if let Says::Group(link, count) = self.specimen.entries[group - 1].says() {
                 out.push_str(&words.items(count, link));

@@ -23,7 +23,11 @@ pub fn all() -> String {
 /// The help of one command.
 pub fn of(command: Command) -> String {
     let (words, about) = about(command);
-    let mut out = format!("gx {words} - {about}\n\nusage: gx {} [OPTIONS] {}\n\n", command.word(), inputs(command));
+    let mut out = format!(
+        "gx {words} - {about}\n\nusage: gx {} [OPTIONS] {}\n\n",
+        command.word(),
+        inputs(command)
+    );
     out.push_str(detail(command));
     out.push_str("\nOptions:\n");
     for option in command.options() {
@@ -32,7 +36,9 @@ pub fn of(command: Command) -> String {
     out.push_str("  --help              this help\n\nExit status: ");
     out.push_str(match command {
         Command::Fit => "0 yes, 1 no, 2 refused or a mistake in the input, 64 wrong usage.\n",
-        Command::Compare => "0 contained, 1 not contained, 2 refused or a mistake in the input, 64 wrong usage.\n",
+        Command::Compare => {
+            "0 contained, 1 not contained, 2 refused or a mistake in the input, 64 wrong usage.\n"
+        }
         _ => "0 done, 2 refused or a mistake in the input, 64 wrong usage.\n",
     });
     out.push_str("gx --help tells how inputs, texts and names files are written.\n");
@@ -51,12 +57,27 @@ fn about(command: Command) -> (&'static str, &'static str) {
     match command {
         Command::Show => ("show FILE", "a description or specimen as text"),
         Command::Write => ("write FILE", "a text as blocks"),
-        Command::Check => ("check FILE", "whether the reader accepts it; a refusal in words"),
+        Command::Check => (
+            "check FILE",
+            "whether the reader accepts it; a refusal in words",
+        ),
         Command::Normal => ("normal FILE", "the normal form of a description"),
-        Command::Fit => ("fit SPECIMEN DESCRIPTION", "whether the specimen's top item fits"),
-        Command::Compare => ("compare SUPPLIER SERVICE", "whether the first is contained in the second; a no explained"),
-        Command::Owl => ("owl SUPPLIER SERVICE", "the same question in OWL 2 functional syntax"),
-        Command::FromOwl => ("from-owl FILE", "a description from an OWL class expression"),
+        Command::Fit => (
+            "fit SPECIMEN DESCRIPTION",
+            "whether the specimen's top item fits",
+        ),
+        Command::Compare => (
+            "compare SUPPLIER SERVICE",
+            "whether the first is contained in the second; a no explained",
+        ),
+        Command::Owl => (
+            "owl SUPPLIER SERVICE",
+            "the same question in OWL 2 functional syntax",
+        ),
+        Command::FromOwl => (
+            "from-owl FILE",
+            "a description from an OWL class expression",
+        ),
     }
 }
 

@@ -70,7 +70,10 @@ const MOST_BYTES: u64 = 8 << 20;
 pub fn bytes_of(path: &Path) -> Result<Vec<u8>, Trouble> {
     let mut bytes = Vec::new();
     let read = if path.as_os_str() == "-" {
-        std::io::stdin().lock().take(MOST_BYTES).read_to_end(&mut bytes)
+        std::io::stdin()
+            .lock()
+            .take(MOST_BYTES)
+            .read_to_end(&mut bytes)
     } else {
         File::open(path).and_then(|file| file.take(MOST_BYTES).read_to_end(&mut bytes))
     };
@@ -117,8 +120,14 @@ pub fn names_of(path: &Path) -> Result<Names, Trouble> {
 ///
 /// # Errors
 ///
-/// Where they are no UTF-8.
+/// Where they are no UTF-8, or so many that not all of them were read.
 pub fn text_of<'a>(path: &Path, bytes: &'a [u8]) -> Result<&'a str, Trouble> {
+    if bytes.len() as u64 == MOST_BYTES {
+        return Err(Trouble::File {
+            file: named(path),
+            why: "the text is longer than 8 MiB".into(),
+        });
+    }
     std::str::from_utf8(bytes).map_err(|error| {
         let good = String::from_utf8_lossy(&bytes[..error.valid_up_to()]);
         let last = good.rsplit('\n').next().unwrap_or("");
@@ -151,13 +160,13 @@ impl Reading {
     pub fn input(&self, path: &Path, sort: Option<Sort>, input: u16) -> Result<Input, Trouble> {
         let bytes = bytes_of(path)?;
         let draft = match self.form.unwrap_or(Form::of(&bytes)) {
-            Form::Blocks => self.from_blocks(path, bytes, sort),
-            Form::Text => self.from_text(path, &bytes, sort)?,
+            Form::Blocks => self.blocks(path, bytes, sort),
+            Form::Text => self.text(path, &bytes, sort)?,
         };
         accepted(path, draft, input)
     }
 
-    fn from_blocks(&self, path: &Path, bytes: Vec<u8>, sort: Option<Sort>) -> Input {
+    fn blocks(&self, path: &Path, bytes: Vec<u8>, sort: Option<Sort>) -> Input {
         let entries = blocks::decode(&bytes);
         Input {
             title: title(path),
@@ -169,13 +178,7 @@ impl Reading {
         }
     }
 
-    fn from_text(&self, path: &Path, bytes: &[u8], sort: Option<Sort>) -> Result<Input, Trouble> {
-        if bytes.len() as u64 == MOST_BYTES {
-            return Err(Trouble::File {
-                file: named(path),
-                why: "the text is longer than 8 MiB".into(),
-            });
-        }
+    fn text(&self, path: &Path, bytes: &[u8], sort: Option<Sort>) -> Result<Input, Trouble> {
         let text = text_of(path, bytes)?;
         let parsed = text::parse(text, &self.names);
         let parsed = parsed.map_err(|mistake| mistaken(path, mistake, text))?;
@@ -191,7 +194,9 @@ impl Reading {
         names.join(&parsed.words);
         Ok(Input {
             title: title(path),
-            sort: sort.or(said).unwrap_or_else(|| Sort::guess(&parsed.entries)),
+            sort: sort
+                .or(said)
+                .unwrap_or_else(|| Sort::guess(&parsed.entries)),
             bytes: blocks::encode(&parsed.entries),
             entries: parsed.entries,
             names,

@@ -110,24 +110,30 @@ impl Names {
         self.links.numbers.get(word).copied().map(Link)
     }
 
-    /// Gives a property its word, if these names and the others allow it.
+    /// Gives a property its word, if these names and the others allow it; a word that the others know is theirs.
     ///
     /// # Errors
     ///
     /// Where one of the two is taken.
     pub fn name_property(&mut self, of: Property, word: &str, others: &Names) -> Result<(), Clash> {
         others.properties.allow(of.0, word)?;
-        self.properties.add(of.0, word, None)
+        match others.property_called(word) {
+            Some(_) => Ok(()),
+            None => self.properties.add(of.0, word, None),
+        }
     }
 
-    /// Gives a link its word, if these names and the others allow it.
+    /// Gives a link its word, if these names and the others allow it; a word that the others know is theirs.
     ///
     /// # Errors
     ///
     /// Where one of the two is taken.
     pub fn name_link(&mut self, of: Link, word: &str, others: &Names) -> Result<(), Clash> {
         others.links.allow(of.0, word)?;
-        self.links.add(of.0, word, None)
+        match others.link_called(word) {
+            Some(_) => Ok(()),
+            None => self.links.add(of.0, word, None),
+        }
     }
 
     /// Takes over the words of another list that clash with none here.

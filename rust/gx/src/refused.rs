@@ -46,7 +46,9 @@ fn length(sort: Sort, bytes: &[u8]) -> String {
     let utf16 = bytes.starts_with(&[0xff, 0xfe]) || bytes.starts_with(&[0xfe, 0xff]);
     match (bytes.len(), rest) {
         (0, _) => "the input is empty: it has 0 bytes, and the least is one block of 512".into(),
-        _ if utf16 => "the input is no blocks; it looks like a text in UTF-16, save it as UTF-8".into(),
+        _ if utf16 => {
+            "the input is no blocks; it looks like a text in UTF-16, save it as UTF-8".into()
+        }
         // No more than 8 MiB are read.
         (_, 0) if whole >= 1 << 14 => {
             format!("the input has {whole} blocks or more, and a {sort} has at most {most}")
@@ -129,7 +131,9 @@ fn owner_fault(sort: Sort, e: Entry, number: usize, entries: &[Entry]) -> String
         };
         return format!("its owner is entry {owner}, {which}");
     }
-    let found = entries.get(owner.wrapping_sub(1)).map_or(0, |owner| owner.kind);
+    let found = entries
+        .get(owner.wrapping_sub(1))
+        .map_or(0, |owner| owner.kind);
     format!("its owner is entry {owner} of kind {found}, and an owner is of kind {kind} ({word})")
 }
 
@@ -190,11 +194,19 @@ fn shown_entries(bytes: &[u8], place: usize, names: &Names) -> String {
             owner => format!("owner {owner}"),
         };
         let words = text::entry(e.says(), names);
-        out.push_str(&format!("{sign} entry {number:>width$}, {owner}: {words}\n"));
+        out.push_str(&format!(
+            "{sign} entry {number:>width$}, {owner}: {words}\n"
+        ));
     }
-    let e = entries.get(place.wrapping_sub(1)).copied().unwrap_or_default();
+    let e = entries
+        .get(place.wrapping_sub(1))
+        .copied()
+        .unwrap_or_default();
     let (block, at) = blocks::place_of(place);
-    let hex: Vec<String> = blocks::entry_bytes(&e).iter().map(|byte| format!("{byte:02x}")).collect();
+    let hex: Vec<String> = blocks::entry_bytes(&e)
+        .iter()
+        .map(|byte| format!("{byte:02x}"))
+        .collect();
     out.push_str(&format!(
         "\n  entry {place} is in block {block}, bytes {at} to {}: {}\n",
         at + 7,

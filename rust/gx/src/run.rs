@@ -4,7 +4,7 @@ use std::ffi::OsString;
 use std::io::{IsTerminal, Write};
 use std::path::{Path, PathBuf};
 
-use crate::args::{self, Args, Command, Options};
+use crate::args::{self, Args, Command, Options, To};
 use crate::commands::{Answer, Context, Extra, Status};
 use crate::help;
 use crate::input::{files_of, names_of, title, unreadable, Reading};
@@ -45,7 +45,10 @@ fn complain(words: &str) {
 }
 
 fn done(command: Command, files: &[PathBuf], options: Options) -> u8 {
-    let names = options.names.as_deref().map_or(Ok(Default::default()), names_of);
+    let names = options
+        .names
+        .as_deref()
+        .map_or(Ok(Default::default()), names_of);
     let names = match names {
         Ok(names) => names,
         Err(trouble) => {
@@ -65,7 +68,8 @@ fn done(command: Command, files: &[PathBuf], options: Options) -> u8 {
     if many || (!command.takes_pair() && files.len() > 1) {
         return run.lines(files).code();
     }
-    if command == Command::Write && run.to_terminal() {
+    let blocks = command == Command::Write || run.options().to == Some(To::Blocks);
+    if blocks && run.to_terminal() {
         complain("gx: blocks are not for a terminal; --out FILE writes them into a file\n");
         return USAGE;
     }
@@ -145,7 +149,11 @@ impl Run {
             }
         }
         let jobs = match (self.command.takes_pair(), sides.as_slice()) {
-            (false, _) => sides.concat().iter().map(|file| vec![file.clone()]).collect(),
+            (false, _) => sides
+                .concat()
+                .iter()
+                .map(|file| vec![file.clone()])
+                .collect(),
             (true, [c, d]) => pairs(c, d),
             _ => Vec::new(),
         };

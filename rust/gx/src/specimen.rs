@@ -43,7 +43,11 @@ fn below(
         _ => ("the top item".into(), 1),
     };
     let owned = tree.owned(owner);
-    let groups: Vec<usize> = owned.iter().copied().filter(|&n| entries[n - 1].owns()).collect();
+    let groups: Vec<usize> = owned
+        .iter()
+        .copied()
+        .filter(|&n| entries[n - 1].owns())
+        .collect();
     let mut properties: Vec<String> = properties(entries, owned)
         .map(|property| words.property_word(property))
         .collect();
@@ -68,10 +72,12 @@ pub fn properties<'a>(
     entries: &'a [Entry],
     numbers: &'a [usize],
 ) -> impl Iterator<Item = crate::entry::Property> + 'a {
-    numbers.iter().filter_map(|&number| match entries[number - 1].says() {
-        Says::Has(property) => Some(property),
-        _ => None,
-    })
+    numbers
+        .iter()
+        .filter_map(|&number| match entries[number - 1].says() {
+            Says::Has(property) => Some(property),
+            _ => None,
+        })
 }
 
 /// The rest of a line: what the items have.
@@ -81,7 +87,11 @@ fn rest(owner: usize, count: u32, properties: &[String], groups: bool) -> String
         (_, 1) => ", which has",
         _ => ", each of which has",
     };
-    let word = if properties.len() == 1 { "property" } else { "properties" };
+    let word = if properties.len() == 1 {
+        "property"
+    } else {
+        "properties"
+    };
     match (properties.is_empty(), groups) {
         (true, false) if owner == 0 => " has nothing".into(),
         (true, false) => String::new(),

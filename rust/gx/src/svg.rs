@@ -120,7 +120,10 @@ impl Plan<'_> {
             _ => Look::Plain,
         };
         let below: Vec<usize> = self.tree.owned(group).to_vec();
-        let below: Vec<usize> = below.into_iter().filter(|&n| entries[n - 1].owns()).collect();
+        let below: Vec<usize> = below
+            .into_iter()
+            .filter(|&n| entries[n - 1].owns())
+            .collect();
         let cut = self.part && !self.on_way(group);
         let mut lines = self.lines(group, look);
         if cut && !below.is_empty() {
@@ -152,7 +155,8 @@ impl Plan<'_> {
         if out > 0 {
             let more = format!("{} more here, not drawn", groups(out));
             let line = line_of(more, "gx-small");
-            self.nodes.push(node(depth, Some(above), Look::More, 0, vec![line]));
+            self.nodes
+                .push(node(depth, Some(above), Look::More, 0, vec![line]));
         }
     }
 
@@ -172,7 +176,11 @@ impl Plan<'_> {
         let mut lines = vec![line_of(title, "gx-title")];
         let has: Vec<String> = self.properties(group);
         let mut rest = has.as_slice();
-        let mut begin = if has.len() == 1 { "has property " } else { "has properties " };
+        let mut begin = if has.len() == 1 {
+            "has property "
+        } else {
+            "has properties "
+        };
         while !rest.is_empty() {
             let taken = fitting(rest);
             let text = format!("{begin}{}", rest[..taken].join(" · "));
@@ -282,7 +290,9 @@ fn rendered(nodes: &mut [Node], title: &str, about: &str) -> String {
         node.y = y;
         y += node.height + GAP + SHEET * node.sheets as f64;
     }
-    let right = nodes.iter().map(|node| node.x + node.width + SHEET * node.sheets as f64);
+    let right = nodes
+        .iter()
+        .map(|node| node.x + node.width + SHEET * node.sheets as f64);
     let width = right.fold(0.0, f64::max) + MARGIN;
     let height = y - GAP + MARGIN;
     let mut out = format!(

@@ -52,7 +52,10 @@ pub fn owners(entries: &[Entry], number: usize) -> Vec<usize> {
 /// The links from the top to the place where an entry stands.
 pub fn way(entries: &[Entry], number: usize) -> Vec<Link> {
     let owners = owners(entries, number);
-    owners.iter().map(|&owner| Link(entries[owner - 1].name)).collect()
+    owners
+        .iter()
+        .map(|&owner| Link(entries[owner - 1].name))
+        .collect()
 }
 
 /// The owners of all places that these links lead to from the top; in a normal form and in a specimen there is at most one.

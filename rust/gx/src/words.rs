@@ -60,8 +60,9 @@ impl<'a> Words<'a> {
             }
             _ => {
                 let items = way.iter().rev();
-                let every: Vec<String> =
-                    items.map(|&link| format!("every {}", self.item(link))).collect();
+                let every: Vec<String> = items
+                    .map(|&link| format!("every {}", self.item(link)))
+                    .collect();
                 every.join(" of ")
             }
         }
@@ -109,7 +110,7 @@ pub fn grouped(number: u32) -> String {
     let digits = number.to_string();
     let mut out = String::new();
     for (at, digit) in digits.chars().enumerate() {
-        if at > 0 && (digits.len() - at) % 3 == 0 {
+        if at > 0 && (digits.len() - at).is_multiple_of(3) {
             out.push(',');
         }
         out.push(digit);

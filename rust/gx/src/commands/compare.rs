@@ -85,14 +85,20 @@ fn not_contained(failure: &Failure, c: &Input, d: &Input, names: &Names) -> Answ
         json: vec![
             ("answer", Json::text("not contained")),
             ("entry", Json::number(failure.entry)),
-            ("line", d.line_of(failure.entry).map_or(Json::Null, Json::number)),
+            (
+                "line",
+                d.line_of(failure.entry).map_or(Json::Null, Json::number),
+            ),
             ("owners", numbers(&failure.owners)),
             ("links", numbers(&links)),
             ("asks", Json::text(asks)),
             ("supplier", Json::text(failure.supplier_says(words))),
             ("supplier_entries", numbers(&failure.supplier)),
             ("shows", Json::text(failure.note(words))),
-            ("specimen_entries", Json::number(failure.specimen.entries.len())),
+            (
+                "specimen_entries",
+                Json::number(failure.specimen.entries.len()),
+            ),
             ("specimen", entries_json(&failure.specimen.entries, names)),
         ],
         extras: Vec::new(),
@@ -144,20 +150,32 @@ fn surroundings(failure: &Failure, input: &Input, words: Words<'_>) -> String {
     let tree = Tree::new(&input.entries);
     let owner = failure.owners.last().copied().unwrap_or(0);
     let place = tree.owned(owner);
-    let at = place.iter().position(|&number| number == failure.entry).unwrap_or(0);
-    let (first, last) = (at.saturating_sub(AROUND), (at + AROUND + 1).min(place.len()));
+    let at = place
+        .iter()
+        .position(|&number| number == failure.entry)
+        .unwrap_or(0);
+    let (first, last) = (
+        at.saturating_sub(AROUND),
+        (at + AROUND + 1).min(place.len()),
+    );
     let width = input.entries.len().to_string().len();
     let depth = failure.owners.len();
     let line = |number: usize, depth: usize| {
         let sign = if number == failure.entry { '>' } else { ' ' };
         let entry = text::entry(input.entries[number - 1].says(), words.names());
-        format!("  {sign} {number:>width$}  {}{entry}\n", "    ".repeat(depth))
+        format!(
+            "  {sign} {number:>width$}  {}{entry}\n",
+            "    ".repeat(depth)
+        )
     };
     let left_out = |yes: bool| match yes {
         true => format!("    {:>width$}  {}...\n", "", "    ".repeat(depth)),
         false => String::new(),
     };
-    let mut out: String = (0..).zip(&failure.owners).map(|(depth, &number)| line(number, depth)).collect();
+    let mut out: String = (0..)
+        .zip(&failure.owners)
+        .map(|(depth, &number)| line(number, depth))
+        .collect();
     out.push_str(&left_out(first > 0));
     out.extend(place[first..last].iter().map(|&number| line(number, depth)));
     out.push_str(&left_out(last < place.len()));
@@ -185,7 +203,9 @@ fn specimen_lines(failure: &Failure, words: Words<'_>) -> String {
         out.push_str(&format!("{indent}{}{}{note}\n", line.items, line.rest));
     }
     if left_out > 0 {
-        out.push_str(&format!("    ({left_out} more groups; --html shows them all)\n"));
+        out.push_str(&format!(
+            "    ({left_out} more groups; --html shows them all)\n"
+        ));
     }
     out
 }

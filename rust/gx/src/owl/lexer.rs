@@ -134,7 +134,8 @@ impl Lexer<'_> {
             }
         }
         if self.rest.starts_with("^^") {
-            (self.take(), self.take());
+            self.take();
+            self.take();
             self.next()?;
         } else if self.rest.starts_with('@') {
             self.word();

@@ -23,7 +23,8 @@ pub struct Found {
 const DEEPEST: usize = 200;
 const A_CLASS: &str = "a class, ObjectComplementOf a class, ObjectIntersectionOf, ObjectAllValuesFrom, ObjectMinCardinality, \
 ObjectMaxCardinality, ObjectExactCardinality, or ObjectSomeValuesFrom owl:Thing";
-const AN_AXIOM: &str = "a Declaration, an annotation, or EquivalentClasses of a class and an expression";
+const AN_AXIOM: &str =
+    "a Declaration, an annotation, or EquivalentClasses of a class and an expression";
 
 /// Reads a class expression, or the one that defines a class in an ontology.
 ///
@@ -210,7 +211,11 @@ impl Reader<'_> {
             iri == name || local(iri) == name || self.labels.get(iri).is_some_and(|l| l == name)
         };
         let list: Vec<&(String, usize)> = match class {
-            Some(name) => self.defined.iter().filter(|(iri, _)| called(iri, name)).collect(),
+            Some(name) => self
+                .defined
+                .iter()
+                .filter(|(iri, _)| called(iri, name))
+                .collect(),
             None => self.defined.iter().collect(),
         };
         match (list.as_slice(), class) {
@@ -236,9 +241,17 @@ impl Reader<'_> {
         }
     }
 
-    fn push(&mut self, kind: u8, owner: u16, name: u16, number: u16, at: Position) -> Result<u16, Mistake> {
+    fn push(
+        &mut self,
+        kind: u8,
+        owner: u16,
+        name: u16,
+        number: u16,
+        at: Position,
+    ) -> Result<u16, Mistake> {
         let count = u16::try_from(self.entries.len() + 1);
-        let number_of = count.map_err(|_| Mistake::new(at, "at most 65,535 entries", "one more"))?;
+        let number_of =
+            count.map_err(|_| Mistake::new(at, "at most 65,535 entries", "one more"))?;
         self.positions.push(at);
         self.entries.push(Entry {
             kind,
@@ -374,7 +387,9 @@ impl Reader<'_> {
         let number = numbered(&iri, "link_").map(Link);
         let found = number.or_else(|| self.called(&iri, |names, word| names.link_called(word)));
         let Some(link) = found else {
-            return self.fault(format!("link_1 to link_65535 of <{SPACE}>, or a link's word in the names file"));
+            return self.fault(format!(
+                "link_1 to link_65535 of <{SPACE}>, or a link's word in the names file"
+            ));
         };
         self.take();
         Ok(link)
@@ -391,7 +406,10 @@ impl Reader<'_> {
 
     /// What the names file calls by the label or the local name of an IRI.
     fn called<T>(&self, iri: &str, find: impl Fn(&Names, &str) -> Option<T>) -> Option<T> {
-        let label = self.labels.get(iri).and_then(|label| find(self.names, label));
+        let label = self
+            .labels
+            .get(iri)
+            .and_then(|label| find(self.names, label));
         let local = local(iri);
         label
             .or_else(|| find(self.names, local))

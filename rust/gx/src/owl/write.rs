@@ -21,8 +21,14 @@ pub fn question(supplier: &[Entry], service: &[Entry], names: &Names) -> String 
         out.push_str(&format!("Declaration(Class(:{class}))\n"));
     }
     out.push_str(&declared(supplier, service, names));
-    out.push_str(&format!("EquivalentClasses(:Supplier\n{})\n", class(supplier)));
-    out.push_str(&format!("EquivalentClasses(:Service\n{})\n", class(service)));
+    out.push_str(&format!(
+        "EquivalentClasses(:Supplier\n{})\n",
+        class(supplier)
+    ));
+    out.push_str(&format!(
+        "EquivalentClasses(:Service\n{})\n",
+        class(service)
+    ));
     out.push_str("EquivalentClasses(:SupplierOnly ObjectIntersectionOf(:Supplier ObjectComplementOf(:Service)))\n)\n");
     out
 }

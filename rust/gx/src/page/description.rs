@@ -53,7 +53,10 @@ pub(super) fn listing(
         _ => list.place(0, &mut body),
     }
     let digits = count.to_string().len();
-    let deepest = (1..=count).map(|entry| list.depth(entry)).max().unwrap_or(0);
+    let deepest = (1..=count)
+        .map(|entry| list.depth(entry))
+        .max()
+        .unwrap_or(0);
     let tight = if deepest > 6 { " tight" } else { "" };
     format!(
         "<section class=\"card{tight}\" style=\"--n:{digits}ch\" aria-labelledby=\"{id}\">\n<h2 id=\"{id}\">{heading} <span class=\"file\">{}</span></h2>\n\
@@ -89,7 +92,9 @@ impl Listing<'_> {
         let mut rest = owned;
         while let Some(&first) = rest.first() {
             let marked = self.marks.any(first);
-            let same = rest.iter().take_while(|&&entry| self.marks.any(entry) == marked);
+            let same = rest
+                .iter()
+                .take_while(|&&entry| self.marks.any(entry) == marked);
             let length = if marked { 1 } else { same.count().min(RUN) };
             let (run, later) = rest.split_at(length);
             match length {
@@ -120,8 +125,14 @@ impl Listing<'_> {
             out.push_str(&format!("<li id=\"{id}\">{row}</li>\n"));
             return;
         }
-        let open = if self.open || self.marks.way.contains(&entry) { " open" } else { "" };
-        out.push_str(&format!("<li id=\"{id}\"><details{open}><summary>{row}</summary>\n"));
+        let open = if self.open || self.marks.way.contains(&entry) {
+            " open"
+        } else {
+            ""
+        };
+        out.push_str(&format!(
+            "<li id=\"{id}\"><details{open}><summary>{row}</summary>\n"
+        ));
         self.place(entry, out);
         out.push_str("</details></li>\n");
     }
@@ -132,7 +143,10 @@ impl Listing<'_> {
         let fails = self.marks.fails == Some(entry);
         let (class, flag) = match (fails, self.marks.says.contains(&entry)) {
             (true, _) => (" fails", " <strong class=\"flag\">✕ fails</strong>"),
-            (_, true) => (" says", " <strong class=\"flag here\">says this there</strong>"),
+            (_, true) => (
+                " says",
+                " <strong class=\"flag here\">says this there</strong>",
+            ),
             _ if self.marks.way.contains(&entry) => (" way", ""),
             _ => ("", ""),
         };
@@ -148,7 +162,7 @@ impl Listing<'_> {
             _ => format!(" <span class=\"c\">{}</span>", words::entries(below)),
         };
         format!(
-            "<div class=\"e{class}\"><span class=\"n\">{entry}</span><span class=\"w\">{words}{}{count}{flag}</span></div>",
+            "<span class=\"e{class}\"><span class=\"n\">{entry}</span><span class=\"w\">{words}{}{count}{flag}</span></span>",
             self.number(says)
         )
     }

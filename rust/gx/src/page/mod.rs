@@ -22,9 +22,7 @@ pub fn page(
 ) -> String {
     let body = match explained {
         Explained::Contained => contained(supplier, service, words),
-        Explained::NotContained(failure) => {
-            not_contained(failure, supplier, service, words, whole)
-        }
+        Explained::NotContained(failure) => not_contained(failure, supplier, service, words, whole),
     };
     let title = match explained {
         Explained::Contained => "Contained",
@@ -69,7 +67,13 @@ fn answer(class: &str, sign: &str, says: &str, sentence: &str) -> String {
 fn contained(supplier: &Input, service: &Input, words: Words<'_>) -> String {
     let sentence = "Every consignment that the supplier’s description allows is one that the service’s description allows.";
     let mut out = answer("yes", "✓", "Contained", sentence);
-    out.push_str(&both(supplier, &Marks::default(), service, &Marks::default(), words));
+    out.push_str(&both(
+        supplier,
+        &Marks::default(),
+        service,
+        &Marks::default(),
+        words,
+    ));
     out
 }
 

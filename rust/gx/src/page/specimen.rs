@@ -39,9 +39,13 @@ impl Listing<'_> {
     /// The lines directly below one.
     fn below(&self, at: usize) -> impl Iterator<Item = usize> + '_ {
         let depth = self.lines[at].depth;
-        let inside = self.lines[at + 1..].iter().take_while(move |line| line.depth > depth);
+        let inside = self.lines[at + 1..]
+            .iter()
+            .take_while(move |line| line.depth > depth);
         let inside = (at + 1..).zip(inside);
-        inside.filter(move |(_, line)| line.depth == depth + 1).map(|(at, _)| at)
+        inside
+            .filter(move |(_, line)| line.depth == depth + 1)
+            .map(|(at, _)| at)
     }
 
     fn line(&self, at: usize, out: &mut String) {
@@ -56,7 +60,9 @@ impl Listing<'_> {
             true => " open",
             false => "",
         };
-        out.push_str(&format!("<li><details{open}><summary>{row}</summary>\n{more}<ul>\n"));
+        out.push_str(&format!(
+            "<li><details{open}><summary>{row}</summary>\n{more}<ul>\n"
+        ));
         below.for_each(|at| self.line(at, out));
         out.push_str("</ul>\n</details></li>\n");
     }
@@ -80,7 +86,7 @@ impl Listing<'_> {
             false => ("", String::new()),
         };
         format!(
-            "<div class=\"e{class}\"><span class=\"w\"><b>{}</b>{}{flag}</span></div>",
+            "<span class=\"e{class}\"><span class=\"w\"><b>{}</b>{}{flag}</span></span>",
             escaped(&line.items),
             escaped(&line.rest)
         )

@@ -143,9 +143,19 @@ impl<'a> Lexer<'a> {
                         _ => return Err(Mistake::new(at, "\\\" or \\\\", "another '\\'")),
                     }
                 }
-                None => return Err(Mistake::new(at, "'\"' after the word", "the end of the text")),
+                None => {
+                    return Err(Mistake::new(
+                        at,
+                        "'\"' after the word",
+                        "the end of the text",
+                    ))
+                }
                 Some('\n' | '\r') => {
-                    return Err(Mistake::new(at, "'\"' after the word", "the end of the line"))
+                    return Err(Mistake::new(
+                        at,
+                        "'\"' after the word",
+                        "the end of the line",
+                    ))
                 }
                 Some(sign) if sign.is_control() => return Err(no_such_sign(at, sign)),
                 Some(sign) => word.push(sign),

@@ -21,7 +21,8 @@ pub struct Parsed {
     pub words: Names,
 }
 
-const AN_ENTRY: &str = "an entry (has, lacks, at least, at most, every, nothing fits, group, or kind,name,number)";
+const AN_ENTRY: &str =
+    "an entry (has, lacks, at least, at most, every, nothing fits, group, or kind,name,number)";
 const THE_END: &str = "a new line, ';' or ']' after the entry";
 const MOST_ENTRIES: usize = 65_535;
 
@@ -83,11 +84,7 @@ impl<'a> Parser<'a> {
     }
 
     fn expected<T>(&self, expected: impl Into<String>) -> Result<T, Mistake> {
-        Err(Mistake::new(
-            self.next.at,
-            expected,
-            self.next.sign.named(),
-        ))
+        Err(Mistake::new(self.next.at, expected, self.next.sign.named()))
     }
 
     fn next_is_word(&self, word: &str) -> bool {
@@ -208,7 +205,12 @@ impl<'a> Parser<'a> {
             while matches!(&token, Ok(token) if token.sign == Sign::Line) {
                 token = ahead.next_token();
             }
-            if let Ok(token @ Token { sign: Sign::Open, .. }) = token {
+            if let Ok(
+                token @ Token {
+                    sign: Sign::Open, ..
+                },
+            ) = token
+            {
                 self.lexer = ahead;
                 self.next = token;
             }
@@ -336,7 +338,9 @@ impl<'a> Parser<'a> {
                 let (word, at) = self.name_in_words("'link' and a number, or a link's word")?;
                 let found = self.names.link_called(&word);
                 let found = found.or_else(|| self.learnt.link_called(&word));
-                found.map(|link| link.0).ok_or_else(|| unknown(at, "link", &word))
+                found
+                    .map(|link| link.0)
+                    .ok_or_else(|| unknown(at, "link", &word))
             }
         }
     }
@@ -419,7 +423,7 @@ impl<'a> Parser<'a> {
 }
 
 fn unknown(at: Position, sort: &str, word: &str) -> Mistake {
-    let expected = format!("a word that the names give to a {sort}");
+    let expected = format!("a word that the names file, or the text before, gives to a {sort}");
     Mistake::new(at, expected, quoted(word))
 }
 
@@ -444,13 +448,23 @@ fn numbered(rows: &[Row]) -> Result<(Vec<Entry>, Vec<Position>), Mistake> {
                 "a number that is free: entry {} is that of line {}",
                 row.number, earlier.at.line
             );
-            return Err(Mistake::new(row.at, expected, format!("entry {} again", row.number)));
+            return Err(Mistake::new(
+                row.at,
+                expected,
+                format!("entry {} again", row.number),
+            ));
         }
     }
-    let gap = (1..).zip(by_number.values()).find(|(due, row)| *due != row.number);
+    let gap = (1..)
+        .zip(by_number.values())
+        .find(|(due, row)| *due != row.number);
     if let Some((due, row)) = gap {
         let expected = format!("an entry {due} somewhere in the text");
-        return Err(Mistake::new(row.at, expected, format!("entry {} as the next", row.number)));
+        return Err(Mistake::new(
+            row.at,
+            expected,
+            format!("entry {} as the next", row.number),
+        ));
     }
     let entry = |row: &&Row| Entry {
         owner: (row.owner & 0xffff) as u16,

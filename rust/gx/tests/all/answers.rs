@@ -55,7 +55,10 @@ fn compare_prints_the_library_s_entry_and_specimen() {
         let ran = folder.gx(&["compare", "c", "d", "--json", "--specimen", "specimen"]);
         match asked(&c, &d) {
             None => {
-                assert_eq!((ran.status, ran.text().as_str()), (0, "{\"answer\":\"contained\"}\n"));
+                assert_eq!(
+                    (ran.status, ran.text().as_str()),
+                    (0, "{\"answer\":\"contained\"}\n")
+                );
             }
             Some((entry, specimen)) => {
                 let begin = format!("{{\"answer\":\"not contained\",\"entry\":{entry},");
@@ -77,7 +80,11 @@ fn fit_and_check_and_normal_print_the_library_s_answers() {
         folder.put("s", &s).put("d", &d);
         let fit = folder.gx(&["fit", "s", "d", "--json"]);
         let yes = goltximen::fit(&s, &d).unwrap() == Fit::Yes;
-        let begin = if yes { "{\"answer\":\"yes\"}" } else { "{\"answer\":\"no\",\"entry\":" };
+        let begin = if yes {
+            "{\"answer\":\"yes\"}"
+        } else {
+            "{\"answer\":\"no\",\"entry\":"
+        };
         assert!(fit.text().starts_with(begin), "{}", fit.text());
         assert!(!fit.text().contains("null"), "a no names an entry");
         assert_eq!(fit.status, i32::from(!yes));
@@ -87,7 +94,9 @@ fn fit_and_check_and_normal_print_the_library_s_answers() {
         let ran = folder.gx(&["normal", "d", "--to", "blocks"]);
         assert_eq!((ran.status, ran.out), (0, normal));
         let ran = folder.gx(&["check", "d", "--json"]);
-        assert!(ran.text().contains(&format!("\"entries\":{},", entries.len())));
+        assert!(ran
+            .text()
+            .contains(&format!("\"entries\":{},", entries.len())));
     }
 }
 
@@ -100,7 +109,15 @@ fn damaged_inputs_get_the_library_s_refusal() {
         let sort = differential::damage::Sort::Description;
         let bytes = differential::damage::damaged(&mut chance, sort, &entries);
         folder.put("d", &bytes);
-        let args = ["check", "d", "--json", "--sort", "description", "--from", "blocks"];
+        let args = [
+            "check",
+            "d",
+            "--json",
+            "--sort",
+            "description",
+            "--from",
+            "blocks",
+        ];
         let ran = folder.gx(&args);
         match goltximen::read_description(&bytes) {
             Ok(_) => assert_eq!(ran.status, 0),
@@ -138,7 +155,10 @@ fn is_explained(c: &Input, d: &Input) {
         assert!(page.contains("</span> Contained</h1>") && !page.contains("<mark>"));
         return;
     };
-    assert_eq!(Some(failure.entry), asked(&c.bytes, &d.bytes).map(|(entry, _)| entry));
+    assert_eq!(
+        Some(failure.entry),
+        asked(&c.bytes, &d.bytes).map(|(entry, _)| entry)
+    );
     assert_eq!(page.matches("<mark>").count(), 1);
     assert!(page.contains("</span> Not contained</h1>"));
     assert!(page.contains(&format!("id=\"service-{}\"", failure.entry)));
@@ -154,7 +174,10 @@ fn the_mark_is_true(failure: &Failure, d: &Input) {
     let alone: Vec<_> = failure.owners.iter().chain([&failure.entry]).collect();
     let alone: Vec<_> = (0..)
         .zip(alone)
-        .map(|(owner, &number)| gx::entry::Entry { owner, ..d.entries[number - 1] })
+        .map(|(owner, &number)| gx::entry::Entry {
+            owner,
+            ..d.entries[number - 1]
+        })
         .collect();
     let specimen = encode(&failure.specimen.entries);
     assert_eq!(library::fits(&specimen, &encode(&alone)), Ok(false));

@@ -14,7 +14,10 @@ fn blocks(desk: &str) -> Vec<u8> {
 
 fn desk(name: &str) -> Folder {
     let folder = Folder::new(name);
-    folder.put("names", NAMES).put("supplier", SUPPLIER).put("service", SERVICE);
+    folder
+        .put("names", NAMES)
+        .put("supplier", SUPPLIER)
+        .put("service", SERVICE);
     folder
 }
 
@@ -39,13 +42,18 @@ A specimen that fits the supplier's description and not the service's:
         1 sample, which has
             2 fields    <-- 2 fields, not at most 1
 ";
-    assert_eq!((ran.status, ran.text().as_str(), ran.err.as_str()), (1, due, ""));
+    assert_eq!(
+        (ran.status, ran.text().as_str(), ran.err.as_str()),
+        (1, due, "")
+    );
 }
 
 #[test]
 fn compare_for_programs() {
     let folder = desk("compare-json");
-    let ran = folder.gx(&["compare", "supplier", "service", "--names", "names", "--json"]);
+    let ran = folder.gx(&[
+        "compare", "supplier", "service", "--names", "names", "--json",
+    ]);
     let due = "{\"answer\":\"not contained\",\"entry\":2,\"line\":2,\"owners\":[1],\"links\":[1],\
         \"asks\":\"of every sample, at most 1 field\",\"supplier\":\"of every sample, at least 1 field, and no at most\",\
         \"supplier_entries\":[3],\"shows\":\"2 fields, not at most 1\",\"specimen_entries\":2,\
@@ -54,24 +62,88 @@ fn compare_for_programs() {
     assert_eq!((ran.status, ran.text().as_str()), (1, due));
 }
 
+/// Two descriptions, and parts of what is asked, said and shown.
+const SENTENCES: &[(&str, &str, &str, &str, &str)] = &[
+    (
+        "description",
+        "has sealed",
+        "the top item has property sealed",
+        "nothing about property sealed",
+        "without property sealed",
+    ),
+    (
+        "lacks sealed",
+        "has sealed",
+        "the top item has property sealed",
+        "the top item lacks property sealed",
+        "without property sealed",
+    ),
+    (
+        "has property 9",
+        "lacks sealed",
+        "the top item lacks property sealed",
+        "nothing about property sealed",
+        "with property sealed",
+    ),
+    (
+        "at least 1 core",
+        "at least 3 core",
+        "of the top item, at least 3 cores",
+        "at least 1 core",
+        "1 core, not at least 3",
+    ),
+    (
+        "at most 4 core",
+        "at least 3 core",
+        "of the top item, at least 3 cores",
+        "at most 4 cores, and no at least",
+        "no core, not at least 3",
+    ),
+    (
+        "at most 4 core",
+        "at most 3 core",
+        "of the top item, at most 3 cores",
+        "at most 4 cores",
+        "4 cores, not at most 3",
+    ),
+    (
+        "description",
+        "nothing fits",
+        "of the top item, nothing fits",
+        "nothing that shuts out all items",
+        "no item may be here",
+    ),
+    (
+        "has property 9",
+        "every core [ every sample [ has sealed ] ]",
+        "every sample of every core has property sealed",
+        "nothing about every sample of every core",
+        "without property sealed",
+    ),
+    (
+        "description",
+        "at most 65535 link 3",
+        "at most 65,535 items by link 3",
+        "nothing about items by link 3",
+        "65,536 items by link 3, not at most 65535",
+    ),
+];
+
 #[test]
 fn the_sentences_for_each_kind() {
     let folder = Folder::new("kinds");
     folder.put("names", NAMES);
-    for (c, d, asks, says, shows) in [
-        ("description", "has sealed", "the top item has property sealed", "nothing about property sealed", "without property sealed"),
-        ("lacks sealed", "has sealed", "the top item has property sealed", "the top item lacks property sealed", "without property sealed"),
-        ("has property 9", "lacks sealed", "the top item lacks property sealed", "nothing about property sealed", "with property sealed"),
-        ("at least 1 core", "at least 3 core", "of the top item, at least 3 cores", "at least 1 core", "1 core, not at least 3"),
-        ("at most 4 core", "at least 3 core", "of the top item, at least 3 cores", "at most 4 cores, and no at least", "no core, not at least 3"),
-        ("at most 4 core", "at most 3 core", "of the top item, at most 3 cores", "at most 4 cores", "4 cores, not at most 3"),
-        ("description", "nothing fits", "of the top item, nothing fits", "nothing that shuts out all items", "no item may be here"),
-        ("has property 9", "every core [ every sample [ has sealed ] ]", "every sample of every core has property sealed", "nothing about every sample of every core", "without property sealed"),
-        ("description", "at most 65535 link 3", "at most 65,535 items by link 3", "nothing about items by link 3", "65,536 items by link 3, not at most 65535"),
-    ] {
-        let ran = folder.put("c", c).put("d", d).gx(&["compare", "c", "d", "--names", "names", "--json"]);
+    for &(c, d, asks, says, shows) in SENTENCES {
+        let ran = folder
+            .put("c", c)
+            .put("d", d)
+            .gx(&["compare", "c", "d", "--names", "names", "--json"]);
         for part in [asks, says, shows] {
-            assert!(ran.text().contains(part), "{c} | {d}: {part}: {}", ran.text());
+            assert!(
+                ran.text().contains(part),
+                "{c} | {d}: {part}: {}",
+                ran.text()
+            );
         }
         assert_eq!(ran.status, 1);
     }
@@ -80,7 +152,9 @@ fn the_sentences_for_each_kind() {
 #[test]
 fn compare_says_yes() {
     let folder = desk("contained");
-    let ran = folder.put("wide", "every sample [ at least 0 core ]").gx(&["compare", "supplier", "wide", "--names", "names"]);
+    let ran = folder
+        .put("wide", "every sample [ at least 0 core ]")
+        .gx(&["compare", "supplier", "wide", "--names", "names"]);
     assert_eq!(ran.status, 0);
     assert!(ran.text().starts_with("contained\n"));
 }
@@ -88,16 +162,34 @@ fn compare_says_yes() {
 #[test]
 fn fit_answers() {
     let folder = desk("fit");
-    folder.put("good", "specimen\ngroup of 1 sample [ has sealed; group of 1 field ]");
-    folder.put("bad", "group of 1 sample [ has sealed; group of 1 field; group of 1 field ]");
+    folder.put(
+        "good",
+        "specimen\ngroup of 1 sample [ has sealed; group of 1 field ]",
+    );
+    folder.put(
+        "bad",
+        "group of 1 sample [ has sealed; group of 1 field; group of 1 field ]",
+    );
     let ran = folder.gx(&["fit", "good", "service", "--names", "names"]);
-    assert_eq!((ran.status, ran.text().as_str()), (0, "yes: the top item of the specimen fits the description\n"));
+    assert_eq!(
+        (ran.status, ran.text().as_str()),
+        (
+            0,
+            "yes: the top item of the specimen fits the description\n"
+        )
+    );
     let ran = folder.gx(&["fit", "bad", "service", "--names", "names"]);
     let due = "no: the specimen does not meet entry 2 of the description: of every sample, at most 1 field\n";
     assert_eq!((ran.status, ran.text().as_str()), (1, due));
     let ran = folder.gx(&["fit", "service", "good", "--names", "names"]);
     assert_eq!(ran.status, 2);
-    assert!(ran.text().contains("refused 4: entry 1: its kind is 5, and a specimen has kinds 1 and 7 (line 1)"), "{}", ran.text());
+    assert!(
+        ran.text().contains(
+            "refused 4: entry 1: its kind is 5, and a specimen has kinds 1 and 7 (line 1)"
+        ),
+        "{}",
+        ran.text()
+    );
 }
 
 #[test]
@@ -120,14 +212,21 @@ fn show_and_write_and_normal() {
     let begin = "{\"answer\":\"accepted\",\"sort\":\"description\",\"entries\":[{\"entry\":1,\"kind\":5,\"owner\":0,\"link\":1,\"word\":null},";
     assert!(ran.text().starts_with(begin), "{}", ran.text());
     let ran = folder.gx(&["write", "d", "--out", "again"]);
-    assert_eq!((ran.status, ran.out.len(), folder.get("again")), (0, 0, bytes));
+    assert_eq!(
+        (ran.status, ran.out.len(), folder.get("again")),
+        (0, 0, bytes)
+    );
 }
 
 #[test]
 fn the_shipped_examples_work() {
     let folder = Folder::new("shipped");
     let path = |name: &str| repository(name).display().to_string();
-    let (c, d, names) = (path("examples/supplier.txt"), path("examples/service.txt"), path("examples/laboratory.names"));
+    let (c, d, names) = (
+        path("examples/supplier.txt"),
+        path("examples/service.txt"),
+        path("examples/laboratory.names"),
+    );
     let ran = folder.gx(&["compare", &c, &d, "--names", &names]);
     assert_eq!(ran.status, 1);
     assert!(ran.text().contains("of every sample, at most 1 field"));
@@ -201,21 +300,45 @@ d: refused 5: entry 3: its owner is entry 2 of kind 3, and an owner is of kind 5
     let mut bytes = blocks(&"1,7;".repeat(64));
     bytes[512] = 7;
     let ran = folder.put("d", &bytes).gx(&["check", "d"]);
-    assert!(ran.text().contains("> block 2 of 2 (bytes 512 to 1023): number 7, used 1, check 11, sum 16\n"), "{}", ran.text());
+    assert!(
+        ran.text()
+            .contains("> block 2 of 2 (bytes 512 to 1023): number 7, used 1, check 11, sum 16\n"),
+        "{}",
+        ran.text()
+    );
     let ran = folder.put("d", "1,7\n1,0\n").gx(&["check", "d"]);
-    assert!(ran.text().starts_with("d: refused 4: entry 2: its name is 0, and kind 1 has 1 to 65,535 (line 2)\n"), "{}", ran.text());
+    assert!(
+        ran.text().starts_with(
+            "d: refused 4: entry 2: its name is 0, and kind 1 has 1 to 65,535 (line 2)\n"
+        ),
+        "{}",
+        ran.text()
+    );
 }
 
 #[test]
 fn refusals_go_where_answers_do_not() {
     let folder = Folder::new("channels");
-    folder.put("empty", "").put("bad", "hass property 7").put("good", "1,7");
-    for args in [vec!["show", "empty"], vec!["write", "empty"], vec!["normal", "empty"], vec!["owl", "good", "empty"], vec!["from-owl", "empty"]] {
+    folder
+        .put("empty", "")
+        .put("bad", "hass property 7")
+        .put("good", "1,7");
+    for args in [
+        vec!["show", "empty"],
+        vec!["write", "empty"],
+        vec!["normal", "empty"],
+        vec!["owl", "good", "empty"],
+        vec!["from-owl", "empty"],
+    ] {
         let ran = folder.gx(&args);
         assert_eq!((ran.status, ran.out.len()), (2, 0), "{args:?}");
         assert!(ran.err.starts_with("gx: empty: "), "{}", ran.err);
     }
-    for args in [vec!["check", "empty"], vec!["fit", "empty", "good"], vec!["compare", "good", "empty"]] {
+    for args in [
+        vec!["check", "empty"],
+        vec!["fit", "empty", "good"],
+        vec!["compare", "good", "empty"],
+    ] {
         let ran = folder.gx(&args);
         assert_eq!((ran.status, ran.err.as_str()), (2, ""), "{args:?}");
         assert!(ran.text().contains("refused 1"), "{}", ran.text());
@@ -224,7 +347,12 @@ fn refusals_go_where_answers_do_not() {
     let due = "bad: mistake: line 1, column 1: expected an entry (has, lacks, at least, at most, every, nothing fits, group, or kind,name,number), found 'hass'\n  hass property 7\n  ^\n";
     assert_eq!((ran.status, ran.text().as_str()), (2, due));
     let ran = folder.gx(&["compare", "good", "empty", "--json"]);
-    assert!(ran.text().starts_with("{\"answer\":\"refused\",\"refusal\":1,\"input\":2,\"place\":0,"), "{}", ran.text());
+    assert!(
+        ran.text()
+            .starts_with("{\"answer\":\"refused\",\"refusal\":1,\"input\":2,\"place\":0,"),
+        "{}",
+        ran.text()
+    );
     let ran = folder.gx(&["check", "none"]);
     assert_eq!((ran.status, ran.out.len()), (2, 0));
     assert!(ran.err.starts_with("gx: none: cannot be read: "));
@@ -240,18 +368,31 @@ fn huge_inputs_are_refused() {
     folder.put("zeros", &huge).put("good", "1,7");
     let ran = folder.gx(&["check", "zeros"]);
     assert_eq!(ran.status, 2);
-    assert!(ran.text().contains("16384 blocks or more"), "{}", ran.text());
+    assert!(
+        ran.text().contains("16384 blocks or more"),
+        "{}",
+        ran.text()
+    );
     let text = "has property 7\n".repeat(9 << 16);
     for command in ["check", "show", "write", "normal"] {
         let ran = folder.put("text", &text).gx(&[command, "text"]);
         assert_eq!(ran.status, 2, "{command}");
         assert!(ran.err.contains("longer than 8 MiB"), "{}", ran.err);
     }
-    let ran = folder.put("text", "1,7\n".repeat(1009)).gx(&["compare", "text", "good"]);
+    let ran = folder
+        .put("text", "1,7\n".repeat(1009))
+        .gx(&["compare", "text", "good"]);
     assert_eq!(ran.status, 2);
     assert!(ran.text().contains("refused 1: the input has 17 blocks"));
-    let ran = folder.put("text", "1,7\n".repeat(70_000)).gx(&["check", "text"]);
-    assert!(ran.text().contains("line 65536, column 1: expected at most 65,535 entries"), "{}", ran.text());
+    let ran = folder
+        .put("text", "1,7\n".repeat(70_000))
+        .gx(&["check", "text"]);
+    assert!(
+        ran.text()
+            .contains("line 65536, column 1: expected at most 65,535 entries"),
+        "{}",
+        ran.text()
+    );
 }
 
 #[test]
@@ -260,11 +401,19 @@ fn inputs_of_the_other_form_can_be_forced() {
     folder.put("blocks", blocks("1,7")).put("text", "1,7");
     assert_eq!(folder.gx(&["check", "blocks", "--from", "text"]).status, 2);
     assert_eq!(folder.gx(&["check", "text", "--from", "blocks"]).status, 2);
-    assert_eq!(folder.gx(&["check", "text", "--sort", "specimen"]).text(), "accepted: a specimen of 1 entry in 1 block\n");
+    assert_eq!(
+        folder.gx(&["check", "text", "--sort", "specimen"]).text(),
+        "accepted: a specimen of 1 entry in 1 block\n"
+    );
     assert_eq!(folder.gx(&["check", "blocks", "--from=blocks"]).status, 0);
     let latin = b"has property 7 \"s\xe4ure\"";
     let ran = folder.put("latin", latin).gx(&["check", "latin"]);
-    assert!(ran.text().contains("line 1, column 18: expected text in UTF-8, found the byte e4"), "{}", ran.text());
+    assert!(
+        ran.text()
+            .contains("line 1, column 18: expected text in UTF-8, found the byte e4"),
+        "{}",
+        ran.text()
+    );
     let ran = folder.put("bom", "\u{feff}1,7\r\n").gx(&["check", "bom"]);
     assert_eq!(ran.status, 0);
 }
@@ -288,7 +437,11 @@ fn wrong_usage_is_64() {
     ] {
         let ran = folder.gx(&args);
         assert_eq!((ran.status, ran.out.len()), (64, 0), "{args:?}");
-        assert!(ran.err.starts_with("gx: ") && ran.err.contains("usage: gx"), "{}", ran.err);
+        assert!(
+            ran.err.starts_with("gx: ") && ran.err.contains("usage: gx"),
+            "{}",
+            ran.err
+        );
     }
 }
 
@@ -300,14 +453,21 @@ fn the_help_names_each_command_and_option() {
     for command in gx::args::Command::ALL {
         assert!(all.text().contains(&format!("\n  {} ", command.word())));
         let help = folder.gx(&[command.word(), "--help"]);
-        assert_eq!((help.status, &help), (0, &folder.gx(&["help", command.word()])));
+        assert_eq!(
+            (help.status, &help),
+            (0, &folder.gx(&["help", command.word()]))
+        );
         for option in command.options() {
             assert!(help.text().contains(&format!("\n  {option}")), "{option}");
         }
     }
     let manual = std::fs::read_to_string(repository("rust/gx/gx.1")).unwrap();
     for command in gx::args::Command::ALL {
-        assert!(manual.contains(&format!("\n.B gx {}\n", command.word().replace('-', "\\-"))), "{}", command.word());
+        assert!(
+            manual.contains(&format!("\n.B gx {}\n", command.word().replace('-', "\\-"))),
+            "{}",
+            command.word()
+        );
         for option in command.options() {
             assert!(manual.contains(&option.replace('-', "\\-")), "{option}");
         }

@@ -8,21 +8,41 @@ use crate::support::{repository, Folder};
 const NAMES: &str = "link 1 \"sample\" \"samples\"\nlink 2 \"core\" \"cores\"\nproperty 7 \"sealed\"\nproperty 8 \"<wet & 'cold'>\"\n";
 
 fn is_golden(name: &str, bytes: &[u8]) {
-    let path = Path::new(env!("CARGO_MANIFEST_DIR")).join("tests/golden").join(name);
+    let path = Path::new(env!("CARGO_MANIFEST_DIR"))
+        .join("tests/golden")
+        .join(name);
     if std::env::var_os("GX_GOLDEN").is_some_and(|value| value == "write") {
         std::fs::write(&path, bytes).unwrap();
     }
     let golden = std::fs::read(&path).unwrap_or_default();
-    let (golden, bytes) = (String::from_utf8_lossy(&golden), String::from_utf8_lossy(bytes));
-    let line = (1..).zip(golden.lines().zip(bytes.lines())).find(|(_, (due, is))| due != is);
+    let (golden, bytes) = (
+        String::from_utf8_lossy(&golden),
+        String::from_utf8_lossy(bytes),
+    );
+    let line = (1..)
+        .zip(golden.lines().zip(bytes.lines()))
+        .find(|(_, (due, is))| due != is);
     assert!(golden == bytes, "{name} is not as it was: {line:?}");
 }
 
 /// The page and the drawing of two texts.
 fn both(name: &str, c: &str, d: &str) {
     let folder = Folder::new(&format!("golden-{name}"));
-    folder.put("names", NAMES).put("supplier.txt", c).put("service.txt", d);
-    let args = ["compare", "supplier.txt", "service.txt", "--names", "names", "--html", "page", "--svg", "drawing"];
+    folder
+        .put("names", NAMES)
+        .put("supplier.txt", c)
+        .put("service.txt", d);
+    let args = [
+        "compare",
+        "supplier.txt",
+        "service.txt",
+        "--names",
+        "names",
+        "--html",
+        "page",
+        "--svg",
+        "drawing",
+    ];
     let ran = folder.gx(&args);
     assert!(ran.status < 2, "{}{}", ran.text(), ran.err);
     is_golden(&format!("{name}.html"), &folder.get("page"));
@@ -40,7 +60,15 @@ fn the_sample_page_of_the_readme() {
         .put("supplier.txt", read("examples/supplier.txt"))
         .put("service.txt", read("examples/service.txt"))
         .put("names", read("examples/laboratory.names"));
-    let ran = folder.gx(&["compare", "supplier.txt", "service.txt", "--names", "names", "--html", "page.html"]);
+    let ran = folder.gx(&[
+        "compare",
+        "supplier.txt",
+        "service.txt",
+        "--names",
+        "names",
+        "--html",
+        "page.html",
+    ]);
     assert_eq!(ran.status, 1);
     is_golden("readme.html", &folder.get("page.html"));
     is_golden("readme.txt", &ran.out);
@@ -48,17 +76,29 @@ fn the_sample_page_of_the_readme() {
 
 #[test]
 fn a_property_too_many() {
-    both("lacks", "every sample [has sealed; has property 9]; at least 3 sample", "every sample [lacks property 8]");
+    both(
+        "lacks",
+        "every sample [has sealed; has property 9]; at least 3 sample",
+        "every sample [lacks property 8]",
+    );
 }
 
 #[test]
 fn a_property_too_few() {
-    both("has", "at least 2 core; every core [at least 1 sample]", "every core [every sample [has sealed]]");
+    both(
+        "has",
+        "at least 2 core; every core [at least 1 sample]",
+        "every core [every sample [has sealed]]",
+    );
 }
 
 #[test]
 fn an_item_too_few() {
-    both("at-least", "at least 1 sample; at most 5 sample", "at least 65535 sample");
+    both(
+        "at-least",
+        "at least 1 sample; at most 5 sample",
+        "at least 65535 sample",
+    );
 }
 
 #[test]
@@ -68,14 +108,24 @@ fn nothing_fits() {
 
 #[test]
 fn contained() {
-    both("contained", "has sealed; at most 0 core", "every core [nothing fits]; at most 3 core; every sample []");
+    both(
+        "contained",
+        "has sealed; at most 0 core",
+        "every core [nothing fits]; at most 3 core; every sample []",
+    );
 }
 
 #[test]
 fn refused() {
     let folder = Folder::new("golden-refused");
     folder.put("supplier.txt", "1,7").put("service.blocks", "");
-    let ran = folder.gx(&["compare", "supplier.txt", "service.blocks", "--html", "page"]);
+    let ran = folder.gx(&[
+        "compare",
+        "supplier.txt",
+        "service.blocks",
+        "--html",
+        "page",
+    ]);
     assert_eq!(ran.status, 2);
     is_golden("refused.html", &folder.get("page"));
 }
@@ -97,12 +147,19 @@ fn a_large_page_folds_its_places() {
 
 #[test]
 fn pages_load_nothing_and_name_no_folder() {
-    for file in std::fs::read_dir(Path::new(env!("CARGO_MANIFEST_DIR")).join("tests/golden")).unwrap() {
+    for file in
+        std::fs::read_dir(Path::new(env!("CARGO_MANIFEST_DIR")).join("tests/golden")).unwrap()
+    {
         let page = std::fs::read_to_string(file.unwrap().path()).unwrap();
-        for outside in ["src=", "@import", "url(", "<script", "<link", "/tmp", "/home"] {
+        for outside in [
+            "src=", "@import", "url(", "<script", "<link", "/tmp", "/home",
+        ] {
             assert!(!page.contains(outside), "{outside}");
         }
         let addresses = page.matches("http").count();
-        assert_eq!(addresses, page.matches("xmlns=\"http://www.w3.org/2000/svg\"").count());
+        assert_eq!(
+            addresses,
+            page.matches("xmlns=\"http://www.w3.org/2000/svg\"").count()
+        );
     }
 }

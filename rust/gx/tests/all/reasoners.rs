@@ -37,7 +37,13 @@ fn pair(seed: u64) -> (Vec<gx::entry::Entry>, Vec<gx::entry::Entry>) {
             let weaker = weaker(&mut chance, &c);
             missed(&mut chance, &weaker)
         }
-        _ => draw::description(&mut chance, &Shape { entries: 3, ..shape }),
+        _ => draw::description(
+            &mut chance,
+            &Shape {
+                entries: 3,
+                ..shape
+            },
+        ),
     };
     (ours(&c), ours(&d))
 }
@@ -92,7 +98,11 @@ fn agree(program: &str, ask: impl Fn(&Folder, &str) -> Option<bool>) {
         let text = question(&c, &d, &Names::default());
         let ours = compare(&encode(&c), &encode(&d)).unwrap() == Compared::Contained;
         contained += u64::from(ours);
-        assert_eq!(ask(&folder, &text), Some(ours), "{program}, pair {seed}:\n{text}");
+        assert_eq!(
+            ask(&folder, &text),
+            Some(ours),
+            "{program}, pair {seed}:\n{text}"
+        );
     }
     println!("{program} agrees on {PAIRS} pairs, of which {contained} are contained");
     assert!(contained > 40 && contained < PAIRS - 40);
@@ -103,9 +113,20 @@ fn konclude_agrees() {
     agree("Konclude", |folder, text| {
         folder.put("question.ofn", text);
         let class = "urn:goltximen#SupplierOnly";
-        let args = ["satisfiability", "-w", "2", "-i", "question.ofn", "-x", class];
+        let args = [
+            "satisfiability",
+            "-w",
+            "2",
+            "-i",
+            "question.ofn",
+            "-x",
+            class,
+        ];
         let said = printed("Konclude", &args, folder)?;
-        match (said.contains("is not satisfiable"), said.contains("is satisfiable")) {
+        match (
+            said.contains("is not satisfiable"),
+            said.contains("is satisfiable"),
+        ) {
             (true, false) => Some(true),
             (false, true) => Some(false),
             _ => None,
@@ -120,7 +141,10 @@ fn fact_agrees() {
         let conf = "[LeveLogger]\nfile = /dev/null\nallowedLevel = 0\n[Tuning]\n[Query]\nTBox = question.lisp\nTarget = Supplier\nTarget2 = Service\n";
         folder.put("question.conf", conf);
         let said = printed("FaCT++", &["question.conf"], folder)?;
-        match (said.contains("subsumption does holds"), said.contains("does NOT holds")) {
+        match (
+            said.contains("subsumption does holds"),
+            said.contains("does NOT holds"),
+        ) {
             (true, false) => Some(true),
             (false, true) => Some(false),
             _ => None,

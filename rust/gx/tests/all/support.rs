@@ -102,5 +102,7 @@ pub fn specimen(chance: &mut Chance) -> Vec<reference::Entry> {
 
 /// The sample text of this kind at the limit of 1,008 entries.
 pub fn repository(file: &str) -> PathBuf {
-    Path::new(env!("CARGO_MANIFEST_DIR")).join("../..").join(file)
+    Path::new(env!("CARGO_MANIFEST_DIR"))
+        .join("../..")
+        .join(file)
 }
