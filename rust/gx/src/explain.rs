@@ -30,7 +30,7 @@ pub struct Failure {
     pub place_known: bool,
     /// The entries of the supplier's description at that place which speak of the same thing.
     pub supplier: Vec<usize>,
-    /// The owners of all entries of the supplier's description that lead there.
+    /// The entries of the supplier's description that lead there, or as far as any does.
     pub supplier_owners: Vec<usize>,
     /// The specimen.
     pub specimen: Specimen,
@@ -88,15 +88,6 @@ fn failure(
     let way = way(&service.entries, entry);
     let (said, _) = on_subject(normal, &way, says);
     let (_, numbers) = on_subject(&supplier.entries, &way, says);
-    let tree = Tree::new(&supplier.entries);
-    let ends = places(&supplier.entries, &tree, &way);
-    let mut supplier_owners: Vec<usize> = ends
-        .iter()
-        .filter(|&&end| end > 0)
-        .flat_map(|&end| owners(&supplier.entries, end).into_iter().chain([end]))
-        .collect();
-    supplier_owners.sort_unstable();
-    supplier_owners.dedup();
     Failure {
         entry,
         says,
@@ -104,10 +95,28 @@ fn failure(
         place_known: !places(normal, &Tree::new(normal), &way).is_empty(),
         said,
         supplier: numbers,
-        supplier_owners,
+        supplier_owners: leading(&supplier.entries, &way),
         specimen: marked(specimen, &way, says),
         way,
     }
+}
+
+/// The owners that lead to a place, or as far towards it as there are any.
+fn leading(entries: &[Entry], way: &[Link]) -> Vec<usize> {
+    let tree = Tree::new(entries);
+    let ends = (0..=way.len())
+        .rev()
+        .map(|length| places(entries, &tree, &way[..length]))
+        .find(|ends| !ends.is_empty());
+    let mut leading: Vec<usize> = ends
+        .unwrap_or_default()
+        .into_iter()
+        .filter(|&end| end > 0)
+        .flat_map(|end| owners(entries, end).into_iter().chain([end]))
+        .collect();
+    leading.sort_unstable();
+    leading.dedup();
+    leading
 }
 
 /// The entries at a place that speak of the same property or link, and their numbers.
@@ -179,7 +188,7 @@ impl Failure {
 
     /// What the supplier's description says there.
     pub fn supplier_says(&self, words: Words<'_>) -> String {
-        let every = words.every(&self.way);
+        let every = words.these(&self.way);
         if self.says == Says::Nothing {
             return format!("of {every}, nothing that shuts out all items");
         }

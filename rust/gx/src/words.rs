@@ -68,6 +68,14 @@ impl<'a> Words<'a> {
         }
     }
 
+    /// The same where they have been named before: a long way is not told again.
+    pub fn these(self, way: &[Link]) -> String {
+        match way.len() > LONG_WAY {
+            true => "every such item".into(),
+            false => self.every(way),
+        }
+    }
+
     /// The links of a way, one after the other.
     pub fn steps(self, way: &[Link]) -> String {
         let steps: Vec<String> = way.iter().map(|&link| self.step(link)).collect();

@@ -57,7 +57,11 @@ pub(super) fn listing(
         .map(|entry| list.depth(entry))
         .max()
         .unwrap_or(0);
-    let tight = if deepest > 6 { " tight" } else { "" };
+    let tight = match deepest {
+        0..=6 => "",
+        7..=14 => " tight",
+        _ => " tighter",
+    };
     format!(
         "<section class=\"card{tight}\" style=\"--n:{digits}ch\" aria-labelledby=\"{id}\">\n<h2 id=\"{id}\">{heading} <span class=\"file\">{}</span></h2>\n\
          <p class=\"size\">{}</p>\n{body}</section>\n",

@@ -46,9 +46,10 @@ fn framed(title: &str, body: &str) -> String {
     format!(
         "<!DOCTYPE html>\n<html lang=\"en\">\n<head>\n<meta charset=\"utf-8\">\n\
          <meta name=\"viewport\" content=\"width=device-width, initial-scale=1\">\n\
-         <title>{}</title>\n<style>\n{}</style>\n</head>\n<body>\n<main>\n{body}</main>\n</body>\n</html>\n",
+         <title>{}</title>\n<style>\n{}{}\n</style>\n</head>\n<body>\n<main>\n{body}</main>\n</body>\n</html>\n",
         escaped(title),
-        style::STYLE
+        style::STYLE,
+        svg::STYLE
     )
 }
 
@@ -138,7 +139,7 @@ fn drawn(failure: &Failure, words: Words<'_>, whole: bool) -> String {
          <div class=\"draw\" tabindex=\"0\" role=\"group\" aria-label=\"Drawing of the specimen\">\n{}</div>\n\
          <figcaption>The specimen: it fits the supplier’s description and not the service’s. Thick frames lead to the place where it \
          fails, which is named there. Sheets behind a frame stand for several items.</figcaption>\n</figure>\n</section>\n",
-        svg::drawing(failure, words, whole)
+        svg::inside(failure, words, whole)
     )
 }
 

@@ -21,7 +21,11 @@ pub(super) fn listing(failure: &Failure, words: Words<'_>) -> String {
     list.line(0, &mut body);
     body.push_str("</ul>\n");
     let deepest = lines.iter().map(|line| line.depth).max().unwrap_or(0);
-    let tight = if deepest > 6 { " tight" } else { "" };
+    let tight = match deepest {
+        0..=6 => "",
+        7..=14 => " tight",
+        _ => " tighter",
+    };
     format!(
         "<section class=\"card{tight}\" aria-labelledby=\"specimen\">\n<h2 id=\"specimen\">The specimen in words</h2>\n\
          <p class=\"size\">{}. Items of one group are alike, and each item above is linked to all of them.</p>\n{body}</section>\n",

@@ -28,7 +28,8 @@ a{color:var(--way)}
 .size{color:var(--soft);font-size:.95rem;margin:.15rem 0 .6rem}
 ul{list-style:none;margin:0;padding:0}
 ul ul{margin-left:.55rem;padding-left:.9rem;border-left:1px solid var(--rule)}
-.tight ul{margin-left:.3rem;padding-left:.4rem}
+.tight ul ul{margin-left:.3rem;padding-left:.4rem}
+.tighter ul ul{margin-left:.15rem;padding-left:.2rem}
 .e{display:flex;align-items:baseline;gap:0 .55rem;padding:.15rem .4rem;border-radius:.2rem}
 .n{flex:none;min-width:var(--n);text-align:right;color:var(--soft);font-size:.85rem;font-variant-numeric:tabular-nums}
 .w{flex:1;min-width:0;overflow-wrap:anywhere}
