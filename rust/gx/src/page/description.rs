@@ -1,5 +1,6 @@
 //! A description as a list of places that fold.
 
+use super::folds::{parts, Part};
 use crate::entry::Says;
 use crate::input::Input;
 use crate::svg::escaped;
@@ -8,10 +9,6 @@ use crate::words::{self, Words};
 
 /// Up to so many entries all places are open; of more, those on the way to the marked entry.
 const ALL_OPEN: usize = 60;
-/// A place with more entries than this has its unmarked ones folded in runs.
-const LONG_PLACE: usize = 24;
-/// The most entries of a run.
-const RUN: usize = 50;
 
 /// The entries that are marked.
 #[derive(Clone, Debug, Default)]
@@ -86,26 +83,12 @@ impl Listing<'_> {
 
     /// The entries of a place; of a long one those without a mark are folded in runs.
     fn place(&self, owner: usize, out: &mut String) {
-        let owned = self.tree.owned(owner);
         out.push_str("<ul>\n");
-        if owned.len() <= LONG_PLACE {
-            owned.iter().for_each(|&entry| self.entry(entry, out));
-            out.push_str("</ul>\n");
-            return;
-        }
-        let mut rest = owned;
-        while let Some(&first) = rest.first() {
-            let marked = self.marks.any(first);
-            let same = rest
-                .iter()
-                .take_while(|&&entry| self.marks.any(entry) == marked);
-            let length = if marked { 1 } else { same.count().min(RUN) };
-            let (run, later) = rest.split_at(length);
-            match length {
-                0..=3 => run.iter().for_each(|&entry| self.entry(entry, out)),
-                _ => self.run(run, out),
+        for part in parts(self.tree.owned(owner), |entry| self.marks.any(entry)) {
+            match part {
+                Part::Shown(shown) => shown.iter().for_each(|&entry| self.entry(entry, out)),
+                Part::Folded(run) => self.run(run, out),
             }
-            rest = later;
         }
         out.push_str("</ul>\n");
     }
@@ -149,7 +132,7 @@ impl Listing<'_> {
             (true, _) => (" fails", " <strong class=\"flag\">✕ fails</strong>"),
             (_, true) => (
                 " says",
-                " <strong class=\"flag here\">says this there</strong>",
+                " <strong class=\"flag here\">is said there</strong>",
             ),
             _ if self.marks.way.contains(&entry) => (" way", ""),
             _ => ("", ""),

@@ -2,6 +2,7 @@
 //! nothing, and needs no script.
 
 mod description;
+mod folds;
 mod specimen;
 mod style;
 

@@ -1,5 +1,6 @@
 //! The specimen as a list of groups that fold.
 
+use super::folds::{parts, Part};
 use crate::explain::Failure;
 use crate::specimen::{lines, Line};
 use crate::svg::escaped;
@@ -55,8 +56,8 @@ impl Listing<'_> {
     fn line(&self, at: usize, out: &mut String) {
         let row = self.row(at);
         let more = more(&self.lines[at].more);
-        let mut below = self.below(at).peekable();
-        if below.peek().is_none() {
+        let below: Vec<usize> = self.below(at).collect();
+        if below.is_empty() {
             out.push_str(&format!("<li>{row}{more}</li>\n"));
             return;
         }
@@ -67,8 +68,26 @@ impl Listing<'_> {
         out.push_str(&format!(
             "<li><details{open}><summary>{row}</summary>\n{more}<ul>\n"
         ));
-        below.for_each(|at| self.line(at, out));
+        for part in parts(&below, |at| self.on_way(at)) {
+            match part {
+                Part::Shown(shown) => shown.iter().for_each(|&at| self.line(at, out)),
+                Part::Folded(run) => self.run(run, out),
+            }
+        }
         out.push_str("</ul>\n</details></li>\n");
+    }
+
+    /// Several groups of one place behind one line.
+    fn run(&self, run: &[usize], out: &mut String) {
+        let (first, last) = (&self.lines[run[0]], &self.lines[run[run.len() - 1]]);
+        out.push_str(&format!(
+            "<li><details class=\"run\"><summary>{} groups, {} to {}</summary><ul>\n",
+            run.len(),
+            escaped(&first.items),
+            escaped(&last.items)
+        ));
+        run.iter().for_each(|&at| self.line(at, out));
+        out.push_str("</ul></details></li>\n");
     }
 
     fn on_way(&self, at: usize) -> bool {

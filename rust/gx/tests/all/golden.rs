@@ -143,6 +143,21 @@ fn a_large_page_folds_its_places() {
     assert_eq!(page.matches("class=\"e fails\"").count(), 2);
     let folded = page.matches("<details").count() - page.matches("<details open").count();
     assert!(folded >= 40, "{folded} places are folded");
+    // A specimen with many groups of one place folds too.
+    let c: String = (1..=1008)
+        .map(|n| format!("at least 1 link {n}\n"))
+        .collect();
+    folder.put("c", c).put("d", "at most 0 link 77");
+    let ran = folder.gx(&["compare", "c", "d", "--html", "page", "--svg", "drawing"]);
+    assert_eq!(ran.status, 1);
+    let page = String::from_utf8(folder.get("page")).unwrap();
+    assert!(page.contains("<summary>50 groups, 1 item by link 1 to 1 item by link 50</summary>"));
+    let drawing = String::from_utf8(folder.get("drawing")).unwrap();
+    assert!(drawing.contains("1,004 groups more here, not drawn"));
+    let ran = folder.gx(&["compare", "c", "d", "--whole", "--svg", "drawing"]);
+    assert_eq!(ran.status, 1);
+    let drawing = String::from_utf8(folder.get("drawing")).unwrap();
+    assert_eq!(drawing.matches("<g>").count(), 1009);
 }
 
 #[test]
