@@ -133,6 +133,39 @@ fn damaged_inputs_get_the_library_s_refusal() {
     }
 }
 
+#[test]
+fn damaged_pairs_get_the_library_s_refusal() {
+    let mut chance = Chance::from_seed(15);
+    let folder = Folder::new("damaged-pairs");
+    let sort = differential::damage::Sort::Description;
+    let mut drawn = || {
+        let entries = description(&mut chance);
+        match chance.once_in(2) {
+            true => differential::damage::damaged(&mut chance, sort, &entries),
+            false => encode(&ours(&entries)),
+        }
+    };
+    for _ in 0..40 {
+        let (c, d) = (drawn(), drawn());
+        folder.put("c", &c).put("d", &d);
+        let ran = folder.gx(&["compare", "c", "d", "--json", "--from", "blocks"]);
+        let mut out = vec![0; c.len() + d.len()];
+        match goltximen::compare(&c, &d, &mut out) {
+            Ok(Comparison::Contained) => assert_eq!(ran.status, 0),
+            Ok(Comparison::NotContained { .. }) => assert_eq!(ran.status, 1),
+            Err(refusal) => {
+                let (number, input, place) =
+                    (refusal.reason.number(), refusal.input, refusal.place);
+                let begin = format!(
+                    "{{\"answer\":\"refused\",\"refusal\":{number},\"input\":{input},\"place\":{place},"
+                );
+                assert!(ran.text().starts_with(&begin), "{} {refusal}", ran.text());
+                assert_eq!(ran.status, 2);
+            }
+        }
+    }
+}
+
 fn input(entries: &[reference::Entry]) -> Input {
     let entries = ours(entries);
     Input {

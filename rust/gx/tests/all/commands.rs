@@ -473,3 +473,45 @@ fn the_help_names_each_command_and_option() {
         }
     }
 }
+
+#[test]
+fn owl_both_ways() {
+    let folder = desk("owl");
+    let ran = folder.gx(&[
+        "owl", "supplier", "service", "--names", "names", "--out", "q.ofn",
+    ]);
+    assert_eq!((ran.status, ran.out.len(), ran.err.as_str()), (0, 0, ""));
+    let ran = folder.gx(&["from-owl", "q.ofn", "--class", "Service", "--to", "desk"]);
+    assert_eq!(
+        (ran.status, ran.text().as_str()),
+        (0, "5,1 [4,32768,1; 1,7]\n")
+    );
+    let ran = folder.gx(&["from-owl", "q.ofn", "--class", "Supplier"]);
+    let due = "at least 1 link 1 \"sample\"\nevery link 1 \"sample\" [\n    at least 1 link 32768 \"field\"\n]\n";
+    assert_eq!((ran.status, ran.text().as_str()), (0, due));
+    let ran = folder.gx(&["from-owl", "q.ofn", "--class", "SupplierOnly"]);
+    assert_eq!((ran.status, ran.out.len()), (2, 0));
+    assert!(
+        ran.err
+            .contains("named definitions are not taken, found ':Supplier'"),
+        "{}",
+        ran.err
+    );
+    let other = "ObjectUnionOf(:property_1 :property_2)";
+    let ran = folder.gx_with(&["from-owl"], other.as_bytes());
+    assert_eq!((ran.status, ran.out.len()), (2, 0));
+    assert!(ran.err.contains("line 1, column 1") && ran.err.contains("found 'ObjectUnionOf'"));
+    let deep = "ObjectAllValuesFrom(:link_1 ".repeat(40) + ":property_1" + &")".repeat(40);
+    let ran = folder.put("deep", deep).gx(&["from-owl", "deep"]);
+    assert_eq!((ran.status, ran.out.len()), (2, 0));
+    assert!(
+        ran.err.contains("refused 6: entry 34: it stands 33 deep"),
+        "{}",
+        ran.err
+    );
+    let ran = folder
+        .put("huge", "# \n".repeat(3 << 20))
+        .gx(&["from-owl", "huge"]);
+    assert_eq!(ran.status, 2);
+    assert!(ran.err.contains("longer than 8 MiB"), "{}", ran.err);
+}

@@ -1,7 +1,13 @@
 //! A mistake in a text or a names file is told with line, column and what was expected.
 
+use differential::chance::Chance;
+use differential::draw;
+use gx::entry::Sort;
 use gx::names::Names;
-use gx::text::{parse, Mistake};
+use gx::owl::{question, read};
+use gx::text::{desk, parse, text, Mistake, Numbers};
+
+use crate::support::ours;
 
 fn is_at(mistake: &Mistake, line: usize, column: usize, expected: &str, found: &str) {
     let told = format!("{mistake}");
@@ -184,4 +190,49 @@ fn a_mistake_is_shown_under_its_line() {
     let text = "every link 1 [\n\tat last 1 link 2\n]";
     let mistake = parse(text, &Names::default()).unwrap_err();
     assert_eq!(mistake.shown_in(text), "   at last 1 link 2\n      ^");
+}
+
+/// The bytes with a few of them changed, taken away or repeated.
+fn spoilt(chance: &mut Chance, bytes: &[u8]) -> Vec<u8> {
+    let mut bytes = bytes.to_vec();
+    for _ in 0..=chance.below(3) {
+        let (at, to) = (chance.below(bytes.len()), chance.below(bytes.len()));
+        match chance.below(4) {
+            0 if !bytes.is_empty() => bytes[at] = chance.one_of(*b"[];,#\" \n/\\9x\xc3"),
+            1 => bytes.truncate(at),
+            2 => drop(bytes.drain(at.min(to)..to)),
+            _ => bytes.extend_from_within(at.min(to)..to),
+        }
+    }
+    bytes
+}
+
+#[test]
+fn spoilt_texts_are_mistakes_or_texts() {
+    let mut chance = Chance::from_seed(31);
+    let names = Names::read("link 1 sample\nproperty 1 sealed").unwrap();
+    let mut mistakes = 0;
+    for _ in 0..3000 {
+        let shape = draw::Shape {
+            entries: 12,
+            ..draw::shape(&mut chance)
+        };
+        let entries = ours(&draw::description(&mut chance, &shape));
+        let written = match chance.below(3) {
+            0 => text(Sort::Description, &entries, &names, Numbers::All),
+            1 => desk(Sort::Description, &entries),
+            _ => question(&entries, &entries, &names),
+        };
+        let bytes = spoilt(&mut chance, written.as_bytes());
+        let spoilt = String::from_utf8_lossy(&bytes);
+        for mistake in [
+            parse(&spoilt, &names).err(),
+            read(&spoilt, Some("Service"), &names).err(),
+            Names::read(&spoilt).err(),
+        ] {
+            // Where a mistake is told, it can be shown.
+            mistakes += mistake.map_or(0, |mistake| mistake.shown_in(&spoilt).len().min(1));
+        }
+    }
+    assert!(mistakes > 3000);
 }
