@@ -1,7 +1,7 @@
 //! One run of the program: the inputs of the command line, one by one, and what is printed of each answer.
 
 use std::ffi::OsString;
-use std::io::{IsTerminal, Write};
+use std::io::{ErrorKind, IsTerminal, Write};
 use std::path::{Path, PathBuf};
 
 use crate::args::{self, Args, Command, Options, To};
@@ -19,12 +19,12 @@ const USAGE: u8 = 64;
 pub fn run(args: &[OsString]) -> u8 {
     match args::read(args) {
         Ok(Args::Help(command)) => {
-            print(command.map_or(help::all(), help::of).as_bytes());
-            0
+            let help = command.map_or(help::all(), help::of);
+            printed(help.as_bytes(), Status::Yes).code()
         }
         Ok(Args::Version) => {
-            print(concat!("gx ", env!("CARGO_PKG_VERSION"), "\n").as_bytes());
-            0
+            let version = concat!("gx ", env!("CARGO_PKG_VERSION"), "\n");
+            printed(version.as_bytes(), Status::Yes).code()
         }
         Ok(Args::Do(command, files, options)) => done(command, &files, options),
         Err(wrong) => {
@@ -34,10 +34,25 @@ pub fn run(args: &[OsString]) -> u8 {
     }
 }
 
-/// Writes to standard output. Where nobody reads it, nobody misses it.
-fn print(bytes: &[u8]) {
+/// Writes to standard output, and says whether that went well. Where nobody reads on, nobody misses it.
+fn print(bytes: &[u8]) -> bool {
     let mut out = std::io::stdout().lock();
-    let _ = out.write_all(bytes).and_then(|()| out.flush());
+    match out.write_all(bytes).and_then(|()| out.flush()) {
+        Err(error) if error.kind() != ErrorKind::BrokenPipe => {
+            complain(&format!("gx: standard output cannot be written: {error}\n"));
+            false
+        }
+        _ => true,
+    }
+}
+
+/// The status of an answer, or bad where it could not be printed.
+fn printed(bytes: &[u8], status: Status) -> Status {
+    if print(bytes) {
+        status
+    } else {
+        Status::Bad
+    }
 }
 
 fn complain(words: &str) {
@@ -116,11 +131,13 @@ impl Run {
             }
         }
         if self.options().json {
-            print(format!("{}\n", Json::Object(answer.json)).as_bytes());
-        } else if self.options().out.is_none() {
-            print(&answer.full);
+            let line = format!("{}\n", Json::Object(answer.json));
+            return printed(line.as_bytes(), answer.status);
         }
-        answer.status
+        match self.options().out {
+            Some(_) => answer.status,
+            None => printed(&answer.full, answer.status),
+        }
     }
 
     fn print_trouble(&self, trouble: &Trouble) {
@@ -208,8 +225,7 @@ impl Run {
         if progress && std::io::stdout().is_terminal() {
             complain("\r\x1b[K");
         }
-        print(shown.as_bytes());
-        status
+        printed(shown.as_bytes(), status)
     }
 
     /// Writes the drawing, the page and the specimen; into folders where there are several answers.

@@ -515,3 +515,29 @@ fn owl_both_ways() {
     assert_eq!(ran.status, 2);
     assert!(ran.err.contains("longer than 8 MiB"), "{}", ran.err);
 }
+
+#[test]
+fn an_answer_that_cannot_be_printed_is_no_yes() {
+    let folder = Folder::new("full");
+    folder.put("d", "1,7");
+    let Ok(full) = std::fs::File::create("/dev/full") else {
+        println!("there is no /dev/full: not tried");
+        return;
+    };
+    let mut gx = std::process::Command::new(env!("CARGO_BIN_EXE_gx"));
+    let ran = gx
+        .args(["compare", "d", "d"])
+        .current_dir(folder.path())
+        .stdout(full)
+        .output()
+        .unwrap();
+    assert_eq!(ran.status.code(), Some(2));
+    assert!(String::from_utf8_lossy(&ran.stderr).contains("standard output cannot be written"));
+    let ran = folder.gx(&["show", "d", "--out", "none/d"]);
+    assert_eq!(ran.status, 2);
+    assert!(
+        ran.err.starts_with("gx: none/d: cannot be written: "),
+        "{}",
+        ran.err
+    );
+}

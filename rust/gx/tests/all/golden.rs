@@ -161,6 +161,48 @@ fn a_large_page_folds_its_places() {
 }
 
 #[test]
+fn the_way_to_the_marked_entry_is_open() {
+    let folder = Folder::new("golden-open");
+    let section = |n: u16| {
+        format!(
+            "every link {n} [ every link 1 [ at most {} link 2; 1,7 ] ]\n",
+            n % 7
+        )
+    };
+    let c: String = (100..160).map(section).collect();
+    let d = c.replacen("at most 4 link 2", "at most 3 link 2", 1);
+    folder.put("c", c).put("d", d);
+    assert_eq!(
+        folder.gx(&["compare", "c", "d", "--html", "page"]).status,
+        1
+    );
+    let page = String::from_utf8(folder.get("page")).unwrap();
+    let at = page.find("<mark>").unwrap();
+    let before = &page[page.find("id=\"service\"").unwrap()..at];
+    let row = before.rfind("<li id=\"service-").unwrap();
+    let entry: usize = before[row + 16..]
+        .split('"')
+        .next()
+        .unwrap()
+        .parse()
+        .unwrap();
+    for (side, owner) in [
+        ("service", entry - 1),
+        ("service", entry - 2),
+        ("supplier", entry - 1),
+    ] {
+        let open = format!("<li id=\"{side}-{owner}\"><details open>");
+        assert!(page.contains(&open), "{open}");
+    }
+    let open = page.matches("<details open>").count();
+    assert_eq!(
+        open,
+        2 + 2 + 3,
+        "the ways in both descriptions and in the specimen"
+    );
+}
+
+#[test]
 fn pages_load_nothing_and_name_no_folder() {
     for file in
         std::fs::read_dir(Path::new(env!("CARGO_MANIFEST_DIR")).join("tests/golden")).unwrap()
