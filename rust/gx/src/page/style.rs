@@ -23,7 +23,7 @@ a{color:var(--way)}
 .why dt{color:var(--soft)}
 .why dd{margin:0;font-size:1.1rem;font-weight:600;overflow-wrap:anywhere}
 .why dd small{display:block;font-size:.9rem;font-weight:400;color:var(--soft)}
-.two{display:grid;grid-template-columns:repeat(auto-fit,minmax(min(100%,30rem),1fr));gap:0 1.25rem;align-items:start}
+.two{display:grid;grid-template-columns:repeat(auto-fit,minmax(min(100%,24rem),1fr));gap:0 1.25rem;align-items:start}
 .file{color:var(--soft);font-weight:400;overflow-wrap:anywhere}
 .size{color:var(--soft);font-size:.95rem;margin:.15rem 0 .6rem}
 ul{list-style:none;margin:0;padding:0}
@@ -62,9 +62,10 @@ footer{color:var(--soft);font-size:.9rem;margin-top:1.5rem;max-width:60rem}
 html{font-size:9.5pt}
 body{background:#fff;-webkit-print-color-adjust:exact;print-color-adjust:exact}
 main{padding:0;max-width:none}
-.card{border:0;border-top:1px solid var(--rule);border-radius:0;padding:.6rem 0 0}
-.two{grid-template-columns:1fr 1fr}
-.two.short{break-inside:avoid}
+.card{border:0;border-top:1px solid var(--rule);border-radius:0;padding:.6rem .3rem 0 0}
+.two{display:flex}
+.two>section{flex:1 1 0;padding-right:.3rem}
+.two.short,.two.short+section{break-inside:avoid}
 .e,.answer,figure svg,.why dd{break-inside:avoid}
 .draw{overflow:visible}
 .draw svg{max-width:100%;height:auto;zoom:.75}
