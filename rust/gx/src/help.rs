@@ -117,7 +117,7 @@ fn option_help(command: Command, option: &str) -> &'static str {
         ("--json", _) => "  --json              the answer for programs, one object on a line\n",
         ("--from", _) => "  --from FORM         the inputs are 'blocks' or 'text', whatever they look like\n",
         ("--sort", _) => "  --sort SORT         the input is a 'description' or a 'specimen'\n",
-        ("--to", _) => "  --to FORM           write 'text' (else), 'desk' (5,1 [3,2,1; 4,2,1]) or 'blocks'\n",
+        ("--to", _) => "  --to FORM           write 'text' (without this option), 'desk' (5,1 [3,2,1; 4,2,1]) or 'blocks'\n",
         ("--numbers", _) => "  --numbers           in text, write each entry's number\n",
         ("--out", _) => "  --out FILE          write into this file; for folders, into this folder\n",
         ("--svg", _) => "  --svg FILE          draw the specimen; for folders, into this folder\n",

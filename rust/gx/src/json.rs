@@ -7,8 +7,6 @@ use std::fmt;
 pub enum Json {
     /// Nothing.
     Null,
-    /// Yes or no.
-    Bool(bool),
     /// A number.
     Number(u64),
     /// A text.
@@ -52,7 +50,6 @@ impl fmt::Display for Json {
     fn fmt(&self, f: &mut fmt::Formatter<'_>) -> fmt::Result {
         match self {
             Json::Null => f.write_str("null"),
-            Json::Bool(value) => write!(f, "{value}"),
             Json::Number(number) => write!(f, "{number}"),
             Json::Text(text) => write_text(f, text),
             Json::List(list) => {

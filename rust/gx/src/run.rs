@@ -1,5 +1,6 @@
 //! One run of the program: the inputs of the command line, one by one, and what is printed of each answer.
 
+use std::collections::BTreeSet;
 use std::ffi::OsString;
 use std::io::{ErrorKind, IsTerminal, Write};
 use std::path::{Path, PathBuf};
@@ -81,7 +82,7 @@ fn done(command: Command, files: &[PathBuf], options: Options) -> u8 {
     };
     let many = files.iter().any(|file| file.is_dir());
     if many || (!command.takes_pair() && files.len() > 1) {
-        return run.lines(files).code();
+        return run.lines(files);
     }
     let blocks = command == Command::Write || run.options().to == Some(To::Blocks);
     if blocks && run.to_terminal() {
@@ -153,7 +154,7 @@ impl Run {
     }
 
     /// A line for each input, or for each pair of inputs; the worst status.
-    fn lines(&self, files: &[PathBuf]) -> Status {
+    fn lines(&self, files: &[PathBuf]) -> u8 {
         let mut worst = Status::Yes;
         let mut sides = Vec::new();
         for file in files {
@@ -174,6 +175,12 @@ impl Run {
             (true, [c, d]) => pairs(c, d),
             _ => Vec::new(),
         };
+        if let Some(name) = self.written_twice(&jobs, files) {
+            complain(&format!(
+                "gx: two inputs are called {name}, and would be written into one file\n"
+            ));
+            return USAGE;
+        }
         let progress = std::io::stderr().is_terminal();
         for (at, job) in jobs.iter().enumerate() {
             if progress {
@@ -185,7 +192,17 @@ impl Run {
         if progress {
             complain("\r\x1b[K");
         }
-        worst
+        worst.code()
+    }
+
+    /// A name that two answers have, where answers are written into files called by their names.
+    fn written_twice(&self, jobs: &[Vec<PathBuf>], given: &[PathBuf]) -> Option<String> {
+        let options = self.options();
+        let places = [&options.out, &options.html, &options.svg, &options.specimen];
+        places.into_iter().find(|place| place.is_some())?;
+        let mut names = BTreeSet::new();
+        let mut jobs = jobs.iter().map(|job| named(job, given));
+        jobs.find(|name| !names.insert(name.clone()))
     }
 
     /// The files that an argument names.

@@ -16,10 +16,8 @@ use crate::words::{self, Words};
 use crate::{page, svg};
 
 pub(super) fn compare(context: &Context, c: &Path, d: &Path) -> Result<Answer, Trouble> {
-    let both = context
-        .description(c, 1)
-        .and_then(|supplier| Ok((supplier, context.description(d, 2)?)));
-    let (supplier, service) = both?;
+    let supplier = context.description(c, 1)?;
+    let service = context.description(d, 2)?;
     let explained = compared(&supplier, &service).map_err(|refusal| not_refused(d, refusal))?;
     let names = Failure::names(&supplier, &service);
     let mut answer = match &explained {

@@ -234,47 +234,90 @@ fn the_shipped_examples_work() {
     assert_eq!(ran.text(), "5,1 [3,2,1; 4,2,1]\n");
 }
 
+/// Three entries with an edit of their bytes, and the check that is right for it.
+fn sealed(edit: impl Fn(&mut Vec<u8>)) -> Vec<u8> {
+    let mut bytes = blocks("5,1 [3,2,1; 4,2,1]");
+    edit(&mut bytes);
+    differential::damage::seal(&mut bytes);
+    bytes
+}
+
+/// These bytes are refused with these words, on standard output.
+fn are_refused(folder: &Folder, bytes: &[u8], words: &str) {
+    let ran = folder.put("d", bytes).gx(&["check", "d"]);
+    assert!(ran.text().contains(words), "{words}: {}", ran.text());
+    assert_eq!((ran.status, ran.err.as_str()), (2, ""));
+}
+
 #[test]
-fn check_tells_each_refusal_in_words() {
-    let folder = Folder::new("refusals");
-    let sealed = |edit: &dyn Fn(&mut Vec<u8>)| {
-        let mut bytes = blocks("5,1 [3,2,1; 4,2,1]");
-        edit(&mut bytes);
-        differential::damage::seal(&mut bytes);
-        bytes
-    };
-    let unsealed = |at: usize| {
-        let mut bytes = blocks("1,7");
-        bytes[at] ^= 1;
-        bytes
-    };
+fn check_tells_refusals_of_blocks_in_words() {
+    let folder = Folder::new("refused-blocks");
+    let mut unsealed = blocks("1,7");
+    unsealed[510] ^= 1;
     let long: Vec<u8> = blocks(&"2,7;".repeat(1009));
-    let deep = blocks(&format!("{}1,7{}", "5,1 [".repeat(33), "]".repeat(33)));
     for (bytes, words) in [
         (vec![], "refused 1: the input is empty: it has 0 bytes"),
         (blocks("1,7")[..500].to_vec(), "refused 1: the input has 500 bytes, which is no multiple of 512: 0 whole blocks, and 500 bytes more"),
         ([blocks("1,7"), vec![0]].concat(), "513 bytes, which is no multiple of 512: 1 whole block, and 1 byte more"),
         (long, "refused 1: the input has 17 blocks, and a description has at most 16"),
         (b"\xff\xfe1\0,\x007\0".to_vec(), "looks like a text in UTF-16"),
-        (unsealed(510), "refused 2: the check of block 1 is wrong: it says 11, and the words of the block add up to 10"),
-        (sealed(&|b| b[0] = 2), "refused 3: block 1: its number says 2"),
-        (sealed(&|b| b[2] = 64), "refused 3: block 1: it says that 64 entries are used, and a block uses 0 to 63"),
-        (sealed(&|b| b[508] = 9), "refused 3: block 1: byte 508 is due to be zero and is 9"),
-        (sealed(&|b| b[30] = 1), "refused 3: block 1: byte 30 is due to be zero and is 1"),
-        (sealed(&|b| b[12] = 9), "refused 4: entry 2: its kind is 9, and a description has kinds 1 to 6"),
-        (sealed(&|b| b[13] = 1), "refused 4: entry 2: its byte 1 is 1, and it is due to be zero"),
-        (sealed(&|b| b[16] = 0), "refused 4: entry 2: its name is 0, and kind 3 has 1 to 65,535"),
-        (sealed(&|b| b[10] = 1), "refused 4: entry 1: its number is 1, and kind 5 has 0"),
-        (sealed(&|b| b[12] = 6), "refused 4: entry 2: its name is 2, and kind 6 has 0"),
-        (sealed(&|b| b[14] = 2), "refused 5: entry 2: its owner is entry 2, itself"),
-        (sealed(&|b| b[14] = 3), "refused 5: entry 2: its owner is entry 3, a later entry"),
-        (sealed(&|b| b[14] = 9), "refused 5: entry 2: its owner is entry 9, and there is no such entry"),
-        (sealed(&|b| b[22] = 2), "refused 5: entry 3: its owner is entry 2 of kind 3, and an owner is of kind 5 (every)"),
-        (deep, "refused 6: entry 34: it stands 33 deep, and the most is 32"),
+        (unsealed, "refused 2: the check of block 1 is wrong: it says 11, and the words of the block add up to 10"),
+        (sealed(|b| b[0] = 2), "refused 3: block 1: its number says 2"),
+        (sealed(|b| b[2] = 64), "refused 3: block 1: it says that 64 entries are used, and a block uses 0 to 63"),
+        (sealed(|b| b[508] = 9), "refused 3: block 1: byte 508 is due to be zero and is 9"),
+        (sealed(|b| b[30] = 1), "refused 3: block 1: byte 30 is due to be zero and is 1"),
     ] {
-        let ran = folder.put("d", &bytes).gx(&["check", "d"]);
-        assert!(ran.text().contains(words), "{words}: {}", ran.text());
-        assert_eq!((ran.status, ran.err.as_str()), (2, ""));
+        are_refused(&folder, &bytes, words);
+    }
+}
+
+#[test]
+fn check_tells_refusals_of_entries_in_words() {
+    let folder = Folder::new("refused-entries");
+    let deep = blocks(&format!("{}1,7{}", "5,1 [".repeat(33), "]".repeat(33)));
+    for (bytes, words) in [
+        (
+            sealed(|b| b[12] = 9),
+            "refused 4: entry 2: its kind is 9, and a description has kinds 1 to 6",
+        ),
+        (
+            sealed(|b| b[13] = 1),
+            "refused 4: entry 2: its byte 1 is 1, and it is due to be zero",
+        ),
+        (
+            sealed(|b| b[16] = 0),
+            "refused 4: entry 2: its name is 0, and kind 3 has 1 to 65,535",
+        ),
+        (
+            sealed(|b| b[10] = 1),
+            "refused 4: entry 1: its number is 1, and kind 5 has 0",
+        ),
+        (
+            sealed(|b| b[12] = 6),
+            "refused 4: entry 2: its name is 2, and kind 6 has 0",
+        ),
+        (
+            sealed(|b| b[14] = 2),
+            "refused 5: entry 2: its owner is entry 2, itself",
+        ),
+        (
+            sealed(|b| b[14] = 3),
+            "refused 5: entry 2: its owner is entry 3, a later entry",
+        ),
+        (
+            sealed(|b| b[14] = 9),
+            "refused 5: entry 2: its owner is entry 9, and there is no such entry",
+        ),
+        (
+            sealed(|b| b[22] = 2),
+            "refused 5: entry 3: its owner is entry 2 of kind 3, and an owner is of kind 5 (every)",
+        ),
+        (
+            deep,
+            "refused 6: entry 34: it stands 33 deep, and the most is 32",
+        ),
+    ] {
+        are_refused(&folder, &bytes, words);
     }
 }
 
@@ -343,6 +386,15 @@ fn refusals_go_where_answers_do_not() {
         assert_eq!((ran.status, ran.err.as_str()), (2, ""), "{args:?}");
         assert!(ran.text().contains("refused 1"), "{}", ran.text());
     }
+}
+
+#[test]
+fn mistakes_and_missing_files_are_told() {
+    let folder = Folder::new("mistakes");
+    folder
+        .put("empty", "")
+        .put("bad", "hass property 7")
+        .put("good", "1,7");
     let ran = folder.gx(&["compare", "good", "bad"]);
     let due = "bad: mistake: line 1, column 1: expected an entry (has, lacks, at least, at most, every, nothing fits, group, or kind,name,number), found 'hass'\n  hass property 7\n  ^\n";
     assert_eq!((ran.status, ran.text().as_str()), (2, due));

@@ -100,4 +100,17 @@ fn files_for_each_file() {
         (0, "a.txt.blocks: 1,7; 3,1,1\nd.txt.blocks: 1,7; 4,1,0\n")
     );
     assert_eq!(folder.get("texts/a.txt.blocks.txt"), b"1,7; 3,1,1\n");
+    let ran = folder.gx(&[
+        "show",
+        "suppliers/a.txt",
+        "./suppliers/a.txt",
+        "--out",
+        "twice",
+    ]);
+    assert_eq!((ran.status, ran.out.len()), (64, 0));
+    assert!(
+        ran.err.contains("two inputs are called a.txt"),
+        "{}",
+        ran.err
+    );
 }
