@@ -8,7 +8,7 @@ use crate::input::Input;
 use crate::library::{self, Compared};
 use crate::names::Names;
 use crate::tree::{owners, places, way, Tree};
-use crate::words::{listed, Words};
+use crate::words::{grouped, listed, Words};
 
 /// So many groups of a path are told in a sentence.
 const LONG_PATH: usize = 4;
@@ -230,8 +230,10 @@ impl Failure {
         match self.says {
             Says::Has(property) => format!("without {}", words.property(property)),
             Says::Lacks(property) => format!("with {}", words.property(property)),
-            Says::AtLeast(link, n) => format!("{}, not at least {n}", items(link)),
-            Says::AtMost(link, n) => format!("{}, not at most {n}", items(link)),
+            Says::AtLeast(link, n) => {
+                format!("{}, not at least {}", items(link), grouped(n.into()))
+            }
+            Says::AtMost(link, n) => format!("{}, not at most {}", items(link), grouped(n.into())),
             _ => "no item may be here".into(),
         }
     }
@@ -249,9 +251,11 @@ impl Failure {
         match self.says {
             Says::Has(property) => format!("{begin}{which} lacks {}", words.property(property)),
             Says::Lacks(property) => format!("{begin}{which} has {}", words.property(property)),
-            Says::AtLeast(_, n) if self.specimen.count > 0 => format!("{begin}, not at least {n}"),
+            Says::AtLeast(_, n) if self.specimen.count > 0 => {
+                format!("{begin}, not at least {}", grouped(n.into()))
+            }
             Says::AtLeast(link, _) => format!("{begin}{which} has no {}", words.item(link)),
-            Says::AtMost(_, n) => format!("{begin}, not at most {n}"),
+            Says::AtMost(_, n) => format!("{begin}, not at most {}", grouped(n.into())),
             _ => format!("{begin}, where no item may be"),
         }
     }

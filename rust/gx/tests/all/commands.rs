@@ -125,7 +125,7 @@ const SENTENCES: &[(&str, &str, &str, &str, &str)] = &[
         "at most 65535 link 3",
         "at most 65,535 items by link 3",
         "nothing about items by link 3",
-        "65,536 items by link 3, not at most 65535",
+        "65,536 items by link 3, not at most 65,535",
     ),
 ];
 
