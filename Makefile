@@ -46,7 +46,6 @@ outside: lib
 	cargo test --release --quiet --manifest-path rust/differential/Cargo.toml
 	cargo test --release --quiet --manifest-path rust/bench/Cargo.toml
 	cargo test --quiet --manifest-path rust/gx/Cargo.toml
-	bash rust/gx/page.sh
 	$(MAKE) memory
 
 # The tests of the Rust side, and twenty seconds of drawn cases, with each use of memory watched.
