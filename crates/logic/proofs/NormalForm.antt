@@ -5,7 +5,7 @@ pub mod Fits
 -- The normal form is fitted by the same items, in every record that keeps the background.
 pub mod Sound
 -- What a normal form lists, atom by atom.
-pub mod Stored
+pub mod NormalAtoms
 -- Normal forms of small places, by computing.
 pub mod ReportExamples
 -- Names and numbers of a normal form: what holds of those of the description holds of those of its normal form.

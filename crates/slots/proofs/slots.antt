@@ -1,7 +1,5 @@
 -- Laws of the code in src/slots.rt.
 
--- The laws of chains: how a search starts and goes on, and a new number put in front of its chain.
-pub mod ChainLaws
 -- Laws of the search along a chain.
 pub mod SearchLaws
 -- Laws of slots kept as numbers in a table.

@@ -4,7 +4,7 @@ ghost use mathlib.Core.Path.{_≡_};
 ghost use mathlib.Core.Bool.{Bool, false, true};
 ghost use Prim.Native.Nat.{_+_, _*_, _≤_, _<_, min, max, ℕ};
 ghost use lib.ListN.{getD, set};
-ghost use Rattle.slots.specs.code.Chain.{scan};
+ghost use Rattle.base.specs.Chain.{lastWhere};
 ghost use Rattle.passes.specs.code.Keys.{keyNumber};
 ghost use Rattle.slots.specs.code.Tables.{keyIn, lowPart, highPart, slotNumber, hashOf, Kept, Entered, linkKind, noBound};
 use blocks::Entry;
@@ -85,7 +85,7 @@ pub(crate) fn search(
     key: u64,
 ) -> usize
     requires { ⌜ Kept (now table) (now next) (now head) used × (used ≤ 1008) ⌝ }
-    ensures { λ r. ⌜ r ≡ scan (λ j. keyIn (getD (now (table .entry)) j 0)) key used ⌝ }
+    ensures { λ r. ⌜ r ≡ lastWhere (λ j. keyIn (getD (now (table .entry)) j 0)) key used ⌝ }
 {
     let b = bucket(key);
     let mut s = wide(head[b]);

@@ -2,11 +2,12 @@
 -- promise names it.
 -- Assumes nothing.
 use mathlib.Core.Path.{_≡_}
-use mathlib.Core.Bool.{Bool, _&&_, cond}
+use mathlib.Core.Bool.{Bool, _&&_}
 use mathlib.Core.List.{List}
-use Prim.Native.Nat.{ℕ, zero, suc, _+_, _*_, _-_, _%_, _≤_, _<_}
+use Prim.Native.Nat.{ℕ, _+_, _*_, _%_, _≤_, _<_}
 use lib.Dec.{eqb}
 use lib.ListN.{length, getD}
+use Rattle.base.specs.Chain.{Chains}
 use Rattle.blocks.specs.declared.Entry.{Entry}
 use Rattle.blocks.specs.declared.Schema.{Schema}
 use Rattle.blocks.specs.declared.Schema.the-variants.{Description, Specimen}
@@ -33,11 +34,6 @@ bucketIn σ e = bucketBy σ (e .owner) (e .kind) (e .name)
 abbrev pub bucketOf : Schema → List Entry → ℕ → ℕ
 bucketOf σ es k = bucketBy σ (ownerOf es k) (nth es k .kind) (nth es k .name)
 
--- the last of the first n entries whose bucket, as c gives it, is b; or 0
-unfoldable pub lastWhere : (ℕ → ℕ) → ℕ → ℕ → ℕ
-lastWhere c b zero = 0
-lastWhere c b (suc n) = cond (eqb (c (suc n)) b) (suc n) (lastWhere c b n)
-
 -- each of the entries stands after its owner
 pub record Ordered (es : List Entry) : Type 0 where
   pub earlier : (k : ℕ) → 1 ≤ k → k ≤ length es → ownerOf es k < k
@@ -45,8 +41,7 @@ pub record Ordered (es : List Entry) : Type 0 where
 -- The index of the first n entries: at b the last entry of bucket b, and at 2,017 + k the entry of the same bucket before entry k.
 pub record Indexed (c : ℕ → ℕ) (t : List ℕ) (n : ℕ) : Type 0 where
   pub size : length t ≡ 4034
-  pub last : (b : ℕ) → b < 2017 → getD t b 0 ≡ lastWhere c b n
-  pub previous : (k : ℕ) → 1 ≤ k → k ≤ n → getD t (2017 + k) 0 ≡ lastWhere c (c k) (k - 1)
+  pub chains : Chains c (λ k. getD t (2017 + k) 0) (λ b. getD t b 0) 2017 n
 
 -- an input with its number of entries and its index
 pub record Ready (σ : Schema) (s : List ℕ) (total : ℕ) (t : List ℕ) : Type 0 where

@@ -2,20 +2,19 @@
 -- Assumes nothing.
 use Prim.Native.Nat.{_≤_, max, pred, suc, ℕ}
 use lib.Dec.{eqb}
-use lib.ListN.{length}
 use mathlib.Core.Bool.{_||_, false≢true, true}
 use mathlib.Core.List.{List, [], _∷_}
 use mathlib.Core.Path.{_∙_, _≡_, sym}
 use native.Mathlib.Omega.{arith}
 use Rattle.base.proofs.Tests.{bool-cases, eqb-self, or-cases, or-left, or-right}
 use Rattle.logic.proofs.SpecimenTrees.Names.{member-names}
-use Rattle.logic.proofs.SpecimenTrees.WitnessSize.{targetSize}
+use Rattle.logic.proofs.SpecimenTrees.WitnessMeasure.{BelowMeasured, targetSize, witness-measure}
 use Rattle.logic.specs.Normal.{find, found, sub}
-use Rattle.logic.specs.Place.{Atom, Kind, Place, atom, has, least}
+use Rattle.logic.specs.Place.{Kind, Place, atom, has, least}
 use Rattle.logic.specs.Size.{levels, measure}
 use Rattle.logic.specs.SpecimenTree.{SpecimenTree}
 use Rattle.logic.specs.Tree.{end, leaf, node}
-use Rattle.logic.specs.Witness.{Target, below, build, countFor, groupsBy, member, names, next, off, on, path, targetLinks, targetProperties, withProperties, witness}
+use Rattle.logic.specs.Witness.{Target, build, countFor, groupsBy, member, names, next, off, on, targetLinks, targetProperties, withProperties, witness}
 
 -- groups have one level more than what their items have
 groups-levels : (f : ℕ → ℕ) (s : ℕ → SpecimenTree) (ls : List ℕ) (n : ℕ) → ((l : ℕ) → member l ls ≡ true → suc (levels (s l)) ≤ n)
@@ -61,8 +60,7 @@ unfolding member
 asks-level off x e = absurd (false≢true e)
 asks-level (on w a) x e = omega arith
 
-build-levels : (f : ℕ → Target → SpecimenTree) (t : Place) (g : Target) → ((l : ℕ) (g′ : Target) → levels (f l g′) ≤ max (levels (sub l t)) (targetSize g′))
-    → levels (build f t g) ≤ max (levels t) (targetSize g)
+build-levels : (f : ℕ → Target → SpecimenTree) (t : Place) (g : Target) → BelowMeasured (λ m n. max m n) f t → levels (build f t g) ≤ max (levels t) (targetSize g)
 unfolding build
 build-levels f t g h =
     let ls : List ℕ = names least t (targetLinks g) in
@@ -79,22 +77,6 @@ build-levels f t g h =
     (λ z. omega (arith, asks-level g l (or-left (member l (targetProperties g)) z))) in
     omega (arith, h l (next g l), sub-levels l t, next-size g l)))
 
-path-levels : (w : List ℕ) (a : Atom) → levels (path w a) ≤ suc (length w)
-unfolding path measure
-path-levels [] a = omega (arith, build-levels (λ l g. end) end (on [] a) (λ l g. omega arith))
-path-levels (l ∷ w) a = omega (arith, path-levels w a)
-
-below-levels : (t : Place) (l : ℕ) (g : Target) → levels (below t l g) ≤ max (levels (sub l t)) (targetSize g)
-unfolding below sub measure
-below-levels end l off = omega arith
-below-levels end l (on w a) = omega (arith, path-levels w a)
-below-levels (leaf a r) l g = below-levels r l g
-below-levels (node l′ s r) l g =
-    bool-cases (eqb l l′)
-    (λ q. rw q (build-levels (λ l″ g′. below s l″ g′) s g (λ l″ g′. below-levels s l″ g′)))
-    (λ q. rw q (below-levels r l g))
-
 -- the specimen is no deeper than the normal place and the target
 pub witness-levels : (t : Place) (g : Target) → levels (witness t g) ≤ max (levels t) (targetSize g)
-unfolding witness
-witness-levels t g = build-levels (λ l g′. below t l g′) t g (λ l g′. below-levels t l g′)
+witness-levels = witness-measure (λ m n. max m n) (λ n. omega arith) (λ n. omega arith) build-levels

@@ -1,5 +1,4 @@
--- The size of a comparison's specimen: its entries are at most those of the normal form, those of the path and one, and it is no
--- deeper than the two.
+-- The size of a comparison's specimen: its entries are at most those of the normal form, those of the path and one.
 -- Assumes nothing.
 use Prim.Native.Nat.{_+_, _≤_, suc, ℕ}
 use lib.Dec.{eqb, ltb}
@@ -12,17 +11,13 @@ use Rattle.base.proofs.Tests.{bool-cases}
 use Rattle.logic.proofs.Records.Counting.{sumIn}
 use Rattle.logic.proofs.SpecimenTrees.Names.{Different, different-names}
 use Rattle.logic.proofs.SpecimenTrees.Sums.{sum-add, sum-le, sum-once, sum-zero}
+use Rattle.logic.proofs.SpecimenTrees.WitnessMeasure.{BelowMeasured, targetSize, witness-measure}
 use Rattle.logic.specs.Normal.{rank, sub}
-use Rattle.logic.specs.Place.{Atom, Kind, Place, atom, has, lacks, least, most, nothing}
+use Rattle.logic.specs.Place.{Kind, Place, atom, has, lacks, least, most, nothing}
 use Rattle.logic.specs.Size.{measure, nodes}
 use Rattle.logic.specs.SpecimenTree.{SpecimenTree}
 use Rattle.logic.specs.Tree.{end, leaf, node}
-use Rattle.logic.specs.Witness.{Target, below, build, countFor, groupsBy, member, names, next, off, on, once, path, putAscending, targetLinks, targetProperties, withProperties, witness}
-
--- what a target adds: its path, and what is asked for at its end
-abbrev pub targetSize : Target → ℕ
-targetSize off = 0
-targetSize (on w a) = suc (length w)
+use Rattle.logic.specs.Witness.{Target, build, countFor, groupsBy, member, names, next, off, on, once, putAscending, targetLinks, targetProperties, withProperties, witness}
 
 -- ---- the lists of names
 
@@ -120,8 +115,7 @@ unfolding measure groupsBy sumIn
 groups-nodes f s [] = omega arith
 groups-nodes f s (l ∷ ls) = bool-cases (eqb (f l) 0) (λ q. rw q (omega (arith, groups-nodes f s ls))) (λ q. rw q (omega (arith, groups-nodes f s ls)))
 
-build-nodes : (f : ℕ → Target → SpecimenTree) (t : Place) (g : Target) → ((l : ℕ) (g′ : Target) → nodes (f l g′) ≤ nodes (sub l t) + targetSize g′)
-    → nodes (build f t g) ≤ nodes t + targetSize g
+build-nodes : (f : ℕ → Target → SpecimenTree) (t : Place) (g : Target) → BelowMeasured (λ m n. m + n) f t → nodes (build f t g) ≤ nodes t + targetSize g
 unfolding build
 build-nodes f t g h =
     let ls : List ℕ = names least t (targetLinks g) in
@@ -139,22 +133,6 @@ build-nodes f t g h =
       sum-add (λ l. nodes (sub l t)) (λ l. targetSize (next g l)) ls,
     )
 
-path-nodes : (w : List ℕ) (a : Atom) → nodes (path w a) ≤ suc (length w)
-unfolding path measure
-path-nodes [] a = omega (arith, build-nodes (λ l g. end) end (on [] a) (λ l g. omega arith))
-path-nodes (l ∷ w) a = omega (arith, path-nodes w a)
-
-below-nodes : (t : Place) (l : ℕ) (g : Target) → nodes (below t l g) ≤ nodes (sub l t) + targetSize g
-unfolding below sub measure
-below-nodes end l off = omega arith
-below-nodes end l (on w a) = omega (arith, path-nodes w a)
-below-nodes (leaf a r) l g = below-nodes r l g
-below-nodes (node l′ s r) l g =
-    bool-cases (eqb l l′)
-    (λ q. rw q (build-nodes (λ l″ g′. below s l″ g′) s g (λ l″ g′. below-nodes s l″ g′)))
-    (λ q. rw q (below-nodes r l g))
-
 -- the specimen has no more entries than the normal place and the target
 pub witness-nodes : (t : Place) (g : Target) → nodes (witness t g) ≤ nodes t + targetSize g
-unfolding witness
-witness-nodes t g = build-nodes (λ l g′. below t l g′) t g (λ l g′. below-nodes t l g′)
+witness-nodes = witness-measure (λ m n. m + n) (λ n. omega arith) (λ n. omega arith) build-nodes

@@ -15,7 +15,7 @@ use Rattle.blocks.specs.Promise.{Legal}
 use Rattle.blocks.specs.declared.Entry.{Entry}
 use Rattle.blocks.specs.declared.Schema.the-variants.{Description}
 use Rattle.logic.proofs.NormalForm.NormalSize.{nf-levels}
-use Rattle.logic.proofs.NormalForm.Stored.{Stored, nf-stored}
+use Rattle.logic.proofs.NormalForm.NormalFields.{Stored, nf-stored}
 use Rattle.logic.proofs.TreeRows.AllEntries.{OfRow, row-all, write-all}
 use Rattle.logic.specs.Background.{unrestricted}
 use Rattle.logic.specs.Layout.{write}

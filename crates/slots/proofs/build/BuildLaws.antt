@@ -8,9 +8,10 @@ use mathlib.Core.Bool.{false, true}
 use mathlib.Core.List.{List, [], _∷_, map}
 use mathlib.Core.Logic.{_≢_}
 use mathlib.Core.Option.{none, some}
-use mathlib.Core.Path.{_∙_, _≡_, ap, fun-ext, refl, subst, sym}
+use mathlib.Core.Path.{_∙_, _≡_, ap, fun-ext, refl, sym}
 use native.Mathlib.Numerals.{add-one}
 use native.Mathlib.Omega.{arith}
+use Rattle.base.proofs.ChainLaws.{chains-start}
 use Rattle.base.proofs.Lists.{zeros-read}
 use Rattle.base.proofs.Tests.{and-zero, bool-cases, eq-cases, eq-eqb, eqb-eq, iff-eq, lt-ltb, ne-eqb, tests}
 use Rattle.blocks.specs.Entries.{nth, zeroEntry}
@@ -20,8 +21,6 @@ use Rattle.logic.specs.Place.{kindOf}
 use Rattle.meaning.specs.Description.{rowOf}
 use Rattle.meaning.specs.Owned.{Owned}
 use Rattle.passes.specs.code.Slots.{Slot, atTop, build, high, isLink, leading, low, position, slots, tighten}
-use Rattle.slots.proofs.slots.ChainLaws.{chain-none}
-use Rattle.slots.specs.code.Chain.{Chains}
 use Rattle.slots.specs.code.Tables.{Entered, Exact, Kept, Nodes, hashOf, highIn, highKind, highPart, keyIn, leadsTo, linkKind, lowKind, slotsFrom, slotsIn}
 
 -- ---- kinds by number
@@ -165,14 +164,11 @@ exact-starts e = record {
 
 pub kept-starts : {t next head : List ℕ} → t ≡ replicate 1009 0 → next ≡ replicate 1009 0 → head ≡ replicate 1021 0 → Kept t next head 0
 kept-starts {t} {next} {head} e f g =
-    let heads : ℕ → ℕ = λ h. getD head h 0 in
-    let zeros : ℕ → ℕ = λ h. 0 in
-    let empty : heads ≡ zeros = fun-ext (λ h. zeros-read 1021 g h) in
     record {
       exact = exact-starts e;
       nexts = ap length f ∙ length-replicate {A = ℕ} 1009 0;
       heads = ap length g ∙ length-replicate {A = ℕ} 1021 0;
-      chains = subst (λ (f : ℕ → ℕ). Chains hashOf (λ j. keyIn (getD t j 0)) (λ j. getD next j 0) f 0) (sym empty) (chain-none hashOf (λ j. keyIn (getD t j 0)) (λ j. getD next j 0));
+      chains = chains-start (λ j. hashOf (keyIn (getD t j 0))) (λ j. getD next j 0) (λ b h. zeros-read 1021 g b);
       apart = λ i j a b c. absurd (omega arith);
     }
 

@@ -8,18 +8,13 @@ use mathlib.Core.List.{List}
 use mathlib.Core.Logic.{_≢_}
 use mathlib.Core.Path.{_∙_, _≡_, ap, refl}
 use native.Mathlib.Omega.{arith}
+use Rattle.base.proofs.ChainLaws.{chains-same}
 use Rattle.base.proofs.Tests.{eq-cases, ge-ltb, gt-leb, lt-cases, lt-ltb, ne-eqb, tests}
 use Rattle.logic.specs.Normal.{atMost, found}
 use Rattle.passes.specs.code.Slots.{Slot}
-use Rattle.slots.proofs.slots.EnterLaws.{scan-some}
 use Rattle.slots.proofs.states.SlotSearch.{high-slot, low-slot}
-use Rattle.slots.specs.code.Chain.{Chains, scan}
 use Rattle.slots.specs.code.States.{Indexed, highAt, lowAt}
-use Rattle.slots.specs.code.Tables.{Exact, Kept, Settling, highIn, highPart, lowPart, noBound}
-
--- what a search finds is a slot or 0
-pub scan-most : (key : ℕ → ℕ) (k n : ℕ) {s : ℕ} → s ≡ scan key k n → s ≤ n
-scan-most key k n {s} e = eq-cases s 0 (λ z. omega arith) (λ z. scan-some key k n e z .0)
+use Rattle.slots.specs.code.Tables.{Exact, Kept, Settling, hashOf, highIn, highPart, lowPart, noBound}
 
 module _ {ss : List Slot} {t next head : List ℕ} {used : ℕ} (i : Indexed ss t next head used) {s x : ℕ} (b : s ≤ used) (e : x ≡ cond (eqb s 0) noBound (getD t s 0)) where
   pub bounds-low : lowPart x ≡ lowAt ss s
@@ -61,23 +56,12 @@ settled-exact x s =
       rest = λ j l. s .rest j l ∙ x .rest j l;
     }
 
-chains-as : {hash key key′ next head : ℕ → ℕ} {used : ℕ} → ((j : ℕ) → key′ j ≡ key j) → Chains hash key next head used → Chains hash key′ next head used
-chains-as {hash} {key} {key′} e c =
-    record {
-      head-low = c .head-low;
-      head-gap = λ h j l m. rw (e j) (c .head-gap h j l m);
-      head-on = λ h l. rw (e _) (c .head-on h l);
-      next-low = c .next-low;
-      next-gap = λ s j lo hi l m. rw (e j, e s) (c .next-gap s j lo hi l m);
-      next-on = λ s lo hi l. rw (e _, e s) (c .next-on s lo hi l);
-    }
-
 pub settled-kept : {origin t next head bad full : List ℕ} {used : ℕ} → Kept origin next head used → Settling origin used 0 t bad full → Kept t next head used
 settled-kept k s =
     record {
       exact = settled-exact (k .exact) s;
       nexts = k .nexts;
       heads = k .heads;
-      chains = chains-as (λ j. s .keys j) (k .chains);
+      chains = chains-same (λ j. ap hashOf (s .keys j)) (k .chains);
       apart = λ i j lo l hi. rw (s .keys i, s .keys j) (k .apart i j lo l hi);
     }

@@ -7,13 +7,13 @@ use mathlib.Core.Bool.{Bool, false, true}
 use mathlib.Core.List.{List, [], _∷_}
 use mathlib.Core.Path.{_∙_, _≡_, ap, refl, sym}
 use native.Mathlib.Omega.{arith}
+use Rattle.base.proofs.ChainLaws.{last-none, last-on}
 use Rattle.base.proofs.Tests.{bool-cases, eq-cases, eq-eqb, eqb-self, ne-eqb, tests}
+use Rattle.base.specs.Chain.{lastWhere}
 use Rattle.passes.specs.code.Keys.{keyNumber}
 use Rattle.passes.specs.code.Slots.{Slot, position, settled, slot, slotAt, slotHigh, slotLow, taken}
-use Rattle.slots.proofs.slots.EnterLaws.{scan-none, scan-some}
 use Rattle.slots.proofs.slots.SearchLaws.{keysOf}
 use Rattle.slots.proofs.slots.TableLaws.{key-test, position-found}
-use Rattle.slots.specs.code.Chain.{scan}
 use Rattle.slots.specs.code.States.{Indexed, highAt, lowAt, slotFor}
 use Rattle.slots.specs.code.Tables.{highIn, highPart, keyIn, lowPart, slotIn, slotsFrom}
 
@@ -68,21 +68,21 @@ module _ (t : List ℕ) (v : ℕ) (b : Bool) (n : ℕ) (small : n < 65536) where
 
 module _ {ss : List Slot} {t next head : List ℕ} {used : ℕ} (I : Indexed ss t next head used) where
   -- the search for a key finds its slot
-  pub search-slot : (v : ℕ) (b : Bool) (n : ℕ) → n < 65536 → {s key : ℕ} → key ≡ keyNumber v b n → s ≡ scan (λ j. keyIn (getD t j 0)) key used → s ≡ slotFor ss v b n
+  pub search-slot : (v : ℕ) (b : Bool) (n : ℕ) → n < 65536 → {s key : ℕ} → key ≡ keyNumber v b n → s ≡ lastWhere (λ j. keyIn (getD t j 0)) key used → s ≡ slotFor ss v b n
   unfolding slotFor
   search-slot v b n small {s} {key} k e =
       let there : taken (slotsFrom t 1 used) v b n ≡ taken ss v b n = rw (I .slotted) (taken-settled 1 ss v b n) in
       let at : position 1 (slotsFrom t 1 used) v b n ≡ position 1 ss v b n = rw (I .slotted) (position-settled 1 ss v b n) in
       eq-cases s 0
       (λ z.
-      let none = scan-none (keysOf t) key used (sym e ∙ z) in
+      let none = last-none (keysOf t) key used (sym e ∙ z) in
       let free = taken-none t v b n small 1 used (λ j lo hi. rw (← k) (none j lo (omega arith))) in
       rw (sym there ∙ free) z)
       (λ z.
-      let f = scan-some (keysOf t) key used e z in
-      let is : keyIn (getD t s 0) ≡ keyNumber v b n = f .1 ∙ k in
-      let hit = taken-found t v b n small s is 1 used (omega arith) (omega (arith, f .0)) in
-      let here = position-found t v b n small s is 1 used (omega arith) (omega (arith, f .0)) (λ j lo hi. rw (← is) (I .kept .apart j s lo hi (f .0))) in
+      let f = last-on (keysOf t) key used e in
+      let is : keyIn (getD t s 0) ≡ keyNumber v b n = f .bucket z ∙ k in
+      let hit = taken-found t v b n small s is 1 used (omega arith) (omega (arith, f .bound)) in
+      let here = position-found t v b n small s is 1 used (omega arith) (omega (arith, f .bound)) (λ j lo hi. rw (← is) (I .kept .apart j s lo hi (f .bound))) in
       rw (sym there ∙ hit) (sym here ∙ at))
 
   -- the settled slot of a number is the one in the table

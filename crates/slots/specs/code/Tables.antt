@@ -8,13 +8,13 @@ use mathlib.Core.List.{List, [], _++_, _∷_, map}
 use mathlib.Core.Option.{Option, none, some}
 use mathlib.Core.Path.{_≡_}
 use Rattle.base.specs.Range.{bit}
+use Rattle.base.specs.Chain.{Chains}
 use Rattle.blocks.specs.Entries.{Bounded, entriesOf, nth}
 use Rattle.blocks.specs.declared.Entry.{Entry}
 use Rattle.logic.specs.Normal.{found}
 use Rattle.meaning.specs.Description.{rowOf}
 use Rattle.passes.specs.code.Keys.{keyNumber}
 use Rattle.passes.specs.code.Slots.{Slot, broken, inconsistent, nonempty, position, settled, slot, slots, tighten}
-use Rattle.slots.specs.code.Chain.{Chains}
 
 -- the number that stands for no upper bound: no bound of an entry is as large
 abbrev pub noBound : ℕ
@@ -81,7 +81,7 @@ hashOf key = key % 1021
 
 -- the chains of a table: each slot points to the one before it in its bucket
 abbrev pub ChainsIn : List ℕ → List ℕ → List ℕ → ℕ → Type 0
-ChainsIn t next head used = Chains hashOf (λ j. keyIn (getD t j 0)) (λ j. getD next j 0) (λ h. getD head h 0) used
+ChainsIn t next head used = Chains (λ j. hashOf (keyIn (getD t j 0))) (λ j. getD next j 0) (λ b. getD head b 0) 1021 used
 
 -- a table of so many slots, no two of one key, on their chains
 pub record Kept (t next head : List ℕ) (used : ℕ) : Type 0 where

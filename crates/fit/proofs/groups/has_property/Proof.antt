@@ -4,11 +4,13 @@ use mathlib.Core.Bool.{not}
 use mathlib.Core.Path.{_∙_, _≡_, ap, sym}
 use native.Mathlib.Omega.{arith}
 use Rattle.base.proofs.Tests.{not-to-true}
+use Rattle.base.proofs.ChainLaws.{walk-falls, walk-goes, walk-starts}
+use Rattle.base.specs.Chain.{OnChain}
 use Rattle.blocks.specs.Entries.{entriesOf}
 use Rattle.blocks.specs.declared.Schema.the-variants.{Specimen}
 use Rattle.fit.proofs.groups.GroupLaws.{property-bucket, property-else, property-here, withoutProperty}
 use Rattle.fit.proofs.index.BucketLaws.{hash-below}
-use Rattle.fit.proofs.index.BucketWalk.{Standing, all-ends, all-goes, all-no, all-starts, walk-falls, walk-goes, walk-starts}
+use Rattle.fit.proofs.index.BucketWalk.{all-ends, all-goes, all-no, all-starts}
 use Rattle.fit.specs.code.Groups.{hasProperty}
 use Rattle.fit.specs.code.Index.{bucketOf, hashOf}
 use Rattle.meaning.specs.Owned.{allWhere}
@@ -17,7 +19,7 @@ use Rattle.fit.proofs.groups.has_property.Tie as tie
 
 abbrev Inv-loop : tie.InvT-loop
 Inv-loop s index total g p k₀ k =
-    Standing (bucketOf Specimen (entriesOf s)) (hashOf g 1 (p .0)) k total
+    OnChain (bucketOf Specimen (entriesOf s)) (hashOf g 1 (p .0)) k total
     × (hasProperty (entriesOf s) g (p .0)
     ≡ not (allWhere (bucketOf Specimen (entriesOf s)) (withoutProperty (entriesOf s) g (p .0)) (hashOf g 1 (p .0)) k))
 
@@ -30,7 +32,7 @@ loop-holds c =
     let g = a .args .g in
     let p = a .args .p .0 in
     let last = c .last-property .ensures in (
-      walk-starts (a .pre .0) (hashOf g 1 p) (hash-below g 1 p) last,
+      walk-starts (a .pre .0 .index .chains) (hashOf g 1 p) (hash-below g 1 p) last,
       property-bucket (entriesOf (a .args .s .now)) g p
           ∙ ap not (all-starts (a .pre .0) (hashOf g 1 p) (withoutProperty (entriesOf (a .args .s .now)) g p) (hash-below g 1 p) last),
     )
@@ -44,7 +46,7 @@ loop-less : tie.Need-loop-less Inv-loop μ-loop
 loop-less c =
     let l = c .before .before .before .before .before in
     let a = l .before .before .before in
-    walk-falls (a .pre .0) _ (l .loop .inv .0) (c .before .before .before .before .if1 .left) (c .previous-of .ensures)
+    walk-falls (a .pre .0 .index .chains) _ (l .loop .inv .0) (c .before .before .before .before .if1 .left) (c .previous-of .ensures)
 
 loop-again : tie.Need-loop-again Inv-loop μ-loop
 loop-again c =
@@ -53,7 +55,7 @@ loop-again c =
     let g = a .args .g in
     let p = a .args .p .0 in
     let z = c .before .before .before .before .if1 .left in (
-      walk-goes (a .pre .0) _ (l .loop .inv .0) z (c .previous-of .ensures),
+      walk-goes (a .pre .0 .index .chains) _ (l .loop .inv .0) z (c .previous-of .ensures),
       l .loop .inv .1 ∙ ap not (all-goes (a .pre .0) (hashOf g 1 p) (l .loop .inv .0) z (c .previous-of .ensures) (withoutProperty (entriesOf (a .args .s .now)) g p)
           (property-else (a .pre .0) g p (l .loop .k) (c .before .before .before .nth-entry .ensures) (c .before .before .gives .ensures) (c .before .if2 .left))),
     )

@@ -3,11 +3,13 @@ use Prim.Native.Nat.{_*_, _+_, _≤_}
 use borrow.Author.Needs.{needs}
 use mathlib.Core.Path.{_≡_}
 use native.Mathlib.Omega.{arith}
+use Rattle.base.proofs.ChainLaws.{walk-falls, walk-goes, walk-starts}
+use Rattle.base.specs.Chain.{OnChain}
 use Rattle.blocks.specs.Entries.{entriesOf}
 use Rattle.blocks.specs.declared.Schema.the-variants.{Specimen}
 use Rattle.fit.proofs.groups.GroupLaws.{items-here, itemsAt, total-bucket}
 use Rattle.fit.proofs.index.BucketLaws.{hash-below}
-use Rattle.fit.proofs.index.BucketWalk.{Standing, sum-ends, sum-goes, sum-starts, walk-falls, walk-goes, walk-starts}
+use Rattle.fit.proofs.index.BucketWalk.{sum-ends, sum-goes, sum-starts}
 use Rattle.fit.specs.code.Groups.{totalBy}
 use Rattle.fit.specs.code.Index.{bucketOf, hashOf}
 use Rattle.meaning.specs.Owned.{sumWhere}
@@ -16,7 +18,7 @@ use Rattle.fit.proofs.groups.total_by.Tie as tie
 
 abbrev Inv-loop : tie.InvT-loop
 Inv-loop s index total g l sum₀ k₀ sum k =
-    Standing (bucketOf Specimen (entriesOf s)) (hashOf g 7 (l .0)) k total
+    OnChain (bucketOf Specimen (entriesOf s)) (hashOf g 7 (l .0)) k total
     × (totalBy (entriesOf s) g (l .0) ≡ sum + sumWhere (bucketOf Specimen (entriesOf s)) (itemsAt (entriesOf s) g (l .0)) (hashOf g 7 (l .0)) k)
     × (sum + 65536 * k ≤ 65536 * total)
 
@@ -28,7 +30,7 @@ loop-holds c =
     let a = c .before .before in
     let g = a .args .g in
     let l = a .args .l .0 in
-    let w = walk-starts (a .pre .0) (hashOf g 7 l) (hash-below g 7 l) (c .last-group .ensures) in
+    let w = walk-starts (a .pre .0 .index .chains) (hashOf g 7 l) (hash-below g 7 l) (c .last-group .ensures) in
     let t = total-bucket (entriesOf (a .args .s .now)) g l in
     let s = sum-starts (a .pre .0) (hashOf g 7 l) (itemsAt (entriesOf (a .args .s .now)) g l) (hash-below g 7 l) (c .last-group .ensures) in
     (w, omega arith, omega (arith, w .bound))
@@ -48,7 +50,7 @@ loop-less : tie.Need-loop-less Inv-loop μ-loop
 loop-less c =
     let l = c .before .before .before .before in
     let a = l .before .before .before in
-    walk-falls (a .pre .0) _ (l .loop .inv .0) (c .before .before .before .loop-test .taken) (c .previous-of .ensures)
+    walk-falls (a .pre .0 .index .chains) _ (l .loop .inv .0) (c .before .before .before .loop-test .taken) (c .previous-of .ensures)
 
 loop-again : tie.Need-loop-again Inv-loop μ-loop
 loop-again c =
@@ -57,10 +59,10 @@ loop-again c =
     let z = c .before .before .before .loop-test .taken in
     let g = a .args .g in
     let link = a .args .l .0 in
-    let falls = walk-falls (a .pre .0) _ (l .loop .inv .0) z (c .previous-of .ensures) in
+    let falls = walk-falls (a .pre .0 .index .chains) _ (l .loop .inv .0) z (c .previous-of .ensures) in
     let goes = sum-goes (a .pre .0) (hashOf g 7 link) (l .loop .inv .0) z (c .previous-of .ensures) (itemsAt (entriesOf (a .args .s .now)) g link) in
     let here = items-here (a .pre .0) g link (l .loop .k) (c .before .before .nth-entry .ensures) (c .before .items-by .ensures .0) in
-    (walk-goes (a .pre .0) _ (l .loop .inv .0) z (c .previous-of .ensures), omega (arith, l .loop .inv .1), omega (arith, l .loop .inv .2, c .before .items-by .ensures .1))
+    (walk-goes (a .pre .0 .index .chains) _ (l .loop .inv .0) z (c .previous-of .ensures), omega (arith, l .loop .inv .1), omega (arith, l .loop .inv .2, c .before .items-by .ensures .1))
 
 returns : tie.Need-returns Inv-loop μ-loop
 returns c =

@@ -7,12 +7,14 @@ use borrow.Author.Needs.{needs}
 use borrow.Fn.Kinds.{In}
 use borrow.Fn.PlainCycle.{Measures, is, falls, and}
 use Rattle.base.proofs.Tests.{confirmed, refuted, true-of-not, false-of-not}
+use Rattle.base.proofs.ChainLaws.{walk-falls, walk-goes, walk-starts}
+use Rattle.base.specs.Chain.{OnChain}
 use Rattle.blocks.proofs.Refusing.EntryLaws.{of-nth}
 use Rattle.blocks.specs.Entries.{entriesOf}
 use Rattle.blocks.specs.Owners.{ownerOf}
 use Rattle.blocks.specs.declared.Schema.the-variants.{Specimen}
 use Rattle.fit.proofs.index.BucketLaws.{hash-below}
-use Rattle.fit.proofs.index.BucketWalk.{Standing, walk-starts, walk-goes, walk-falls, all-starts, all-goes, all-no, all-ends}
+use Rattle.fit.proofs.index.BucketWalk.{all-ends, all-goes, all-no, all-starts}
 use Rattle.fit.proofs.judge.MeetLaws.{meets-bottom, meets-atoms, ownFits, meets-bucket, other-passes, group-decides}
 use Rattle.fit.specs.code.Groups.{meetsEntry, fitsPlace}
 use Rattle.fit.specs.code.Index.{bucketOf, hashOf}
@@ -78,7 +80,7 @@ meets-entry-calls t = (
 
 abbrev fits-place-Inv-loop : fits-place-lts.InvT-loop
 fits-place-Inv-loop s si d di n g o left e₀ e =
-    Standing (ownerOf (entriesOf d)) o e (n .description)
+    OnChain (ownerOf (entriesOf d)) o e (n .description)
     × (fitsPlace left (entriesOf s) (entriesOf d) g o ≡ allOwned (meetsEntry left (entriesOf s) (entriesOf d) g) (entriesOf d) o e)
 
 abbrev fits-place-μ-loop : fits-place-lts.MeasureT-loop
@@ -88,7 +90,7 @@ fits-place-loop-holds : (t : ℕ) → fits-place-lts.Need-loop-holds (fits-place
 fits-place-loop-holds t c =
     let a = c .before .before .before in
     let R = a .pre .1 .1 in (
-      walk-starts R _ (a .pre .1 .3) (c .last-of .ensures),
+      walk-starts (R .index .chains) _ (a .pre .1 .3) (c .last-of .ensures),
       all-starts R _ (meetsEntry (a .args .left) (entriesOf (a .args .s .now)) (entriesOf (a .args .d .now)) (a .args .g)) (a .pre .1 .3) (c .last-of .ensures),
     )
 
@@ -108,14 +110,14 @@ fits-place-loop-less : (t : ℕ) → fits-place-lts.Need-loop-less (fits-place-c
 fits-place-loop-less t c =
     let l = c .before .before .before .before in
     let a = l .before .before .before .before in
-    walk-falls (a .pre .1 .1) _ (l .loop .inv .0) (c .before .before .before .if1 .left) (c .previous-of .ensures)
+    walk-falls (a .pre .1 .1 .index .chains) _ (l .loop .inv .0) (c .before .before .before .if1 .left) (c .previous-of .ensures)
 
 fits-place-loop-again : (t : ℕ) → fits-place-lts.Need-loop-again (fits-place-calls t) (fits-place-at t) fits-place.Post fits-place-Inv-loop fits-place-μ-loop
 fits-place-loop-again t c =
     let l = c .before .before .before .before in
     let a = l .before .before .before .before in
     let z = c .before .before .before .if1 .left in (
-      walk-goes (a .pre .1 .1) _ (l .loop .inv .0) z (c .previous-of .ensures),
+      walk-goes (a .pre .1 .1 .index .chains) _ (l .loop .inv .0) z (c .previous-of .ensures),
       l .loop .inv .1 ∙ all-goes (a .pre .1 .1) _ (l .loop .inv .0) z (c .previous-of .ensures)
           (meetsEntry (a .args .left) (entriesOf (a .args .s .now)) (entriesOf (a .args .d .now)) (a .args .g))
           (confirmed (c .before .before .meets-entry .ensures) (c .before .if2 .left)),
@@ -139,7 +141,7 @@ fits-place-returns-2 t c =
 
 abbrev meets-entry-Inv-loop : meets-entry-lts.InvT-loop
 meets-entry-Inv-loop s si d di n g e left kind link h₀ h =
-    Standing (bucketOf Specimen (entriesOf s)) (hashOf g 7 (link .0)) h (n .specimen)
+    OnChain (bucketOf Specimen (entriesOf s)) (hashOf g 7 (link .0)) h (n .specimen)
     × (meetsEntry left (entriesOf s) (entriesOf d) g e
     ≡ allWhere (bucketOf Specimen (entriesOf s)) (ownFits (left - 1) (entriesOf s) (entriesOf d) e g (link .0)) (hashOf g 7 (link .0)) h)
 
@@ -161,7 +163,7 @@ meets-entry-loop-holds t c =
     let R = a .pre .1 .0 in
     let g = a .args .g in
     let link = c .before .link .result .0 in (
-      walk-starts R _ (hash-below g 7 link) (c .last-group .ensures),
+      walk-starts (R .index .chains) _ (hash-below g 7 link) (c .last-group .ensures),
       meets-bucket _ _ _ _ _ (c .before .before .before .before .if1 .left) (c .before .before .before .nth-entry .ensures ∙ of-nth _ _ _ (a .pre .1 .1 .count))
           (c .before .before .if2 .left) (c .before .link .ensures)
           ∙ all-starts R _ (ownFits (a .args .left - 1) (entriesOf (a .args .s .now)) (entriesOf (a .args .d .now)) (a .args .e) g link) (hash-below g 7 link) (c .last-group .ensures),
@@ -183,7 +185,7 @@ meets-entry-loop-less : (t : ℕ) → meets-entry-lts.Need-loop-less (meets-entr
 meets-entry-loop-less t c =
     let l = c .before .before .before .before .before in
     let a = l .before .before .before .before .before .before .before .before in
-    walk-falls (a .pre .1 .0) _ (l .loop .inv .0) (c .before .before .before .before .if3 .left) (c .previous-of .ensures)
+    walk-falls (a .pre .1 .0 .index .chains) _ (l .loop .inv .0) (c .before .before .before .before .if3 .left) (c .previous-of .ensures)
 
 meets-entry-loop-again : (t : ℕ) → meets-entry-lts.Need-loop-again (meets-entry-calls t) (meets-entry-at t) meets-entry.Post meets-entry-Inv-loop meets-entry-μ-loop
 meets-entry-loop-again t c =
@@ -193,7 +195,7 @@ meets-entry-loop-again t c =
     let link = l .before .before .link .result .0 in
     let read = c .before .before .before .nth-entry2 .ensures in
     let is′ = c .before .before .is-group .ensures in (
-      walk-goes (a .pre .1 .0) _ (l .loop .inv .0) z (c .previous-of .ensures),
+      walk-goes (a .pre .1 .0 .index .chains) _ (l .loop .inv .0) z (c .previous-of .ensures),
       l .loop .inv .1 ∙ all-goes (a .pre .1 .0) _ (l .loop .inv .0) z (c .previous-of .ensures)
           (ownFits (a .args .left - 1) (entriesOf (a .args .s .now)) (entriesOf (a .args .d .now)) (a .args .e) (a .args .g) link)
           (⊎-elim

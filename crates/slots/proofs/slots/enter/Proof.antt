@@ -1,7 +1,8 @@
 -- `enter` meets its contract: the slot is found, or made.
 use borrow.Author.Needs.{needs}
 use native.Mathlib.Omega.{arith}
-use Rattle.slots.proofs.slots.EnterLaws.{enter-found, enter-new, scan-some}
+use Rattle.base.proofs.ChainLaws.{last-on}
+use Rattle.slots.proofs.slots.EnterLaws.{enter-found, enter-new}
 use Rattle.slots.proofs.slots.SearchLaws.{keysOf}
 use Rattle.slots.proofs.slots.enter.Statement.{statement}
 use Rattle.slots.proofs.slots.enter.Tie as tie
@@ -9,15 +10,15 @@ use Rattle.slots.proofs.slots.enter.Tie as tie
 tighten-requires : tie.Need-tighten-requires
 tighten-requires c κs =
     let a = c .before .before .before .before .before .before in
-    let f = scan-some (keysOf (a .args .table .now)) _ _ (c .before .before .search .ensures) (c .before .if1 .taken) in
-    (omega (arith, f .0), a .pre .3, omega (arith, a .pre .4), omega (arith, f .1, a .pre .2))
+    let f = last-on (keysOf (a .args .table .now)) _ _ (c .before .before .search .ensures) in
+    (omega (arith, f .bound), a .pre .3, omega (arith, a .pre .4), omega (arith, f .bucket (c .before .if1 .taken), a .pre .2))
 
 returns : tie.Need-returns
 returns c =
     let a = c .before .before .before .before .before .before .before in
     let e = c .before .before .before .search .ensures in
-    let f = scan-some (keysOf (a .args .table .now)) _ _ e (c .before .before .if1 .taken) in (
-      omega (arith, f .0),
+    let f = last-on (keysOf (a .args .table .now)) _ _ e in (
+      omega (arith, f .bound),
       λ v b n small k. enter-found (a .pre .0) v b n _ _ (a .pre .1) small (a .pre .3) (a .pre .4) k e (c .before .before .if1 .taken) (c .tighten .ensures),
     )
 

@@ -2,13 +2,13 @@
 use borrow.Author.Needs.{needs}
 use mathlib.Core.Path.{_∙_, _≡_, sym}
 use native.Mathlib.Omega.{arith}
-use Rattle.slots.proofs.slots.SearchLaws.{Reached, keysOf, scan-ends, scan-goes, scan-hits, scan-starts, search-falls, search-goes, search-starts}
-use Rattle.slots.specs.code.Chain.{scan}
+use Rattle.slots.proofs.slots.SearchLaws.{Reached, keysOf, found-ends, found-goes, found-hits, found-starts, search-falls, search-goes, search-starts}
+use Rattle.base.specs.Chain.{lastWhere}
 use Rattle.slots.proofs.slots.search.Statement.{statement}
 use Rattle.slots.proofs.slots.search.Tie as tie
 
 abbrev Inv-loop : tie.InvT-loop
-Inv-loop table next head used key b s₀ s = Reached table used key s × (scan (keysOf table) key used ≡ scan (keysOf table) key s)
+Inv-loop table next head used key b s₀ s = Reached table used key s × (lastWhere (keysOf table) key used ≡ lastWhere (keysOf table) key s)
 
 abbrev μ-loop : tie.MeasureT-loop
 μ-loop table next head used key b s₀ s = s
@@ -16,7 +16,7 @@ abbrev μ-loop : tie.MeasureT-loop
 loop-holds : tie.Need-loop-holds Inv-loop μ-loop
 loop-holds c =
     let a = c .before .before .before in
-    (search-starts (a .pre .0) _ (c .before .before .bucket .ensures .0) (c .wide .ensures .0), scan-starts (a .pre .0) _ (c .before .before .bucket .ensures .0) (c .wide .ensures .0))
+    (search-starts (a .pre .0) _ (c .before .before .bucket .ensures .0) (c .wide .ensures .0), found-starts (a .pre .0) _ (c .before .before .bucket .ensures .0) (c .wide .ensures .0))
 
 element-copy-out-key-in : tie.Need-element-copy-out-key-in Inv-loop μ-loop
 element-copy-out-key-in c = omega (arith, c .before .loop .inv .0 .bound, c .before .before .before .before .before .pre .1)
@@ -38,18 +38,18 @@ loop-again c =
     let a = l .before .before .before .before in
     let z = c .before .before .before .before .before .if1 .left in (
       search-goes (a .pre .0) _ (l .loop .inv .0) z (c .wide2 .ensures .0),
-      l .loop .inv .1 ∙ scan-goes (a .pre .0) _ (l .loop .inv .0) z (c .wide2 .ensures .0) (c .before .before .before .key-in .ensures) (c .before .before .if2 .left),
+      l .loop .inv .1 ∙ found-goes (a .pre .0) _ (l .loop .inv .0) z (c .wide2 .ensures .0) (c .before .before .before .key-in .ensures) (c .before .before .if2 .left),
     )
 
 returns : tie.Need-returns Inv-loop μ-loop
 returns c =
     let l = c .before in
-    sym (l .loop .inv .1 ∙ scan-ends (l .before .before .before .before .args .table .now) _ (c .if1 .taken))
+    sym (l .loop .inv .1 ∙ found-ends (l .before .before .before .before .args .table .now) _ (c .if1 .taken))
 
 returns-2 : tie.Need-returns-2 Inv-loop μ-loop
 returns-2 c =
     let l = c .before .before .before .before in
-    sym (l .loop .inv .1 ∙ scan-hits (l .before .before .before .before .args .table .now) _ (c .before .before .before .if1 .left) (c .before .key-in .ensures) (c .if2 .taken))
+    sym (l .loop .inv .1 ∙ found-hits (l .before .before .before .before .args .table .now) _ (c .before .before .before .if1 .left) (c .before .key-in .ensures) (c .if2 .taken))
 
 pub search-spec : {M : Type 1} → statement M
 search-spec =

@@ -1,14 +1,14 @@
 -- `property_slot` meets its contract.
 use borrow.Author.Needs.{needs}
 use native.Mathlib.Omega.{arith}
-use Rattle.slots.proofs.states.BoundLaws.{scan-most}
+use Rattle.base.proofs.ChainLaws.{last-on}
 use Rattle.slots.proofs.states.SlotSearch.{search-slot}
 use Rattle.slots.proofs.states.property_slot.Statement.{statement}
 use Rattle.slots.proofs.states.property_slot.Tie as tie
 
 returns : tie.Need-returns
 returns c = (
-  scan-most _ _ _ (c .search .ensures),
+  last-on _ _ _ (c .search .ensures) .bound,
   λ ss i. search-slot i _ _ _ (omega arith) (c .before .property-key .ensures .0) (c .search .ensures),
 )
 

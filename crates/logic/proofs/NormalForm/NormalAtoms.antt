@@ -1,17 +1,16 @@
 -- What a normal form lists, atom by atom: what holds of each atom of the description as it is stored, and of the one that nothing fits,
--- holds of each atom of its normal form. Kinds 1 and 2 have no number, kind 6 neither name nor number.
+-- holds of each atom of its normal form.
 -- Assumes nothing.
 use Prim.Native.Nat.{ℕ}
 use lib.Dec.{eqb}
 use mathlib.Core.Bool.{_||_, false}
-use mathlib.Core.Path.{_≡_, refl}
-use Rattle.base.proofs.Tests.{bool-cases, both-ways}
-use Rattle.logic.proofs.NormalForm.NormalFields.{AtomFields, Fields}
+use mathlib.Core.Path.{_≡_}
+use Rattle.base.proofs.Tests.{bool-cases}
 use Rattle.logic.proofs.PlaceTrees.Thinner.{Thinner, done, dropAtom, dropEvery, keepAtom, keepEvery, thinner-clear, thinner-remove, thinner-removeEvery}
 use Rattle.logic.proofs.TreeRows.AllEntries.{AllEntries}
 use Rattle.logic.specs.Background.{Background}
 use Rattle.logic.specs.Normal.{add, before, clash, clear, fill, insert, isBottom, isEnd, nf, put, putEvery, rank, remove, removeEvery, stored, sub, supports, within}
-use Rattle.logic.specs.Place.{Atom, Kind, Place, atom, has, lacks, least, most, nothing}
+use Rattle.logic.specs.Place.{Atom, Kind, Place, atom, most, nothing}
 use Rattle.logic.specs.Tree.{end, leaf, node}
 
 module _ (P : Atom → Type 0) (Q : ℕ → Type 0) where
@@ -83,29 +82,7 @@ module _ (P : Atom → Type 0) (Q : ℕ → Type 0) where
     add-all (leaf a r) t e h = insert-all a (add b r t) (e .0) (add-all r t (e .1) h)
     add-all (node l s r) t e h = within-all l (λ u. add b s u) (λ u i. add-all s u (e .1) i) (add b r t) (e .0) (add-all r t (e .2) h)
 
-    nf-all : (d : Place) → AllEntries S Q d → All (nf b d)
+    -- the atoms of a normal form
+    pub nf-all : (d : Place) → AllEntries S Q d → All (nf b d)
     unfolding nf
     nf-all d e = add-all d end e tt
-
--- ---- names and numbers
-
-module _ (Name Number : ℕ → Type 0) where
-  -- an atom as a normal form lists it: a property has no number, kind 6 neither name nor number
-  abbrev pub Stored : Atom → Type 0
-  Stored (atom has p m) = Name p × (m ≡ 0)
-  Stored (atom lacks p m) = Name p × (m ≡ 0)
-  Stored (atom least l m) = Name l × Number m
-  Stored (atom most l m) = Name l × Number m
-  Stored (atom nothing n m) = (n ≡ 0) × (m ≡ 0)
-
-  stored-atom : (b : Background) (t : Place) (k : Kind) (n m : ℕ) → AtomFields Name Number (atom k n m) → clash b t (atom k n m) ≡ false
-      → Stored (atom k n (stored k m))
-  stored-atom b t has n m h z = (h .0, refl)
-  stored-atom b t lacks n m h z = (h .0, refl)
-  stored-atom b t least n m h z = h
-  stored-atom b t most n m h z = h
-  stored-atom b t nothing n m h z = both-ways refl z
-
-  -- the atoms of a normal form, where names and numbers are those of a description
-  pub nf-stored : Number 0 → (b : Background) (d : Place) → Fields Name Number d → AllEntries Stored Name (nf b d)
-  nf-stored none b d e = nf-all Stored Name b (AtomFields Name Number) (refl, refl) (λ l h. (h, none)) (stored-atom b) d e
