@@ -13,10 +13,10 @@ pub(crate) fn links_up(d: &[u8], total: usize, n: usize, links: &mut [u16; 32]) 
     requires { ⌜ (total ≡ length (entriesOf (now d))) × Owned (entriesOf (now d)) × (length (linksTo (entriesOf (now d)) n) ≤ 32) × (1 ≤ n) × (n ≤ total) × (now links ≡ replicate 32 0) ⌝ }
     ensures { λ r. ⌜ (r ≤ 32) × (linksTo (entriesOf (now (d .entry))) n ≡ upFrom (now (links .exit)) r) × ((i : ℕ) → getD (now (links .exit)) i 0 < 65536) ⌝ }
 {
-    let mut o = wide(blocks::nth_entry(d, total, n).owner);
+    let mut o = wide(lent::entry_held(d, total, n).owner);
     let mut m: usize = 0;
     while o != 0 {
-        let e = blocks::nth_entry(d, total, o);
+        let e = lent::entry_held(d, total, o);
         links[m] = e.name;
         m += 1;
         o = wide(e.owner);

@@ -19,12 +19,12 @@ abbrev μ-loop : tie.MeasureT-loop
 μ-loop d total n links₀ o₀ m₀ links o m = o
 
 -- the entry that is read is that of the list
-entry-read : (c : tie.After-nth-entry2 Inv-loop μ-loop)
-    → c .nth-entry2 .result ≡ nth (entriesOf (c .before .before .before .before .before .before .args .d .now)) (c .before .before .loop .o)
-entry-read c = c .nth-entry2 .ensures ∙ of-nth _ _ _ (c .before .before .before .before .before .before .pre .0)
+entry-read : (c : tie.After-entry-held2 Inv-loop μ-loop)
+    → c .entry-held2 .result ≡ nth (entriesOf (c .before .before .before .before .before .before .args .d .now)) (c .before .before .loop .o)
+entry-read c = c .entry-held2 .ensures ∙ of-nth _ _ _ (c .before .before .before .before .before .before .pre .0)
 
 -- there is room for one link more
-room : (c : tie.After-nth-entry2 Inv-loop μ-loop) → c .before .before .loop .m < 32
+room : (c : tie.After-entry-held2 Inv-loop μ-loop) → c .before .before .loop .m < 32
 room c =
     let l = c .before .before in
     omega (arith, climbed-room (c .before .loop-test .taken) (l .loop .inv .0), l .before .before .before .before .pre .2)
@@ -32,7 +32,7 @@ room c =
 loop-holds : tie.Need-loop-holds Inv-loop μ-loop
 loop-holds c =
     let p = c .before .before .before .pre in
-    let e = c .before .nth-entry .ensures ∙ of-nth _ _ _ (p .0) in
+    let e = c .before .entry-held .ensures ∙ of-nth _ _ _ (p .0) in
     (climbed-start (p .1) _ (p .3) (omega (arith, p)) (c .wide .ensures .0 ∙ ap (λ (x : Entry). x .owner) e), omega arith, ap length (p .5) ∙ length-replicate {A = ℕ} 32 0, names-start (p .5))
 
 element-write-links : tie.Need-element-write-links Inv-loop μ-loop
@@ -59,7 +59,7 @@ loop-again c =
           (c .wide2 .ensures .0 ∙ ap (λ (x : Entry). x .owner) e) (i .0),
       omega (arith, b),
       simp length-set (i .2),
-      names-more (l .loop .links) (i .3) (omega (arith, b, i .2)) (let k = c .before .nth-entry2 .ok in omega (arith, k)),
+      names-more (l .loop .links) (i .3) (omega (arith, b, i .2)) (let k = c .before .entry-held2 .ok in omega (arith, k)),
     )
 
 returns : tie.Need-returns Inv-loop μ-loop
