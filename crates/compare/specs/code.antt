@@ -2,7 +2,7 @@
 
 -- The normal form as an ascending table of words, and looking an entry up in it.
 pub mod Table
--- What a place is asked for, as names.
+-- What a place is asked for, as names: the enums of src/asked.rt.
 pub mod Asked
 -- The places of a specimen as codes: a place of the normal form, and how far on the path to the entry that fails.
 pub mod Codes

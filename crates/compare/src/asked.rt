@@ -9,7 +9,7 @@ ghost use Rattle.logic.specs.Witness.{targetLinks, targetProperties, want};
 ghost use Rattle.compare.specs.code.Codes.{targetAt, targetBelow, upFrom};
 ghost use Rattle.compare.specs.code.Asked.{Small, propertyIn, linkIn};
 use crate::path::link_at;
-use crate::table::long;
+use base::long;
 use blocks::Entry;
 use blocks::Link;
 use blocks::Property;

@@ -6,7 +6,7 @@ ghost use Rattle.blocks.specs.Entries.{entriesOf};
 ghost use Rattle.meaning.specs.Description.{linksTo};
 ghost use Rattle.meaning.specs.Owned.{Owned};
 ghost use Rattle.compare.specs.code.Codes.{upFrom};
-use crate::table::wide;
+use base::wide;
 use blocks::Link;
 
 // Link i of those that are kept. The array holds link numbers and nothing else: this function and the next alone read and store them.

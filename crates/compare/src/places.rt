@@ -29,6 +29,7 @@ use crate::spans::all_groups;
 use crate::spans::all_properties;
 use crate::spans::around_link;
 use crate::spans::around_property;
+use base::larger;
 use blocks::Entry;
 use blocks::Link;
 use blocks::Property;
@@ -95,12 +96,6 @@ fn push_joints_with(
     let before = push_groups(owner, v, form, k, s.from, s.to, rows, below, count);
     let with = push_group(owner, l, number, code, rows, below, before);
     push_groups(owner, v, form, k, s.past, s.end, rows, below, with)
-}
-
-fn larger(a: u64, b: u64) -> u64
-    ensures { λ r. ⌜ r ≡ max a b ⌝ }
-{
-    if a < b { b } else { a }
 }
 
 // How many items of a link the normal form has at place v at least.

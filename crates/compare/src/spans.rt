@@ -4,8 +4,8 @@ ghost use mathlib.Core.Path.{_≡_};
 ghost use Prim.Native.Nat.{_+_, _≤_, _<_, suc};
 ghost use Rattle.compare.specs.code.Table.{Formed, spanFrom};
 use crate::table::key_of;
-use crate::table::long;
 use crate::table::rank;
+use base::long;
 use blocks::Link;
 use blocks::Property;
 

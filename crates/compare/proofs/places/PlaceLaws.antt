@@ -14,10 +14,10 @@ use Rattle.compare.specs.code.Laying.{Joint, Placed, Pushed, codes, join
 use Rattle.compare.specs.code.Table.{entriesIn, placeBelow}
 use Rattle.compare.specs.declared.asked.AskedProperty.{AskedProperty}
 use Rattle.compare.specs.declared.asked.AskedProperty.the-variants as property
+use Rattle.logic.proofs.TreeRows.FillLaws.{joined-after}
 use Rattle.logic.specs.SpecimenTree.{Group, group}
 use Rattle.logic.specs.Witness.{targetLinks, targetProperties, want}
 use Rattle.meaning.specs.Description.{atomOf}
-use Rattle.normal.proofs.FillLaws.{joined-after}
 
 -- ---- what the target asks for
 

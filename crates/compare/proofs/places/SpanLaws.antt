@@ -12,9 +12,9 @@ use Rattle.compare.proofs.specimen.LaidLaws.{codes-length}
 use Rattle.compare.specs.code.Codes.{groupsAround, groupsFrom, specimenNumber}
 use Rattle.compare.specs.code.Laying.{Joint, Placed, Pushed, codes, joint, jointRows, leafRows}
 use Rattle.compare.specs.code.Table.{Ranked, Rising, entriesIn, namesAround, namesFrom, rankOf, spanFrom}
+use Rattle.logic.proofs.TreeRows.FillLaws.{joined-more, filled-more}
 use Rattle.logic.specs.SpecimenTree.{Group, group}
 use Rattle.logic.specs.Tree.{leafRow, nodeRow}
-use Rattle.normal.proofs.FillLaws.{joined-more, filled-more}
 
 -- ---- ranks as numbers
 
