@@ -3,8 +3,9 @@
 # beside the reference, and the Rust side under valgrind. make fuzz: the library against the reference on drawn cases, for SECONDS from
 # SEED. make vectors: the vectors of crates/vectors and what the reference answers to them, made again. make bench: how long a run of
 # each program takes, and each call of the library beside plain Rust (docs/BENCHMARKS.md). make stack: the stack that each call of the
-# library takes.
-.PHONY: run lib test outside memory fuzz vectors bench stack
+# library takes. make gx: the tool that shows, writes, checks and explains descriptions. make page: its sample pages, looked at in
+# Chromium where that is installed.
+.PHONY: run lib test outside memory fuzz vectors bench stack gx page
 
 CC = gcc
 CFLAGS = -O2 -Wall -Wextra -Werror -Iinclude
@@ -44,6 +45,7 @@ outside: lib
 	cargo test --quiet --manifest-path rust/bindings/Cargo.toml
 	cargo test --release --quiet --manifest-path rust/differential/Cargo.toml
 	cargo test --release --quiet --manifest-path rust/bench/Cargo.toml
+	cargo test --quiet --manifest-path rust/gx/Cargo.toml
 	$(MAKE) memory
 
 # The tests of the Rust side, and twenty seconds of drawn cases, with each use of memory watched.
@@ -68,3 +70,11 @@ stack: lib
 	mkdir -p target/c
 	$(CC) $(CFLAGS) bench/stack.c target/staticlib/libcapi.a -Wl,-z,now -o target/c/stack
 	target/c/stack
+
+# rust/gx/target/release/gx; its manual page is rust/gx/gx.1.
+gx: lib
+	cargo build --release --quiet --manifest-path rust/gx/Cargo.toml --bin gx
+
+# target/page/small.html, large.html and what they are made of.
+page: lib
+	bash rust/gx/page.sh

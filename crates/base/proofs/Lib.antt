@@ -18,5 +18,5 @@ pub mod RangeLaws
 pub mod StoresLaws
 -- Sorting a list, and why it does not matter how.
 pub mod AscendingLaws
--- The laws of chains: the last number of a bucket, a walk along its chain, and a new number put in front of it.
+-- The laws of chains.
 pub mod ChainLaws

@@ -6,5 +6,5 @@ pub mod Stores
 pub mod Search
 -- Lists in ascending order, where `lt` tells which of two elements stands first.
 pub mod Ascending
--- Numbers from 1 on, in buckets: the last of a bucket, and chains.
+-- Numbers from 1 on, in buckets: the last of a bucket, and the chain on which each number points to the one before it in its bucket.
 pub mod Chain

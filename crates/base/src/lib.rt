@@ -1,2 +1,25 @@
-// General definitions and lemmas that every layer cites: tests on numbers, ranges, stores in a list. There is no code here,
-// and no word of the product: see specs/ and proofs/.
+// What every layer cites: general definitions and lemmas, in specs/ and proofs/ (tests on numbers, ranges, lists, searches, chains, stores),
+// and three small functions that several crates need. No word of the product.
+ghost use mathlib.Core.Path.{_≡_};
+ghost use Prim.Native.Nat.{_<_, max};
+
+// A number of two bytes as an index.
+pub fn wide(x: u16) -> usize
+    ensures { λ r. ⌜ (r ≡ x) × (r < 65536) ⌝ }
+{
+    x as usize
+}
+
+// A number of two bytes in 64 bits.
+pub fn long(x: u16) -> u64
+    ensures { λ r. ⌜ (r ≡ x) × (r < 65536) ⌝ }
+{
+    x as u64
+}
+
+// The larger of two numbers.
+pub fn larger(a: u64, b: u64) -> u64
+    ensures { λ r. ⌜ r ≡ max a b ⌝ }
+{
+    if a < b { b } else { a }
+}

@@ -7,39 +7,54 @@ ghost use Rattle.logic.specs.Place.{Atom};
 ghost use Rattle.meaning.specs.Description.{atomOf};
 ghost use Rattle.logic.specs.Witness.{targetLinks, targetProperties, want};
 ghost use Rattle.compare.specs.code.Codes.{targetAt, targetBelow, upFrom};
-ghost use Rattle.compare.specs.code.Table.{nameOr};
-use crate::table::long;
+ghost use Rattle.compare.specs.code.Asked.{Small, propertyIn, linkIn};
+use crate::path::link_at;
+use base::long;
 use blocks::Entry;
+use blocks::Link;
+use blocks::Property;
 
-// The property that is asked for: that of a 'lacks' at the end of the path; 65,536 for none.
-pub(crate) fn asked_property(target: usize, m: usize, e: Entry) -> u64
-    requires { ⌜ (target ≤ m + 1) × (m ≤ 32) ⌝ }
-    ensures { λ r. ⌜ (r ≤ 65536) × ((links : List ℕ) → targetProperties (targetAt (upFrom links m) (atomOf e) target) ≡ nameOr r) ⌝ }
-{
-    if target != m + 1 {
-        return 65536;
-    }
-    if e.kind != 2 {
-        return 65536;
-    }
-    long(e.name)
+// The property that a place is asked for, if any.
+pub(crate) enum AskedProperty {
+    Nothing,
+    Property(Property),
 }
 
-// The link of which items are asked for; 65,536 for none.
-pub(crate) fn asked_link(target: usize, links: &[u16; 32], m: usize, e: Entry) -> u64
+// The link by which a place is asked for items, if any. It is no property's number, nor is a property's number a link's.
+pub(crate) enum AskedLink {
+    Nothing,
+    Link(Link),
+}
+
+// The property that is asked for: that of a 'lacks' at the end of the path.
+pub(crate) fn asked_property(target: usize, m: usize, e: Entry) -> AskedProperty
     requires { ⌜ (target ≤ m + 1) × (m ≤ 32) ⌝ }
-    ensures { λ r. ⌜ (r ≤ 65536) × (targetLinks (targetAt (upFrom (now (links .entry)) m) (atomOf e) target) ≡ nameOr r) ⌝ }
+    ensures { λ r. ⌜ Small (propertyIn r) × ((links : List ℕ) → targetProperties (targetAt (upFrom links m) (atomOf e) target) ≡ propertyIn r) ⌝ }
+{
+    if target != m + 1 {
+        return AskedProperty::Nothing;
+    }
+    if e.kind != 2 {
+        return AskedProperty::Nothing;
+    }
+    AskedProperty::Property(e.property())
+}
+
+// The link of which items are asked for.
+pub(crate) fn asked_link(target: usize, links: &[u16; 32], m: usize, e: Entry) -> AskedLink
+    requires { ⌜ (target ≤ m + 1) × (m ≤ 32) ⌝ }
+    ensures { λ r. ⌜ Small (linkIn r) × (targetLinks (targetAt (upFrom (now (links .entry)) m) (atomOf e) target) ≡ linkIn r) ⌝ }
 {
     if target == 0 {
-        return 65536;
+        return AskedLink::Nothing;
     }
     if target <= m {
-        return long(links[m - target]);
+        return AskedLink::Link(link_at(links, m - target));
     }
     if e.kind != 4 {
-        return 65536;
+        return AskedLink::Nothing;
     }
-    long(e.name)
+    AskedLink::Link(e.link())
 }
 
 // How many items are asked for by that link.

@@ -4,11 +4,14 @@ ghost use mathlib.Core.List.{List};
 ghost use Prim.Native.Nat.{_≤_, _<_};
 ghost use Rattle.blocks.specs.Entries.{nth};
 ghost use Rattle.blocks.specs.declared.Entry.{Entry};
-ghost use Rattle.compare.specs.code.Table.{Table, placeBelow};
+ghost use Rattle.compare.specs.code.Table.{Table, nowhere, placeBelow};
 ghost use Rattle.meaning.specs.Lookup.{entryFor};
 use crate::table::look_up;
 use crate::table::number_in;
 use blocks::Link;
+
+// The place of no number in the normal form: it owns nothing.
+const NOWHERE: usize = 1023;
 
 // The number of the entry of a place, a kind and a link; 0 where there is none.
 pub(crate) fn find_link(form: &[u64; 1008], k: usize, place: u64, kind: u64, l: Link) -> usize
@@ -26,14 +29,14 @@ pub(crate) fn number_of(form: &[u64; 1008], k: usize, j: usize) -> u64
     number_in(form[j - 1])
 }
 
-// The place that a link leads to; 1,023, which owns nothing, where there is none.
+// The place that a link leads to; NOWHERE where there is none.
 pub(crate) fn place_below(form: &[u64; 1008], k: usize, place: u64, l: Link) -> usize
     requires { ⌜ (k ≤ 1008) × (place < 1024) ⌝ }
-    ensures { λ r. ⌜ (r ≤ 1023) × ((es : List Entry) → Table es (now (form .entry)) k → r ≡ placeBelow es place (l .0)) ⌝ }
+    ensures { λ r. ⌜ (r ≤ nowhere) × ((es : List Entry) → Table es (now (form .entry)) k → r ≡ placeBelow es place (l .0)) ⌝ }
 {
     let j = find_link(form, k, place, 5, l);
     if j == 0 {
-        return 1023;
+        return NOWHERE;
     }
     j
 }

@@ -7,7 +7,7 @@ ghost use lib.ListN.{getD, length, take};
 ghost use Rattle.logic.specs.Layout.{write};
 ghost use Rattle.compare.specs.code.Codes.{OnPath, Stepped, Writable, numbersBy, specimenNumber, treeBy};
 use crate::places::push_place;
-use crate::table::wide;
+use base::wide;
 use blocks::Entry;
 
 // Pushes the rows of the place below row i, where row i leads to one.

@@ -12,20 +12,6 @@ ghost use Rattle.compare.specs.code.Table.{Ranked, Rising, Table, Unpack
 ghost use Rattle.meaning.specs.Lookup.{entryFor};
 use blocks::Entry;
 
-// An entry's number as an index.
-pub(crate) fn wide(x: u16) -> usize
-    ensures { λ r. ⌜ (r ≡ x) × (r < 65536) ⌝ }
-{
-    x as usize
-}
-
-// A name or a number of an entry in 64 bits.
-pub(crate) fn long(x: u16) -> u64
-    ensures { λ r. ⌜ (r ≡ x) × (r < 65536) ⌝ }
-{
-    x as u64
-}
-
 // The number of an entry.
 fn word_of(e: Entry) -> u64
     ensures { λ r. ⌜ r ≡ wordOf e ⌝ }

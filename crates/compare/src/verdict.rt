@@ -35,7 +35,7 @@ fn write_specimen(
     unpack(normal, k, &mut form);
     let mut links = [0u16; 32];
     let m = links_up(d, total, n, &mut links);
-    let e = blocks::nth_entry(d, total, n);
+    let e = lent::entry_held(d, total, n);
     let mut rows = [0u64; 2016];
     let count = specimen_rows(&form, k, &links, m, e, &mut rows);
     writing::write_entries(out, &rows, count);

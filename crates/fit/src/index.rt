@@ -5,17 +5,11 @@ ghost use Prim.Native.Nat.{_+_, _≤_, _<_};
 ghost use lib.ListN.{length, getD, replicate};
 ghost use Rattle.blocks.specs.Entries.{entriesOf};
 ghost use Rattle.fit.specs.code.Index.{Ordered, Ready, bucketIn, hashOf};
+use base::wide;
 use blocks::Entry;
 use blocks::Link;
 use blocks::Property;
 use blocks::Schema;
-
-// An entry number as an index.
-fn wide(x: u16) -> usize
-    ensures { λ r. ⌜ (r ≡ x) × (r < 65536) ⌝ }
-{
-    x as usize
-}
 
 // The bucket of an owner, a kind and a name. Of one kind and name, different owners have different buckets: so all groups together look at
 // each entry of a specimen at most once for an entry of a description, whatever names were chosen.

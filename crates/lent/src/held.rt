@@ -1,7 +1,7 @@
 // The entries of an input, read by number straight from the lent blocks: a small struct holds the input and its total.
 //
-// A function that takes or makes the struct is proved by a walk of its own. `total_read` and `read_entry` have plain parameters,
-// and serve every other caller.
+// A function that takes or makes the struct is proved by a walk of its own. `total_read`, `read_entry` and `entry_held` have plain
+// parameters, and serve every other caller.
 ghost use mathlib.Core.Path.{_≡_};
 ghost use Rattle.blocks.specs.Entries.{entryOf};
 ghost use Rattle.blocks.specs.Reading.{totalRead};
@@ -11,7 +11,7 @@ use blocks::Schema;
 use blocks::nth_entry;
 use reading::read;
 
-// An input, lent, and how many entries it has. Only `entries_of` makes one.
+// An input, lent, and how many entries it has. Only `entries_of` and `entry_held` make one.
 pub struct Entries<'a> {
     blocks: &'a [u8],
     total: usize,
@@ -60,4 +60,12 @@ pub fn read_entry(s: &[u8], schema: Schema, number: usize) -> Entry
     ensures { λ r. ⌜ r ≡ entryOf (now (s .entry)) (totalRead schema (now (s .entry))) number ⌝ }
 {
     entries_of(s, schema).get(number)
+}
+
+// The entry of a number, counted from 1, of an input whose total is known: the zero entry for 0 and above the total. Nothing is read but
+// the entry.
+pub fn entry_held(s: &[u8], total: usize, number: usize) -> Entry
+    ensures { λ r. ⌜ r ≡ entryOf (now (s .entry)) total number ⌝ }
+{
+    Entries { blocks: s, total }.get(number)
 }

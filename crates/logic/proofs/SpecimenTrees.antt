@@ -16,9 +16,9 @@ pub mod WitnessTree
 pub mod WitnessKeeps
 -- Names and counts of a comparison's specimen: they are those of the normal form, of the path and of the entry that fails.
 pub mod WitnessFields
--- A measure of a comparison's specimen, whatever takes entries together: their number and their levels are the cases.
+-- A measure of a comparison's specimen.
 pub mod WitnessMeasure
--- The size of a comparison's specimen.
+-- The size of a comparison's specimen: its entries are at most those of the normal form, those of the path and one.
 pub mod WitnessSize
 -- A comparison's specimen is no deeper than the normal form and the path of links.
 pub mod WitnessLevels

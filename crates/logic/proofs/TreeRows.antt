@@ -6,3 +6,5 @@ pub mod LayoutLaws
 pub mod AllEntries
 -- The entries of several owners together.
 pub mod MergedRows
+-- Laws of tables that are filled row by row, and of the jobs that they stand for.
+pub mod FillLaws

@@ -22,3 +22,5 @@ pub mod SpecimenTree
 pub mod Witness
 -- A tree written as rows, breadth first: the entries of one owner after the other, owners in the order in which they stand.
 pub mod Layout
+-- Tables that are filled row by row, with a code noted for each row that leads to a place, and the jobs that such a table stands for.
+pub mod Filling

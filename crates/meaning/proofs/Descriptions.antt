@@ -16,3 +16,5 @@ pub mod LinkPaths
 pub mod OwnedLaws
 -- Looking entries up by owner, kind and name: what a place lists, and the place below a link, by the first entry that matches.
 pub mod Lookups
+-- A tree whose places ascend by kind and name, written as rows: their entries ascend by owner, then kind, then name.
+pub mod LaidAscends

@@ -20,3 +20,5 @@ pub mod RulesExamples
 pub mod NormalEntriesLaws
 -- The converse of `no-rule`.
 pub mod Irreducible
+-- A legal list of entries that ascends is the breadth-first layout of its own tree: what is written from the tree are its rows.
+pub mod WrittenAgain

@@ -1,5 +1,3 @@
--- Laws of tables that are filled row by row, and of the jobs that they stand for.
-pub mod FillLaws
 -- The normal form's answer by the ways through it: refused, or normalised.
 pub mod AnswerLaws
 -- Number 7 of the normal form: exactly where the input is accepted and the output is shorter.

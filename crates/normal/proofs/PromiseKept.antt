@@ -14,7 +14,7 @@ use Rattle.blocks.proofs.Format.Lawful.{plain-lawful}
 use Rattle.blocks.proofs.Format.Lengths.{some-block, whole-blocks}
 use Rattle.blocks.proofs.Format.WordBytes.{Bytes}
 use Rattle.blocks.proofs.Refusing.Bounds.{AllBounded, encode-bytes, entries-bounded}
-use Rattle.blocks.proofs.RoundTrip.Accepting.{Sound, encoded-accepted, sound-of-accepted}
+use Rattle.blocks.proofs.RoundTrip.Accepting.{Sound, accepted-by-none, accepted-encodes, encoded-accepted, none-of-accepted, sound-of-accepted}
 use Rattle.blocks.proofs.RoundTrip.Decoding.{decode-encode, length-encode}
 use Rattle.blocks.proofs.RoundTrip.Faithful.{entries-limit, total-bound}
 use Rattle.blocks.specs.Encoding.{blocksFor, encode, firstBlocks}
@@ -24,11 +24,11 @@ use Rattle.blocks.specs.Reading.{readingOf}
 use Rattle.blocks.specs.declared.Entry.{Entry}
 use Rattle.blocks.specs.declared.Reading.the-variants as reading
 use Rattle.blocks.specs.declared.Schema.the-variants.{Description}
-use Rattle.meaning.proofs.NormalForms.Irreducible.{irreducible-fixed}
 use Rattle.meaning.proofs.NormalForms.NormalAscends.{normal-ascends}
 use Rattle.meaning.proofs.NormalForms.NormalEntriesLaws.{normal-again, normal-fewer, same-items}
 use Rattle.meaning.proofs.NormalForms.RulesLaws.{no-rule}
 use Rattle.meaning.proofs.NormalForms.NormalLegal.{normal-bounded, normal-legal}
+use Rattle.meaning.proofs.NormalForms.WrittenAgain.{entries-again}
 use Rattle.meaning.specs.NormalEntries.{normalEntries}
 use Rattle.meaning.specs.RowEntries.{entryBefore}
 use Rattle.meaning.specs.Rules.{Applies}
@@ -151,7 +151,16 @@ normal-bytes i d a b =
 
 -- ---- the rules leave nothing out
 
--- entries of an accepted description that ascend, and to which no rule applies, are their own normal form
-pub irreducible-own : (i : ℕ) (d : List ℕ) {n : ℕ} → readingOf Description i d ≡ reading.Accepted n → Sorted entryBefore (entriesOf d)
-    → ((k : ℕ) → Applies k (entriesOf d) → ⊥) → OwnNormalForm (entriesOf d)
-irreducible-own i d a up none = irreducible-fixed (entriesOf d) (sound-of-accepted Description i d a .entries) up none
+-- an accepted description whose entries ascend, and to which no rule applies, is normalised to its own bytes
+pub irreducible-own : (i : ℕ) (d : List ℕ) {n : ℕ} → readingOf Description i d ≡ reading.Accepted n → Bytes d → Sorted entryBefore (entriesOf d)
+    → ((k : ℕ) → Applies k (entriesOf d) → ⊥) → OwnNormalForm d
+irreducible-own i d a b up none out h =
+    let es : List Entry = entriesOf d in
+    let own : normalEntries es ≡ es = entries-again es (sound-of-accepted Description i d a .entries) up none in
+    let bytes : encode es ≡ d = accepted-encodes Description i d b a in
+    let size : 512 * blocksFor plain (length es) ≡ length d = sym (length-encode es) ∙ ap length bytes in
+    let r : Ready d out
+    = record { total = length es; read = accepted-by-none Description 1 d (none-of-accepted Description i d a .0); room = h } in (
+      normalised d out r ∙ ap (λ (l : List Entry). Normalised (length l)) own,
+      output-written d out r ∙ ap (λ (l : List Entry). encode l ++ drop (512 * blocksFor plain (length l)) out) own ∙ rw (bytes, size),
+    )

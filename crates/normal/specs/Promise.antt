@@ -12,8 +12,6 @@ use Rattle.blocks.specs.Reading.{readingOf}
 use Rattle.blocks.specs.declared.Entry.{Entry}
 use Rattle.blocks.specs.declared.Reading.the-variants as reading
 use Rattle.blocks.specs.declared.Schema.the-variants.{Description}
-use Rattle.logic.specs.Background.{unrestricted}
-use Rattle.logic.specs.Normal.{nf}
 use Rattle.logic.specs.Record.{Record, fits}
 use Rattle.meaning.specs.Description.{placeOf}
 use Rattle.meaning.specs.NormalEntries.{normalEntries}
@@ -57,6 +55,9 @@ NormalisedAs c n =
 abbrev pub Right : Line → Type 0
 Right (normalises c n) = NormalisedAs c n
 
--- "The rules leave nothing out": an accepted list of entries that ascends, and to which none of them applies, is its own normal form
-abbrev pub OwnNormalForm : List Entry → Type 0
-OwnNormalForm es = nf unrestricted (placeOf es 0) ≡ placeOf es 0
+-- "The rules leave nothing out": what holds of an accepted description whose entries ascend, and to which none of them applies. It is
+-- normalised to its own bytes, into each output that is as long
+abbrev pub OwnNormalForm : List ℕ → Type 0
+OwnNormalForm d =
+    (out : List ℕ) → length d ≤ length out
+    → (normaliseOf d out ≡ Normalised (length (entriesOf d))) × (normalisedOf d out ≡ d ++ drop (length d) out)

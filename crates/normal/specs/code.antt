@@ -2,7 +2,5 @@
 
 -- The slots in ascending order, as the code keeps them: numbers that hold a slot's key above its own number.
 pub mod Ordered
--- Tables that are filled row by row, with a code noted for each row that leads to a place, and the jobs that such a table stands for.
-pub mod Filling
 -- The rows of a place as plain lists, and the tables of the walk, as the code keeps them.
 pub mod Emitted

@@ -7,7 +7,7 @@ ghost use lib.ListN.{length, getD, replicate};
 ghost use Rattle.normal.specs.code.Ordered.{firstOfPlace, runOf};
 ghost use Rattle.normal.specs.code.Emitted.{Stepped, allRows, keepIn, placeRows, Pushed, Walkable};
 use crate::emit::push_place;
-use slots::wide;
+use base::wide;
 
 // Pushes the rows of the place below row k, where row k leads to one.
 fn push_below(

@@ -12,6 +12,7 @@ use native.Mathlib.Omega.{arith}
 use Rattle.base.proofs.Tests.{eqb-ne, eqb-eq, neither-left, neither-right, true-of-not}
 use Rattle.blocks.proofs.Format.Lawful.{plain-lawful}
 use Rattle.blocks.proofs.RoundTrip.Accepting.{sound-of-accepted}
+use Rattle.blocks.proofs.RoundTrip.Unbroken.{passing}
 use Rattle.blocks.specs.Faults.{lengthWrong}
 use Rattle.blocks.specs.Frame.{blocksIn}
 use Rattle.blocks.specs.Reading.{readingOf}

@@ -13,10 +13,7 @@ use blocks::Link;
 use blocks::Property;
 pub use input::compare_parts;
 pub use input::input_buffer;
-pub use lines::answer_line;
-pub use lines::specimen_line;
 pub use lines::specimen_lines;
-pub use split::first_length;
 pub use text::LINE_BYTES;
 pub use text::line_text;
 

@@ -5,7 +5,7 @@ use crate::Line;
 use compare::Comparison;
 
 // The first line: what the comparison answers.
-pub fn answer_line(answer: Comparison) -> Line
+pub(crate) fn answer_line(answer: Comparison) -> Line
     ensures { λ r. ⌜ r ≡ answerLine answer ⌝ }
 {
     match answer {
@@ -28,7 +28,7 @@ pub fn specimen_lines(answer: Comparison) -> u16
 
 // The line of entry n of a specimen that stands in `blocks` and has `total` entries: an entry of kind 7 is a group and has one item
 // more than its number says, any other is a property that its owner has. Entry 0 and entries above the total read as the zero entry.
-pub fn specimen_line(blocks: &[u8], total: usize, n: u16) -> Line
+pub(crate) fn specimen_line(blocks: &[u8], total: usize, n: u16) -> Line
     ensures { λ r. ⌜ r ≡ specimenLine (now (blocks .entry)) total n ⌝ }
 {
     let e = blocks::nth_entry(blocks, total, n as usize);

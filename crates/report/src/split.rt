@@ -6,7 +6,7 @@ ghost use Rattle.report.specs.Division.{firstLength};
 
 // The length of the first description: the offset of the first later whole block with number 1, which begins the second one; with no
 // such block, the whole length. Later means not the block at offset 0, whole that all its 512 bytes are there.
-pub fn first_length(s: &[u8]) -> usize
+pub(crate) fn first_length(s: &[u8]) -> usize
     ensures { λ r. ⌜ (r ≡ firstLength (now (s .entry))) × (r ≤ length (now (s .entry))) ⌝ }
 {
     let n = s.len() / 512;

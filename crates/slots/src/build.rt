@@ -9,8 +9,8 @@ ghost use Rattle.meaning.specs.Owned.{Owned};
 use crate::slots::NO_BOUND;
 use crate::slots::enter;
 use crate::slots::entry_key;
-use crate::slots::long;
-use crate::slots::wide;
+use base::long;
+use base::wide;
 
 // At least so many, by an entry of this kind and number.
 fn low_kind(kind: u8, number: u16) -> u64

@@ -15,7 +15,6 @@ pub use filling::fill;
 pub use slots::high_in;
 pub use slots::key_in;
 pub use slots::low_in;
-pub use slots::wide;
 
 // What filling tables with the slots of an input answers: how many there are; or the refusal's number, the input and the place.
 pub enum Slotting {

@@ -7,26 +7,15 @@ ghost use lib.ListN.{getD, set};
 ghost use Rattle.base.specs.Chain.{lastWhere};
 ghost use Rattle.passes.specs.code.Keys.{keyNumber};
 ghost use Rattle.slots.specs.code.Tables.{keyIn, lowPart, highPart, slotNumber, hashOf, Kept, Entered, linkKind, noBound};
+use base::larger;
+use base::long;
+use base::wide;
 use blocks::Entry;
 use blocks::Link;
 use blocks::Property;
 
 // The upper bound that stands for none: no bound of an entry is as large.
 pub(crate) const NO_BOUND: u64 = 65536;
-
-// An entry or slot number as an index.
-pub fn wide(x: u16) -> usize
-    ensures { λ r. ⌜ (r ≡ x) × (r < 65536) ⌝ }
-{
-    x as usize
-}
-
-// A place as a part of a key.
-pub(crate) fn long(x: u16) -> u64
-    ensures { λ r. ⌜ (r ≡ x) × (r < 65536) ⌝ }
-{
-    x as u64
-}
 
 // The key of a slot.
 pub fn key_in(x: u64) -> u64
@@ -55,12 +44,6 @@ pub(crate) fn make_slot(key: u64, lo: u64, hi: u64) -> u64
     ensures { λ r. ⌜ r ≡ slotNumber key lo hi ⌝ }
 {
     17179869184 * key + (131072 * lo + hi)
-}
-
-fn larger(a: u64, b: u64) -> u64
-    ensures { λ r. ⌜ r ≡ max a b ⌝ }
-{
-    if a < b { b } else { a }
 }
 
 fn smaller(a: u64, b: u64) -> u64

@@ -13,8 +13,8 @@ use native.Mathlib.Omega.{arith}
 use Rattle.base.proofs.Tests.{bool-cases, eq-cases, eq-eqb, ge-ltb, lt-ltb, ne-eqb}
 use Rattle.blocks.specs.declared.Entry.{Entry}
 use Rattle.compare.proofs.path.PathLaws.{length-up}
+use Rattle.compare.specs.code.Asked.{Small}
 use Rattle.compare.specs.code.Codes.{targetAt, targetBelow, upFrom}
-use Rattle.compare.specs.code.Table.{nameOr}
 use Rattle.logic.specs.Place.{Atom, Kind, atom, has, kindOf, lacks, least, most, nothing}
 use Rattle.logic.specs.Witness.{linksAt, on, propertiesAt, targetLinks, targetProperties, want, wantAt}
 use Rattle.meaning.specs.Description.{atomOf}
@@ -79,46 +79,50 @@ want-most least n x l e = cc
 want-most most n x l e = let q : l ≡ n = cc in rw (eq-eqb q)
 want-most nothing n x l e = cc
 
--- a name is never taken for none
-name-some : {x : ℕ} → x < 65536 → nameOr x ≡ x ∷ []
-name-some {x} h = rw (ne-eqb {m = x} {n = 65536} (λ q. omega arith))
+-- ---- names of two bytes
+
+pub none-small : Small []
+none-small x e = omega (arith, ap length e)
+
+pub one-small : {x : ℕ} → x < 65536 → Small (x ∷ [])
+one-small {x} h y e = let q : y ≡ x = cc in omega (arith, q)
 
 -- ---- the property that is asked for
 
 -- none before the end of the path
-pub property-before : (links : List ℕ) (a : Atom) {target m : ℕ} → target ≤ m → targetProperties (targetAt (upFrom links m) a target) ≡ nameOr 65536
+pub property-before : (links : List ℕ) (a : Atom) {target m : ℕ} → target ≤ m → targetProperties (targetAt (upFrom links m) a target) ≡ []
 unfolding targetAt
 property-before links a {target} h = eq-cases target 0 (λ e. rw (e, targetAt)) (λ e. rw (target-before links a e h))
 
 -- none at its end, if the entry is no 'lacks'
-pub property-none : (links : List ℕ) (e : Entry) {target m : ℕ} → m < target → target ≤ m + 1 → e .kind ≢ 2 → targetProperties (targetAt (upFrom links m) (atomOf e) target) ≡ nameOr 65536
+pub property-none : (links : List ℕ) (e : Entry) {target m : ℕ} → m < target → target ≤ m + 1 → e .kind ≢ 2 → targetProperties (targetAt (upFrom links m) (atomOf e) target) ≡ []
 property-none links e lo hi z = rw (target-end links (atomOf e) lo hi) (no-property (e .kind) (e .name) (e .number) z)
 
 -- that of a 'lacks'
-pub property-lacked : (links : List ℕ) (e : Entry) {target m r : ℕ} → m < target → target ≤ m + 1 → e .kind ≡ 2 → r ≡ e .name → r < 65536
-    → targetProperties (targetAt (upFrom links m) (atomOf e) target) ≡ nameOr r
-property-lacked links e lo hi k n h = rw (target-end links (atomOf e) lo hi, kind-lacks k, name-some h, n)
+pub property-lacked : (links : List ℕ) (e : Entry) {target m r : ℕ} → m < target → target ≤ m + 1 → e .kind ≡ 2 → r ≡ e .name
+    → targetProperties (targetAt (upFrom links m) (atomOf e) target) ≡ r ∷ []
+property-lacked links e lo hi k n = rw (target-end links (atomOf e) lo hi, kind-lacks k, n)
 
 -- ---- the link of which items are asked for
 
 -- none where nothing is asked
-pub link-none : (w : List ℕ) (a : Atom) {target : ℕ} → target ≡ 0 → targetLinks (targetAt w a target) ≡ nameOr 65536
+pub link-none : (w : List ℕ) (a : Atom) {target : ℕ} → target ≡ 0 → targetLinks (targetAt w a target) ≡ []
 unfolding targetAt
 link-none w a e = rw (e, targetAt)
 
 -- on the path the next link
-pub link-next : (links : List ℕ) (a : Atom) {target m r : ℕ} → target ≢ 0 → target ≤ m → r ≡ getD links (m - target) 0 → r < 65536
-    → targetLinks (targetAt (upFrom links m) a target) ≡ nameOr r
-link-next links a z h e b = rw (target-before links a z h, name-some b, e)
+pub link-next : (links : List ℕ) (a : Atom) {target m r : ℕ} → target ≢ 0 → target ≤ m → r ≡ getD links (m - target) 0
+    → targetLinks (targetAt (upFrom links m) a target) ≡ r ∷ []
+link-next links a z h e = rw (target-before links a z h, e)
 
 -- none at its end, if the entry is no 'most'
-pub link-other : (links : List ℕ) (e : Entry) {target m : ℕ} → m < target → target ≤ m + 1 → e .kind ≢ 4 → targetLinks (targetAt (upFrom links m) (atomOf e) target) ≡ nameOr 65536
+pub link-other : (links : List ℕ) (e : Entry) {target m : ℕ} → m < target → target ≤ m + 1 → e .kind ≢ 4 → targetLinks (targetAt (upFrom links m) (atomOf e) target) ≡ []
 link-other links e lo hi z = rw (target-end links (atomOf e) lo hi) (no-link (e .kind) (e .name) (e .number) z)
 
 -- that of a 'most'
-pub link-most : (links : List ℕ) (e : Entry) {target m r : ℕ} → m < target → target ≤ m + 1 → e .kind ≡ 4 → r ≡ e .name → r < 65536
-    → targetLinks (targetAt (upFrom links m) (atomOf e) target) ≡ nameOr r
-link-most links e lo hi k n h = rw (target-end links (atomOf e) lo hi, kind-most k, name-some h, n)
+pub link-most : (links : List ℕ) (e : Entry) {target m r : ℕ} → m < target → target ≤ m + 1 → e .kind ≡ 4 → r ≡ e .name
+    → targetLinks (targetAt (upFrom links m) (atomOf e) target) ≡ r ∷ []
+link-most links e lo hi k n = rw (target-end links (atomOf e) lo hi, kind-most k, n)
 
 -- ---- how many items are asked for by that link
 

@@ -1,46 +1,40 @@
 -- One place of the specimen: its properties and then its groups, with what the target asks for.
 -- Assumes nothing.
-use Prim.Native.Nat.{_%_, _*_, _+_, _/_, _≤_, max, pred, ℕ}
+use Prim.Native.Nat.{_%_, _*_, _+_, _/_, _<_, _≤_, max, pred, ℕ}
 use lib.ListN.{length}
 use mathlib.Core.List.{List, [], _∷_, map}
-use mathlib.Core.Logic.{_≢_}
-use mathlib.Core.Path.{_∙_, _≡_, ap, sym}
+use mathlib.Core.Path.{_∙_, _≡_, ap, refl}
 use native.Mathlib.Omega.{arith}
-use Rattle.base.proofs.Tests.{eq-cases, ne-eqb}
 use Rattle.blocks.specs.declared.Entry.{Entry}
-use Rattle.compare.proofs.places.SpanLaws.{around-none, leaf-numbers}
+use Rattle.compare.proofs.places.SpanLaws.{leaf-numbers}
 use Rattle.compare.proofs.specimen.LaidWalk.{numbers-length}
-use Rattle.compare.specs.code.Codes.{Writable, askedBy, groupsWith, jointsBy, leastFor, specimenNumber, targetAt, targetBelow, upFrom}
+use Rattle.compare.specs.code.Asked.{Small, namesWith, propertyIn}
+use Rattle.compare.specs.code.Codes.{Writable, groupsAround, jointsBy, leastFor, propertiesBy, specimenNumber, targetAt, targetBelow, upFrom}
 use Rattle.compare.specs.code.Laying.{Joint, Placed, Pushed, codes, joint, jointRows, leafRows, placeNumbers}
-use Rattle.compare.specs.code.Table.{around, entriesIn, nameOr, placeBelow}
+use Rattle.compare.specs.code.Table.{entriesIn, placeBelow}
+use Rattle.compare.specs.declared.asked.AskedProperty.{AskedProperty}
+use Rattle.compare.specs.declared.asked.AskedProperty.the-variants as property
+use Rattle.logic.proofs.TreeRows.FillLaws.{joined-after}
 use Rattle.logic.specs.SpecimenTree.{Group, group}
-use Rattle.logic.specs.Witness.{targetLinks, want}
+use Rattle.logic.specs.Witness.{targetLinks, targetProperties, want}
 use Rattle.meaning.specs.Description.{atomOf}
-use Rattle.normal.proofs.FillLaws.{joined-after}
 
 -- ---- what the target asks for
 
-around-same : {A : Type 0} (x : ℕ) (a : List A) (i j : A) (b : List A) → (x ≢ 65536 → i ≡ j) → around x a i b ≡ around x a j b
-around-same x a i j b f =
-    eq-cases x 65536
-    (λ e. around-none x a i b e ∙ sym (around-none x a j b e))
-    (λ z. rw (f z))
-
-name-some : {x : ℕ} → x ≢ 65536 → nameOr x ≡ x ∷ []
-name-some z = rw (ne-eqb z)
+-- the properties of a place, by what is asked for
+pub place-names : {form : List ℕ} {k : ℕ} {links : List ℕ} {m : ℕ} {e : Entry} → Writable form k links m e → (c : ℕ) (r : AskedProperty)
+    → Small (propertyIn r) → targetProperties (targetAt (upFrom links m) (atomOf e) (c / 1024)) ≡ propertyIn r
+    → propertiesBy form k links m e c ≡ namesWith form k (c % 1024) r
+place-names w c property.Nothing b q = w .properties c q
+place-names w c (property.Property p) b q = w .property-asked c (p .0) (b (p .0) refl) q
 
 -- the groups of a place, with the number and the code that the code computes for the link that is asked for
-pub asked-joints : (form : List ℕ) (k : ℕ) (links : List ℕ) (m : ℕ) (e : Entry) (c l : ℕ) {number next : ℕ} → Writable form k links m e → l ≤ 65536
-    → targetLinks (targetAt (upFrom links m) (atomOf e) (c / 1024)) ≡ nameOr l
-    → (l ≢ 65536 → targetLinks (targetAt (upFrom links m) (atomOf e) (c / 1024)) ≡ l ∷ []
-    → number ≡ pred (max (leastFor (entriesIn form k) (c % 1024) l) (want (targetAt (upFrom links m) (atomOf e) (c / 1024)) l)))
-    → (l ≢ 65536 → targetLinks (targetAt (upFrom links m) (atomOf e) (c / 1024)) ≡ l ∷ []
-    → next ≡ 1024 * targetBelow (upFrom links m) (c / 1024) l + placeBelow (entriesIn form k) (c % 1024) l)
-    → jointsBy form k links m e c ≡ groupsWith form k (c % 1024) l (joint (group l number) next)
-asked-joints form k links m e c l {number} {next} w b q f g =
-    w .groups c l b q
-    ∙ around-same l _ (askedBy form k links m e c l) (joint (group l number) next) _
-    (λ z. let s = q ∙ name-some z in rw (f z s, g z s))
+pub asked-joints : (form : List ℕ) (k : ℕ) (links : List ℕ) (m : ℕ) (e : Entry) (c l : ℕ) {number next : ℕ} → Writable form k links m e → l < 65536
+    → targetLinks (targetAt (upFrom links m) (atomOf e) (c / 1024)) ≡ l ∷ []
+    → number ≡ pred (max (leastFor (entriesIn form k) (c % 1024) l) (want (targetAt (upFrom links m) (atomOf e) (c / 1024)) l))
+    → next ≡ 1024 * targetBelow (upFrom links m) (c / 1024) l + placeBelow (entriesIn form k) (c % 1024) l
+    → jointsBy form k links m e c ≡ groupsAround form k (c % 1024) l (joint (group l number) next)
+asked-joints form k links m e c l {number} {next} w b q f g = w .group-asked c l b q ∙ rw (f, g)
 
 -- ---- the rows
 

@@ -1,22 +1,20 @@
 -- The spans of a place: their lengths, and what is pushed for a span, a name between, and the span after it.
 -- Assumes nothing.
-use Prim.Native.Nat.{_+_, _<_, _≤_, suc, zero, ℕ}
-use lib.Dec.{eqb, ltb}
+use Prim.Native.Nat.{_+_, _-_, _<_, _≤_, suc, zero, ℕ}
+use lib.Dec.{ltb}
 use lib.ListN.{getD, length, length-append}
-use mathlib.Core.Bool.{cond}
-use mathlib.Core.List.{List, [], _++_, _∷_, append-nil, map}
-use mathlib.Core.Logic.{_≢_}
+use mathlib.Core.List.{List, [], _++_, _∷_, map}
 use mathlib.Core.Path.{_∙_, _≡_, ap, refl}
 use native.Mathlib.Omega.{arith}
-use Rattle.base.proofs.Tests.{bool-cases, eq-cases, eq-eqb, ge-ltb, lt-cases, lt-ltb, ltb-ge, ltb-lt, ne-eqb}
+use Rattle.base.proofs.Tests.{bool-cases, eq-cases, ge-ltb, lt-cases, lt-ltb, ltb-ge, ltb-lt}
 use Rattle.blocks.specs.declared.Entry.{Entry}
 use Rattle.compare.proofs.specimen.LaidLaws.{codes-length}
-use Rattle.compare.specs.code.Codes.{groupsFrom, specimenNumber}
+use Rattle.compare.specs.code.Codes.{groupsAround, groupsFrom, specimenNumber}
 use Rattle.compare.specs.code.Laying.{Joint, Placed, Pushed, codes, joint, jointRows, leafRows}
-use Rattle.compare.specs.code.Table.{Ranked, Rising, around, namesFrom, rankOf}
+use Rattle.compare.specs.code.Table.{Ranked, Rising, entriesIn, namesAround, namesFrom, rankOf, spanFrom}
+use Rattle.logic.proofs.TreeRows.FillLaws.{joined-more, filled-more}
 use Rattle.logic.specs.SpecimenTree.{Group, group}
 use Rattle.logic.specs.Tree.{leafRow, nodeRow}
-use Rattle.normal.proofs.FillLaws.{joined-more, filled-more}
 
 -- ---- ranks as numbers
 
@@ -62,26 +60,6 @@ rank-ranked form (suc k) x rising =
       above = λ i l h. eq-cases i k (λ e. rw e last) (λ e. ih .above i (omega arith) (omega arith));
     }))
 
--- ---- around a name
-
-module _ {A : Type 0} (x : ℕ) (a : List A) (j : A) (b : List A) where
-  pub around-none : x ≡ 65536 → around x a j b ≡ a
-  unfolding around
-  around-none e = rw (eq-eqb e) (append-nil a)
-
-  pub around-some : x ≢ 65536 → around x a j b ≡ a ++ (j ∷ b)
-  unfolding around
-  around-some z = rw (ne-eqb z)
-
-  -- the first part has room if all have
-  pub around-first : (n : ℕ) → n + length (around x a j b) ≤ 2016 → n + length a ≤ 2016
-  unfolding around
-  around-first n h = omega (arith, h, length-append a (cond (eqb x 65536) [] (j ∷ b)))
-
-  -- so has what follows
-  pub around-rest : (n : ℕ) → n + length (around x a j b) ≤ 2016 → x ≢ 65536 → n + length a + 1 + length b ≤ 2016
-  around-rest n h z = let e = ap length (around-some z) ∙ length-append a (j ∷ b) in omega (arith, h, e)
-
 -- ---- lengths
 
 pub names-length : (form : List ℕ) (i n : ℕ) → length (namesFrom form i n) ≡ n
@@ -93,6 +71,40 @@ pub groups-length : (es : List Entry) (form : List ℕ) (v i n : ℕ) → length
 unfolding groupsFrom
 groups-length es form v i zero = refl
 groups-length es form v i (suc n) = omega (arith, groups-length es form v (suc i) n)
+
+-- ---- room for what stands around a name
+
+-- the first part has room if all have, and so has what follows
+module _ (form : List ℕ) (k v κ x n : ℕ) (h : n + length (namesAround form k v κ x) ≤ 2016) where
+  names-sum : length (namesAround form k v κ x)
+      ≡ (spanFrom form k v κ x - spanFrom form k v κ 0) + suc (spanFrom form k v (suc κ) 0 - spanFrom form k v κ (suc x))
+  names-sum =
+      length-append (namesFrom form (spanFrom form k v κ 0) (spanFrom form k v κ x - spanFrom form k v κ 0)) _
+      ∙ rw (
+        names-length form (spanFrom form k v κ 0) (spanFrom form k v κ x - spanFrom form k v κ 0),
+        names-length form (spanFrom form k v κ (suc x)) (spanFrom form k v (suc κ) 0 - spanFrom form k v κ (suc x)),
+      )
+
+  pub names-first : n + (spanFrom form k v κ x - spanFrom form k v κ 0) ≤ 2016
+  names-first = omega (arith, h, names-sum)
+
+  pub names-rest : n + (spanFrom form k v κ x - spanFrom form k v κ 0) + 1 + (spanFrom form k v (suc κ) 0 - spanFrom form k v κ (suc x)) ≤ 2016
+  names-rest = omega (arith, h, names-sum)
+
+module _ (form : List ℕ) (k v x : ℕ) (j : Joint Group) (n : ℕ) (h : n + length (groupsAround form k v x j) ≤ 2016) where
+  groups-sum : length (groupsAround form k v x j) ≡ (spanFrom form k v 3 x - spanFrom form k v 3 0) + suc (spanFrom form k v 4 0 - spanFrom form k v 3 (suc x))
+  groups-sum =
+      length-append (groupsFrom (entriesIn form k) form v (spanFrom form k v 3 0) (spanFrom form k v 3 x - spanFrom form k v 3 0)) _
+      ∙ rw (
+        groups-length (entriesIn form k) form v (spanFrom form k v 3 0) (spanFrom form k v 3 x - spanFrom form k v 3 0),
+        groups-length (entriesIn form k) form v (spanFrom form k v 3 (suc x)) (spanFrom form k v 4 0 - spanFrom form k v 3 (suc x)),
+      )
+
+  pub groups-first : n + (spanFrom form k v 3 x - spanFrom form k v 3 0) ≤ 2016
+  groups-first = omega (arith, h, groups-sum)
+
+  pub groups-rest : n + (spanFrom form k v 3 x - spanFrom form k v 3 0) + 1 + (spanFrom form k v 4 0 - spanFrom form k v 3 (suc x)) ≤ 2016
+  groups-rest = omega (arith, h, groups-sum)
 
 -- ---- rows
 
@@ -131,29 +143,22 @@ groups-total o es form v i m p = p .total ∙ rw (joint-numbers o (groupsFrom es
 
 -- ---- properties pushed around a name
 
-module _ (o x : ℕ) (a b : List ℕ) {rows rows₁ : List ℕ} {n n₁ : ℕ} (p : Pushed rows n (map specimenNumber (leafRows o a)) rows₁ n₁) where
-  pub leaves-none : x ≡ 65536 → Pushed rows n (map specimenNumber (leafRows o (around x a x b))) rows₁ n₁
-  leaves-none e = rw (around-none x a x b e) p
-
-  pub leaves-some : {rows₂ rows₃ : List ℕ} {n₂ n₃ : ℕ} → x ≢ 65536 → Pushed rows₁ n₁ (specimenNumber (leafRow o x) ∷ []) rows₂ n₂
-      → Pushed rows₂ n₂ (map specimenNumber (leafRows o b)) rows₃ n₃ → Pushed rows n (map specimenNumber (leafRows o (around x a x b))) rows₃ n₃
-  unfolding leafRows
-  leaves-some z q r = rw (around-some x a x b z, leaves-append o a (x ∷ b)) (filled-more p (filled-more q r))
+pub leaves-around : (o x : ℕ) (a b : List ℕ) {rows rows₁ rows₂ rows₃ : List ℕ} {n n₁ n₂ n₃ : ℕ} → Pushed rows n (map specimenNumber (leafRows o a)) rows₁ n₁
+    → Pushed rows₁ n₁ (specimenNumber (leafRow o x) ∷ []) rows₂ n₂ → Pushed rows₂ n₂ (map specimenNumber (leafRows o b)) rows₃ n₃
+    → Pushed rows n (map specimenNumber (leafRows o (a ++ (x ∷ b)))) rows₃ n₃
+unfolding leafRows
+leaves-around o x a b p q r = rw (leaves-append o a (x ∷ b)) (filled-more p (filled-more q r))
 
 -- ---- groups pushed around a link
 
-module _ (o x m code : ℕ) (a b : List (Joint Group)) {rows rows₁ below below₁ : List ℕ} {n n₁ : ℕ}
-    (p : Placed rows n (map specimenNumber (jointRows o a)) below (n + 1) (codes a) rows₁ n₁ below₁) where
-  pub joints-none : x ≡ 65536 → Placed rows n (map specimenNumber (jointRows o (around x a (joint (group x m) code) b))) below (n + 1) (codes (around x a (joint (group x m) code) b)) rows₁ n₁ below₁
-  joints-none e = rw (around-none x a (joint (group x m) code) b e) p
-
-  pub joints-some : {rows₂ rows₃ below₂ below₃ : List ℕ} {n₂ n₃ : ℕ} → x ≢ 65536
-      → Placed rows₁ n₁ (specimenNumber (nodeRow o (group x m)) ∷ []) below₁ (n₁ + 1) (code ∷ []) rows₂ n₂ below₂
-      → Placed rows₂ n₂ (map specimenNumber (jointRows o b)) below₂ (n₂ + 1) (codes b) rows₃ n₃ below₃
-      → Placed rows n (map specimenNumber (jointRows o (around x a (joint (group x m) code) b))) below (n + 1) (codes (around x a (joint (group x m) code) b)) rows₃ n₃ below₃
-  unfolding jointRows codes
-  joints-some {n₂ = n₂} z q r =
-      let one : n₂ + 1 ≡ n₁ + 1 + 1 = omega (arith, q .pushed .total) in
-      let two : n₁ + 1 ≡ n + 1 + length (codes a) = omega (arith, p .pushed .total, joint-numbers o a, codes-length a) in
-      rw (around-some x a (joint (group x m) code) b z, joints-append o a (joint (group x m) code ∷ b), codes-append a (joint (group x m) code ∷ b))
-      (joined-more p (joined-more q r one) two)
+pub joints-around : (o x m code : ℕ) (a b : List (Joint Group)) {rows rows₁ rows₂ rows₃ below below₁ below₂ below₃ : List ℕ} {n n₁ n₂ n₃ : ℕ}
+    → Placed rows n (map specimenNumber (jointRows o a)) below (n + 1) (codes a) rows₁ n₁ below₁
+    → Placed rows₁ n₁ (specimenNumber (nodeRow o (group x m)) ∷ []) below₁ (n₁ + 1) (code ∷ []) rows₂ n₂ below₂
+    → Placed rows₂ n₂ (map specimenNumber (jointRows o b)) below₂ (n₂ + 1) (codes b) rows₃ n₃ below₃
+    → Placed rows n (map specimenNumber (jointRows o (a ++ (joint (group x m) code ∷ b)))) below (n + 1) (codes (a ++ (joint (group x m) code ∷ b))) rows₃ n₃ below₃
+unfolding jointRows codes
+joints-around o x m code a b {n = n} {n₁ = n₁} {n₂ = n₂} p q r =
+    let one : n₂ + 1 ≡ n₁ + 1 + 1 = omega (arith, q .pushed .total) in
+    let two : n₁ + 1 ≡ n + 1 + length (codes a) = omega (arith, p .pushed .total, joint-numbers o a, codes-length a) in
+    rw (joints-append o a (joint (group x m) code ∷ b), codes-append a (joint (group x m) code ∷ b))
+    (joined-more p (joined-more q r one) two)

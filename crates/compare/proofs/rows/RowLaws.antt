@@ -11,9 +11,9 @@ use Rattle.blocks.specs.declared.Entry.{Entry}
 use Rattle.compare.specs.code.Codes.{groupsFrom, specimenNumber}
 use Rattle.compare.specs.code.Laying.{Joint, Placed, codes, joint, jointRows}
 use Rattle.compare.specs.code.Table.{nameIn, namesFrom, numberIn, placeBelow}
+use Rattle.logic.proofs.TreeRows.FillLaws.{joined-more}
 use Rattle.logic.specs.SpecimenTree.{Group, group}
 use Rattle.logic.specs.Tree.{nodeRow}
-use Rattle.normal.proofs.FillLaws.{joined-more}
 
 -- ---- the words of a span
 

@@ -8,9 +8,9 @@ use native.Mathlib.Nat.{add-zero}
 use native.Mathlib.Omega.{arith}
 use Rattle.compare.specs.code.Laying.{Joint, codes, joint, jointRows, joints, leafRows, leaves}
 use Rattle.logic.proofs.TreeRows.LayoutLaws.{load, load-later}
+use Rattle.logic.specs.Filling.{laterEach}
 use Rattle.logic.specs.Layout.{Queue, done, job, later, lay, weight}
 use Rattle.logic.specs.Tree.{Row, Tree, leafRow, nodeRow}
-use Rattle.normal.specs.code.Filling.{laterEach}
 
 -- ---- one code for each node
 

@@ -10,11 +10,11 @@ use native.Mathlib.Omega.{arith}
 use Rattle.base.proofs.Lists.{zeros-read}
 use Rattle.compare.proofs.specimen.LaidLaws.{codes-length, done-laid, joint-length, leaf-length, place-laid, place-load}
 use Rattle.compare.specs.code.Laying.{Joint, Placed, codes, joints, leaves, placeNumbers}
+use Rattle.logic.proofs.TreeRows.FillLaws.{Codes, noted-after, noted-good, noted-length, queue-each, queue-next, queue-none, queue-past}
 use Rattle.logic.proofs.TreeRows.LayoutLaws.{load}
+use Rattle.logic.specs.Filling.{laterEach, queueFrom}
 use Rattle.logic.specs.Layout.{Queue, done, job, lay, weight, write}
 use Rattle.logic.specs.Tree.{Row, Tree}
-use Rattle.normal.proofs.FillLaws.{Codes, noted-after, noted-good, noted-length, queue-each, queue-next, queue-none, queue-past}
-use Rattle.normal.specs.code.Filling.{laterEach, queueFrom}
 
 -- ---- the numbers of a place
 

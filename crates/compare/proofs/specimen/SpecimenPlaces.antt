@@ -23,6 +23,7 @@ use Rattle.compare.specs.code.Laying.{codes, joint, joints, leaves}
 use Rattle.compare.specs.code.Table.{Table, placeBelow}
 use Rattle.logic.proofs.SpecimenTrees.Names.{member-names}
 use Rattle.logic.proofs.SpecimenTrees.WitnessTree.{below-witness}
+use Rattle.logic.proofs.TreeRows.FillLaws.{Codes}
 use Rattle.logic.specs.Background.{unrestricted}
 use Rattle.logic.specs.Canonical.{Canonical, canonical}
 use Rattle.logic.specs.Normal.{find, found}
@@ -32,7 +33,6 @@ use Rattle.logic.specs.Witness.{Target, below, build, countFor, groupsBy, membe
 use Rattle.meaning.proofs.Descriptions.Lookups.{match-within}
 use Rattle.meaning.specs.Description.{placeOf}
 use Rattle.meaning.specs.Lookup.{entryFor}
-use Rattle.normal.proofs.FillLaws.{Codes}
 
 -- ---- the target, by its number
 

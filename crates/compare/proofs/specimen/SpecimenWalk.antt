@@ -14,10 +14,10 @@ use Rattle.compare.proofs.specimen.SpecimenPlaces.{codes-good}
 use Rattle.compare.specs.code.Codes.{OnPath, PlacedBy, Stepped, Writable, jointsBy, numbersBy, propertiesBy, specimenNumber, treeBy, upFrom}
 use Rattle.compare.specs.code.Laying.{Joint, codes, joints, leaves}
 use Rattle.compare.specs.code.Table.{entriesIn}
+use Rattle.logic.proofs.TreeRows.FillLaws.{Codes}
 use Rattle.logic.specs.Layout.{write}
 use Rattle.logic.specs.SpecimenTree.{Group, SpecimenTree}
 use Rattle.meaning.specs.Description.{atomOf}
-use Rattle.normal.proofs.FillLaws.{Codes}
 
 codes-as : {P Q : ℕ → Type 0} → ((c : ℕ) → P c → Q c) → (cs : List ℕ) → Codes P cs → Codes Q cs
 codes-as f [] h = tt

@@ -9,7 +9,7 @@ use Rattle.base.proofs.Tests.{eq-cases, eq-eqb, ne-eqb}
 use Rattle.blocks.specs.Promise.{Legal}
 use Rattle.blocks.specs.declared.Entry.{Entry}
 use Rattle.blocks.specs.declared.Schema.the-variants.{Description}
-use Rattle.compare.specs.code.Table.{placeBelow}
+use Rattle.compare.specs.code.Table.{nowhere, placeBelow}
 use Rattle.logic.specs.Normal.{sub}
 use Rattle.meaning.proofs.Descriptions.Lookups.{place-end, sub-none, sub-some}
 use Rattle.meaning.specs.Description.{placeOf}
@@ -20,5 +20,5 @@ pub sub-place : (es : List Entry) → Legal Description es → length es ≤ 100
 unfolding placeBelow
 sub-place es legal few v l =
     eq-cases (entryFor es v 5 l) 0
-    (λ z. rw (eq-eqb z) (sub-none es legal v l z ∙ sym (place-end es legal 1023 (omega arith))))
+    (λ z. rw (eq-eqb z) (sub-none es legal v l z ∙ sym (place-end es legal nowhere (omega arith))))
     (λ z. rw (ne-eqb z) (sub-some es legal v l refl z))

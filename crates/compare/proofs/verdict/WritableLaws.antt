@@ -18,11 +18,11 @@ use Rattle.blocks.specs.declared.Entry.{Entry}
 use Rattle.blocks.specs.declared.Schema.{Schema}
 use Rattle.blocks.specs.declared.Schema.the-variants.{Description}
 use Rattle.compare.proofs.lookup.GroupSpans.{groups-extra, groups-plain, properties-extra, properties-plain}
-use Rattle.compare.proofs.places.SpanLaws.{around-none, around-some, rank-ranked}
+use Rattle.compare.proofs.places.SpanLaws.{rank-ranked}
 use Rattle.compare.proofs.specimen.SpecimenPlaces.{tree-places}
 use Rattle.compare.proofs.table.NormalTable.{normal-canonical, normal-table}
-use Rattle.compare.specs.code.Codes.{Writable, askedBy, codeBelow, groupAt, groupsWith, jointsBy, leastFor, propertiesBy, specimenNumber, targetAt, treeAt, treeBy, upFrom}
-use Rattle.compare.specs.code.Table.{Formed, Narrow, Ranked, Table, Unpacked, entriesFrom, entriesIn, entryIn, keyOf, nameIn, nameOr, namesWith, numberIn, spanFrom, wordOf}
+use Rattle.compare.specs.code.Codes.{Writable, askedBy, codeBelow, groupAt, groupsAround, groupsIn, jointsBy, leastFor, propertiesBy, specimenNumber, targetAt, treeAt, treeBy, upFrom}
+use Rattle.compare.specs.code.Table.{Formed, Narrow, Ranked, Table, Unpacked, entriesFrom, entriesIn, entryIn, keyOf, nameIn, namesAround, namesIn, numberIn, spanFrom, wordOf}
 use Rattle.logic.specs.Background.{unrestricted}
 use Rattle.logic.specs.Canonical.{Canonical}
 use Rattle.logic.specs.Layout.{write}
@@ -99,11 +99,6 @@ entries-are {es} {form} {k} t z =
 
 -- ---- what the tables give for a place
 
--- past the last name of a kind the next kind begins
-keys-next : (v κ : ℕ) → keyOf v κ 65536 ≡ keyOf v (suc κ) 0
-unfolding keyOf
-keys-next v κ = omega arith
-
 -- what an 'at least' of a link asks for, as the place lists it
 least-listed : (es : List Entry) → Legal Description es → (v l : ℕ) → leastFor es v l ≡ orZero (find least l (placeOf es v))
 unfolding leastFor
@@ -124,38 +119,35 @@ module _ (form : List ℕ) (k : ℕ) (formed : Formed form k) (legal : Legal Des
   span-ranked : (v κ x : ℕ) → Ranked form k (keyOf v κ x) (spanFrom form k v κ x)
   span-ranked v κ x = rank-ranked form k (keyOf v κ x) (formed .ascending)
 
-  -- a span that reaches past the last name ends where the next kind begins
-  span-end : (v κ : ℕ) {x : ℕ} → x ≡ 65536 → Ranked form k (keyOf v (suc κ) 0) (spanFrom form k v κ x)
-  span-end v κ q = rw (q, keys-next v κ) (span-ranked v (suc κ) 0)
-
-  -- the properties of a place
-  place-properties : (c x : ℕ) → x ≤ 65536 → targetProperties (targetAt w (atomOf e) (c / 1024)) ≡ nameOr x
-      → propertiesBy form k links m e c ≡ namesWith form k (c % 1024) 1 x
-  place-properties c x h g =
+  -- the properties of a place, where none is asked for, and where x is
+  place-properties : (c : ℕ) → targetProperties (targetAt w (atomOf e) (c / 1024)) ≡ [] → propertiesBy form k links m e c ≡ namesIn form k (c % 1024) 1
+  place-properties c g =
       let v : ℕ = c % 1024 in
-      eq-cases x 65536
-      (λ q. rw (around-none x _ x _ q)
-      (properties-plain es legal normal form k formed w (atomOf e) c (g ∙ rw (eq-eqb q)) (span-ranked v 1 0) (span-end v 1 q)))
-      (λ z. rw (around-some x _ x _ z)
-      (properties-extra es legal normal form k formed w (atomOf e) c x (omega arith) (g ∙ rw (ne-eqb z))
-      (span-ranked v 1 0) (span-ranked v 1 x) (span-ranked v 1 (suc x)) (span-ranked v 2 0)))
+      properties-plain es legal normal form k formed w (atomOf e) c g (span-ranked v 1 0) (span-ranked v 2 0)
+
+  place-property : (c x : ℕ) → x < 65536 → targetProperties (targetAt w (atomOf e) (c / 1024)) ≡ x ∷ []
+      → propertiesBy form k links m e c ≡ namesAround form k (c % 1024) 1 x
+  place-property c x h g =
+      let v : ℕ = c % 1024 in
+      properties-extra es legal normal form k formed w (atomOf e) c x h g (span-ranked v 1 0) (span-ranked v 1 x) (span-ranked v 1 (suc x)) (span-ranked v 2 0)
 
   -- the group of the link that the target asks for
   group-asked : (c l : ℕ) → groupAt es w (atomOf e) c l ≡ askedBy form k links m e c l
   unfolding codeBelow
   group-asked c l = rw (least-listed es legal (c % 1024) l)
 
-  -- the groups of a place
-  place-groups : (c x : ℕ) → x ≤ 65536 → targetLinks (targetAt w (atomOf e) (c / 1024)) ≡ nameOr x
-      → jointsBy form k links m e c ≡ groupsWith form k (c % 1024) x (askedBy form k links m e c x)
-  place-groups c x h g =
+  -- the groups of a place, where none is asked for, and where that of link x is
+  place-groups : (c : ℕ) → targetLinks (targetAt w (atomOf e) (c / 1024)) ≡ [] → jointsBy form k links m e c ≡ groupsIn form k (c % 1024)
+  place-groups c g =
       let v : ℕ = c % 1024 in
-      eq-cases x 65536
-      (λ q. rw (around-none x _ (askedBy form k links m e c x) _ q)
-      (groups-plain es legal normal form k formed w (atomOf e) c (g ∙ rw (eq-eqb q)) (span-ranked v 3 0) (span-end v 3 q)))
-      (λ z. rw (around-some x _ (askedBy form k links m e c x) _ z, ← (group-asked c x))
-      (groups-extra es legal normal form k formed w (atomOf e) c x (omega arith) (g ∙ rw (ne-eqb z))
-      (span-ranked v 3 0) (span-ranked v 3 x) (span-ranked v 3 (suc x)) (span-ranked v 4 0)))
+      groups-plain es legal normal form k formed w (atomOf e) c g (span-ranked v 3 0) (span-ranked v 4 0)
+
+  place-group : (c x : ℕ) → x < 65536 → targetLinks (targetAt w (atomOf e) (c / 1024)) ≡ x ∷ []
+      → jointsBy form k links m e c ≡ groupsAround form k (c % 1024) x (askedBy form k links m e c x)
+  place-group c x h g =
+      let v : ℕ = c % 1024 in
+      rw (← (group-asked c x))
+      (groups-extra es legal normal form k formed w (atomOf e) c x h g (span-ranked v 3 0) (span-ranked v 3 x) (span-ranked v 3 (suc x)) (span-ranked v 4 0))
 
 -- ---- the tables of a comparison
 
@@ -216,7 +208,9 @@ module _ {c d : List Entry} {n : ℕ} {form : List ℕ} {k : ℕ} {links : List 
         formed = formed;
         short = t .short;
         properties = place-properties form k formed legal normal links m (nth d n);
+        property-asked = place-property form k formed legal normal links m (nth d n);
         groups = place-groups form k formed legal normal links m (nth d n);
+        group-asked = place-group form k formed legal normal links m (nth d n);
         trees = tree-places (entriesIn form k) legal normal form k formed (upFrom links m) (atomOf (nth d n));
         room = tables-room;
       }

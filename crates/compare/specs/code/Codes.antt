@@ -1,17 +1,17 @@
 -- The places of a specimen as codes: a place of the normal form, and how far on the path to the entry that fails. No public promise
 -- names these.
 -- Assumes nothing.
-use Prim.Native.Nat.{_%_, _*_, _+_, _-_, _/_, _≤_, max, pred, suc, zero, ℕ}
+use Prim.Native.Nat.{_%_, _*_, _+_, _-_, _/_, _<_, _≤_, max, pred, suc, zero, ℕ}
 use lib.Dec.{eqb, ltb}
 use lib.ListN.{drop, getD, length}
 use mathlib.Core.Bool.{_&&_, cond}
-use mathlib.Core.List.{List, [], _∷_, map}
+use mathlib.Core.List.{List, [], _++_, _∷_, map}
 use mathlib.Core.Logic.{_≢_}
 use mathlib.Core.Path.{_≡_}
 use Rattle.blocks.specs.Entries.{nth, packed}
 use Rattle.blocks.specs.declared.Entry.{Entry}
 use Rattle.compare.specs.code.Laying.{Joint, Placed, codes, joint, joints, leaves, placeNumbers}
-use Rattle.compare.specs.code.Table.{Formed, around, entriesIn, nameIn, nameOr, namesWith, numberIn, placeBelow, spanFrom}
+use Rattle.compare.specs.code.Table.{Formed, entriesIn, nameIn, namesAround, namesIn, numberIn, placeBelow, spanFrom}
 use Rattle.logic.specs.Layout.{write}
 use Rattle.logic.specs.Place.{Atom, has, least}
 use Rattle.logic.specs.SpecimenTree.{Group, SpecimenTree, group}
@@ -56,11 +56,15 @@ groupsFrom es form v i (suc n) =
     joint (group (nameIn (getD form i 0)) (pred (numberIn (getD form i 0)))) (placeBelow es v (nameIn (getD form i 0)))
     ∷ groupsFrom es form v (suc i) n
 
--- those of the names of place v, and the group j of the link x, where there is one
-abbrev pub groupsWith : List ℕ → ℕ → ℕ → ℕ → Joint Group → List (Joint Group)
-groupsWith form k v x j =
-    around x (groupsFrom (entriesIn form k) form v (spanFrom form k v 3 0) (spanFrom form k v 3 x - spanFrom form k v 3 0)) j
-    (groupsFrom (entriesIn form k) form v (spanFrom form k v 3 (suc x)) (spanFrom form k v 4 0 - spanFrom form k v 3 (suc x)))
+-- those of the links of place v
+abbrev pub groupsIn : List ℕ → ℕ → ℕ → List (Joint Group)
+groupsIn form k v = groupsFrom (entriesIn form k) form v (spanFrom form k v 3 0) (spanFrom form k v 4 0 - spanFrom form k v 3 0)
+
+-- and the group j of the link x: those of the links below it, j, and those of the links above it
+abbrev pub groupsAround : List ℕ → ℕ → ℕ → ℕ → Joint Group → List (Joint Group)
+groupsAround form k v x j =
+    groupsFrom (entriesIn form k) form v (spanFrom form k v 3 0) (spanFrom form k v 3 x - spanFrom form k v 3 0)
+    ++ (j ∷ groupsFrom (entriesIn form k) form v (spanFrom form k v 3 (suc x)) (spanFrom form k v 4 0 - spanFrom form k v 3 (suc x)))
 
 -- ---- the path as it is kept, from the entry up
 
@@ -100,15 +104,17 @@ askedBy form k links m e c l =
     joint (group l (pred (max (leastFor (entriesIn form k) (c % 1024) l) (want (targetAt (upFrom links m) (atomOf e) (c / 1024)) l))))
     (1024 * targetBelow (upFrom links m) (c / 1024) l + placeBelow (entriesIn form k) (c % 1024) l)
 
--- What the tables give for each place of the specimen: its properties and its groups in spans of the normal form, around what the target
--- asks for; and a table of 2,016 has room for all rows.
+-- What the tables give for each place of the specimen: its properties and its groups in spans of the normal form, whole or around what
+-- the target asks for; and a table of 2,016 has room for all rows.
 pub record Writable (form : List ℕ) (k : ℕ) (links : List ℕ) (m : ℕ) (e : Entry) : Type 0 where
   pub formed : Formed form k
   pub short : m ≤ 32
-  pub properties : (c x : ℕ) → x ≤ 65536 → targetProperties (targetAt (upFrom links m) (atomOf e) (c / 1024)) ≡ nameOr x
-      → propertiesBy form k links m e c ≡ namesWith form k (c % 1024) 1 x
-  pub groups : (c x : ℕ) → x ≤ 65536 → targetLinks (targetAt (upFrom links m) (atomOf e) (c / 1024)) ≡ nameOr x
-      → jointsBy form k links m e c ≡ groupsWith form k (c % 1024) x (askedBy form k links m e c x)
+  pub properties : (c : ℕ) → targetProperties (targetAt (upFrom links m) (atomOf e) (c / 1024)) ≡ [] → propertiesBy form k links m e c ≡ namesIn form k (c % 1024) 1
+  pub property-asked : (c x : ℕ) → x < 65536 → targetProperties (targetAt (upFrom links m) (atomOf e) (c / 1024)) ≡ x ∷ []
+      → propertiesBy form k links m e c ≡ namesAround form k (c % 1024) 1 x
+  pub groups : (c : ℕ) → targetLinks (targetAt (upFrom links m) (atomOf e) (c / 1024)) ≡ [] → jointsBy form k links m e c ≡ groupsIn form k (c % 1024)
+  pub group-asked : (c x : ℕ) → x < 65536 → targetLinks (targetAt (upFrom links m) (atomOf e) (c / 1024)) ≡ x ∷ []
+      → jointsBy form k links m e c ≡ groupsAround form k (c % 1024) x (askedBy form k links m e c x)
   pub trees : (c : ℕ) → treeBy form k links m e c ≡ leaves (propertiesBy form k links m e c) (joints (treeBy form k links m e) (jointsBy form k links m e c))
   pub room : length (write (treeBy form k links m e 1024)) ≤ 2016
 

@@ -3,8 +3,8 @@
 -- Assumes nothing.
 use Prim.Native.Nat.{ℕ}
 use mathlib.Core.List.{List, [], _++_, _∷_, map}
+use Rattle.logic.specs.Filling.{Filled, Joined}
 use Rattle.logic.specs.Tree.{Row, Tree, end, leaf, leafRow, node, nodeRow}
-use Rattle.normal.specs.code.Filling.{Filled, Joined}
 
 -- a node, and the code of the place below it
 pub data Joint (B : Type 0) : Type 0 where

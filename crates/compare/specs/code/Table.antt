@@ -42,9 +42,13 @@ entriesIn form k = entriesFrom form 0 k
 
 -- ---- looking up
 
--- the place that the link l leads to from place v; 1,023, which owns nothing, where no 'every' of l stands there
+-- the place of no number in the normal form: it owns nothing
+abbrev pub nowhere : ℕ
+nowhere = 1023
+
+-- the place that the link l leads to from place v; nowhere, where no 'every' of l stands there
 unfoldable pub placeBelow : List Entry → ℕ → ℕ → ℕ
-placeBelow es v l = cond (eqb (entryFor es v 5 l) 0) 1023 (entryFor es v 5 l)
+placeBelow es v l = cond (eqb (entryFor es v 5 l) 0) nowhere (entryFor es v 5 l)
 
 -- ---- the table
 
@@ -94,20 +98,16 @@ namesFrom form i (suc n) = nameIn (getD form i 0) ∷ namesFrom form (suc i) n
 
 -- ---- the names of one place and kind
 
--- a name that may be missing: 65,536 is none
-abbrev pub nameOr : ℕ → List ℕ
-nameOr x = cond (eqb x 65536) [] (x ∷ [])
-
 -- the indices of the first word of place v, kind κ and a name not below n
 abbrev pub spanFrom : List ℕ → ℕ → ℕ → ℕ → ℕ → ℕ
 spanFrom form k v κ n = rankOf form k (keyOf v κ n)
 
--- what stands before the name x, what stands for it, and what stands after it; where there is no x, only the first
-unfoldable pub around : {A : Type 0} → ℕ → List A → A → List A → List A
-around x before j after = before ++ cond (eqb x 65536) [] (j ∷ after)
+-- the names of place v and kind κ
+abbrev pub namesIn : List ℕ → ℕ → ℕ → ℕ → List ℕ
+namesIn form k v κ = namesFrom form (spanFrom form k v κ 0) (spanFrom form k v (suc κ) 0 - spanFrom form k v κ 0)
 
--- the names of place v and kind κ, and the name x once, where there is one
-abbrev pub namesWith : List ℕ → ℕ → ℕ → ℕ → ℕ → List ℕ
-namesWith form k v κ x =
-    around x (namesFrom form (spanFrom form k v κ 0) (spanFrom form k v κ x - spanFrom form k v κ 0)) x
-    (namesFrom form (spanFrom form k v κ (suc x)) (spanFrom form k v (suc κ) 0 - spanFrom form k v κ (suc x)))
+-- and the name x once: those below it, x, and those above it
+abbrev pub namesAround : List ℕ → ℕ → ℕ → ℕ → ℕ → List ℕ
+namesAround form k v κ x =
+    namesFrom form (spanFrom form k v κ 0) (spanFrom form k v κ x - spanFrom form k v κ 0)
+    ++ (x ∷ namesFrom form (spanFrom form k v κ (suc x)) (spanFrom form k v (suc κ) 0 - spanFrom form k v κ (suc x)))

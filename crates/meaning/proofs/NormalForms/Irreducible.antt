@@ -94,14 +94,20 @@ unowned k o (e ∷ es) h (suc p) l z =
 
 -- ---- fields of accepted entries
 
-number-ok : (e : Entry) → formOk Description e ≡ true → numberOk (e .kind) (e .number) ≡ true
+pub no-reserved : (e : Entry) → formOk Description e ≡ true → e .reserved ≡ 0
+unfolding formOk
+no-reserved e h =
+    let rest : Bool = nameOk (e .kind) (e .name) && numberOk (e .kind) (e .number) in
+    eqb-eq (and-left (eqb (e .reserved) 0) rest (and-right (kindOk Description (e .kind)) (eqb (e .reserved) 0 && rest) h))
+
+pub number-ok : (e : Entry) → formOk Description e ≡ true → numberOk (e .kind) (e .number) ≡ true
 unfolding formOk
 number-ok e h =
     let rest : Bool = nameOk (e .kind) (e .name) && numberOk (e .kind) (e .number) in
     let a : rest ≡ true = and-right (eqb (e .reserved) 0) rest (and-right (kindOk Description (e .kind)) (eqb (e .reserved) 0 && rest) h) in
     and-right (nameOk (e .kind) (e .name)) (numberOk (e .kind) (e .number)) a
 
-no-number : (k m : ℕ) → numberOk k m ≡ true → k ≢ 3 → k ≢ 4 → k ≢ 7 → m ≡ 0
+pub no-number : (k m : ℕ) → numberOk k m ≡ true → k ≢ 3 → k ≢ 4 → k ≢ 7 → m ≡ 0
 unfolding numberOk
 no-number k m h a b c = eqb-eq (rw (ne-eqb a, ne-eqb b, ne-eqb c) at h)
 
@@ -113,6 +119,11 @@ name-zero e h z =
     let a : rest ≡ true = and-right (eqb (e .reserved) 0) rest (and-right (kindOk Description (e .kind)) (eqb (e .reserved) 0 && rest) h) in
     let b : nameOk (e .kind) (e .name) ≡ true = and-left (nameOk (e .kind) (e .name)) (numberOk (e .kind) (e .number)) a in
     eqb-eq (rw z at b)
+
+-- each entry by its number
+pub itself : (all : List Entry) (p : ℕ) → p < length all → getD all p zeroEntry ≡ nth all (1 + p)
+unfolding nth
+itself all p l = let w : 1 + p ≡ suc p = omega arith in rw w
 
 module _ (all : List Entry) (legal : Legal Description all) (sorted : Sorted entryBefore all) (none-applies : (k : ℕ) → Applies k all → ⊥) where
   kinds-from : (k : ℕ) (es : List Entry) → 1 ≤ k → k + length es ≡ 1 + length all → ((p : ℕ) → p < length es → getD es p zeroEntry ≡ nth all (k + p)) → Kinds es
@@ -145,13 +156,9 @@ module _ (all : List Entry) (legal : Legal Description all) (sorted : Sorted ent
         owning (suc k) es (omega arith) (omega arith) (λ p l. h (suc p) (omega arith) ∙ (let w : k + suc p ≡ suc k + p = omega arith in rw w)),
       )
 
-  itself : (p : ℕ) → p < length all → getD all p zeroEntry ≡ nth all (1 + p)
-  unfolding nth
-  itself p l = let w : 1 + p ≡ suc p = omega arith in rw w
-
   ascending-place : (o : ℕ) → Ascending (placeOf all o)
   unfolding placeOf
-  ascending-place o = ascending-tree 1 o all (kinds-from 1 all (omega arith) refl itself) sorted (owning 1 all (omega arith) refl itself)
+  ascending-place o = ascending-tree 1 o all (kinds-from 1 all (omega arith) refl (itself all)) sorted (owning 1 all (omega arith) refl (itself all))
 
   -- ---- what a place lists are entries
 

@@ -1,22 +1,22 @@
 -- The entries of a comparison's specimen ascend by owner, then kind, then name: so each property of a place, and each group of a place
 -- and link, stands once.
 -- Assumes nothing.
-use Prim.Native.Nat.{_<_, _≤_, suc, zero, ℕ}
+use Prim.Native.Nat.{_<_, _≤_, suc, ℕ}
 use lib.Dec.{eqb, ltb}
 use mathlib.Core.Bool.{false, true}
-use mathlib.Core.List.{List, [], _∷_, map}
+use mathlib.Core.List.{List, [], _∷_}
 use mathlib.Core.Path.{_≡_, refl}
 use native.Mathlib.Omega.{arith}
 use Rattle.base.proofs.Tests.{and-both, bool-cases, eqb-self, lt-ltb, neither-left, neither-right, or-left, or-right, tests}
-use Rattle.base.specs.Ascending.{AllAfter, Sorted}
+use Rattle.base.specs.Ascending.{Sorted}
 use Rattle.blocks.specs.declared.Entry.{Entry}
 use Rattle.logic.proofs.SpecimenTrees.IncreasingNames.{Increasing}
-use Rattle.logic.specs.Layout.{Queue, done, job, later, lay, weight, write}
 use Rattle.logic.specs.Normal.{before, rank}
 use Rattle.logic.specs.Place.{Kind, Place, atom, has, lacks, least, most, nothing}
-use Rattle.logic.specs.SpecimenTree.{SpecimenTree, group}
-use Rattle.logic.specs.Tree.{end, leaf, leafRow, node, nodeRow}
+use Rattle.logic.specs.SpecimenTree.{Group, SpecimenTree, group}
+use Rattle.logic.specs.Tree.{Row, end, leaf, leafRow, node, nodeRow}
 use Rattle.logic.specs.Witness.{Target, below, build, groupsBy, member, names, next, off, on, once, path, pathOf, putAscending, targetLinks, targetProperties, withProperties, witness}
+use Rattle.meaning.proofs.Descriptions.LaidAscends.{After, Deep, Keyed, laid-ascends}
 use Rattle.meaning.specs.Description.{linksTo}
 use Rattle.meaning.specs.RowEntries.{entryBefore}
 use Rattle.meaning.specs.SpecimenFor.{rowEntry, specimenEntries, specimenFor}
@@ -63,46 +63,39 @@ properties-increasing (on (l ∷ w) a) = tt
 
 -- ---- places
 
--- each entry of a place stands after kind a and name n
-abbrev Above : ℕ → ℕ → SpecimenTree → Type 0
-Above a n end = Unit {0}
-Above a n (leaf p r) = (before a n 1 p ≡ true) × Above a n r
-Above a n (node (group l m) s r) = (before a n 7 l ≡ true) × Above a n r
+-- rows of groups, as entries, go by owner, kind and name
+keyed : (x : Row ℕ Group) → Keyed rowEntry x
+keyed (leafRow o p) = (refl, refl, refl)
+keyed (nodeRow o (group l m)) = (refl, refl, refl)
 
--- the entries of a place, and of each place below it, ascend
-abbrev Deep : SpecimenTree → Type 0
-Deep end = Unit {0}
-Deep (leaf p r) = Above 1 p r × Deep r
-Deep (node (group l m) s r) = Above 7 l r × Deep s × Deep r
-
-groups-above : (a n b : ℕ) (ls : List ℕ) (f : ℕ → ℕ) (s : ℕ → SpecimenTree) → ((l : ℕ) → b ≤ l → before a n 7 l ≡ true) → Increasing b ls → Above a n (groupsBy ls f s)
+groups-above : (a n b : ℕ) (ls : List ℕ) (f : ℕ → ℕ) (s : ℕ → SpecimenTree) → ((l : ℕ) → b ≤ l → before a n 7 l ≡ true) → Increasing b ls → After rowEntry a n (groupsBy ls f s)
 unfolding groupsBy
 groups-above a n b [] f s o h = tt
 groups-above a n b (l ∷ ls) f s o h =
-    let rest : Above a n (groupsBy ls f s) = groups-above a n (suc l) ls f s (λ x i. o x (omega (arith, h .0))) (h .1) in
+    let rest : After rowEntry a n (groupsBy ls f s) = groups-above a n (suc l) ls f s (λ x i. o x (omega (arith, h .0))) (h .1) in
     bool-cases (eqb (f l) 0) (λ q. rw q rest) (λ q. rw q (o l (h .0), rest))
 
-groups-deep : (b : ℕ) (ls : List ℕ) (f : ℕ → ℕ) (s : ℕ → SpecimenTree) → Increasing b ls → ((l : ℕ) → Deep (s l)) → Deep (groupsBy ls f s)
+groups-deep : (b : ℕ) (ls : List ℕ) (f : ℕ → ℕ) (s : ℕ → SpecimenTree) → Increasing b ls → ((l : ℕ) → Deep rowEntry (s l)) → Deep rowEntry (groupsBy ls f s)
 unfolding groupsBy
 groups-deep b [] f s h d = tt
 groups-deep b (l ∷ ls) f s h d =
-    let rest : Deep (groupsBy ls f s) = groups-deep (suc l) ls f s (h .1) d in
-    let over : Above 7 l (groupsBy ls f s) = groups-above 7 l (suc l) ls f s (λ x i. or-right (ltb 7 7) (and-both (eqb-self 7) (lt-ltb i))) (h .1) in
+    let rest : Deep rowEntry (groupsBy ls f s) = groups-deep (suc l) ls f s (h .1) d in
+    let over : After rowEntry 7 l (groupsBy ls f s) = groups-above 7 l (suc l) ls f s (λ x i. or-right (ltb 7 7) (and-both (eqb-self 7) (lt-ltb i))) (h .1) in
     bool-cases (eqb (f l) 0) (λ q. rw q rest) (λ q. rw q (over, d l, rest))
 
-properties-above : (a b : ℕ) (ps : List ℕ) (s : SpecimenTree) → a < b → Increasing b ps → Above 1 a s → Above 1 a (withProperties ps s)
+properties-above : (a b : ℕ) (ps : List ℕ) (s : SpecimenTree) → a < b → Increasing b ps → After rowEntry 1 a s → After rowEntry 1 a (withProperties ps s)
 unfolding withProperties
 properties-above a b [] s i h o = o
 properties-above a b (p ∷ ps) s i h o =
     let z : a < p = omega (arith, h .0) in
     (or-right (ltb 1 1) (and-both (eqb-self 1) (lt-ltb z)), properties-above a (suc p) ps s (omega arith) (h .1) o)
 
-properties-deep : (b : ℕ) (ps : List ℕ) (s : SpecimenTree) → Increasing b ps → ((a : ℕ) → Above 1 a s) → Deep s → Deep (withProperties ps s)
+properties-deep : (b : ℕ) (ps : List ℕ) (s : SpecimenTree) → Increasing b ps → ((a : ℕ) → After rowEntry 1 a s) → Deep rowEntry s → Deep rowEntry (withProperties ps s)
 unfolding withProperties
 properties-deep b [] s h o d = d
 properties-deep b (p ∷ ps) s h o d = (properties-above p (suc p) ps s (omega arith) (h .1) (o p), properties-deep (suc p) ps s (h .1) o d)
 
-build-deep : (f : ℕ → Target → SpecimenTree) (t : Place) (g : Target) → ((l : ℕ) → Deep (f l (next g l))) → Deep (build f t g)
+build-deep : (f : ℕ → Target → SpecimenTree) (t : Place) (g : Target) → ((l : ℕ) → Deep rowEntry (f l (next g l))) → Deep rowEntry (build f t g)
 unfolding build
 build-deep f t g d =
     let ls = names-increasing least t (targetLinks g) (links-increasing g) in
@@ -110,86 +103,24 @@ build-deep f t g d =
     (λ a. groups-above 1 a 0 _ _ _ (λ l i. or-left (eqb 1 7) refl) ls)
     (groups-deep 0 _ _ _ ls d)
 
-path-deep : (g : Target) → Deep (pathOf g)
+path-deep : (g : Target) → Deep rowEntry (pathOf g)
 unfolding path
 path-deep off = tt
 path-deep (on [] a) = build-deep (λ l g. end) end (on [] a) (λ l. tt)
 path-deep (on (l ∷ w) a) = (tt, path-deep (on w a), tt)
 
-below-deep : (t : Place) (l : ℕ) (g : Target) → Deep (below t l g)
+below-deep : (t : Place) (l : ℕ) (g : Target) → Deep rowEntry (below t l g)
 unfolding below
 below-deep end l g = path-deep g
 below-deep (leaf a r) l g = below-deep r l g
 below-deep (node l′ s r) l g =
     bool-cases (eqb l l′) (λ q. rw q (build-deep (λ l″ g′. below s l″ g′) s g (λ l″. below-deep s l″ (next g l″)))) (λ q. rw q (below-deep r l g))
 
-witness-deep : (t : Place) (g : Target) → Deep (witness t g)
+witness-deep : (t : Place) (g : Target) → Deep rowEntry (witness t g)
 unfolding witness
 witness-deep t g = build-deep (λ l g′. below t l g′) t g (λ l. below-deep t l (next g l))
 
--- ---- rows
-
--- the jobs' owners ascend from `lo` on and stand before number k
-abbrev Rising : ℕ → ℕ → Queue SpecimenTree → Type 0
-Rising k lo done = Unit {0}
-Rising k lo (job o t q) = (lo ≤ o) × (o < k) × Deep t × Rising k (suc o) q
-
-rising-more : (k lo : ℕ) (q : Queue SpecimenTree) → Rising k lo q → Rising (suc k) lo q
-rising-more k lo done h = tt
-rising-more k lo (job o t q) h = (h .0, omega (arith, h .1), h .2, rising-more k (suc o) q (h .3))
-
-rising-later : (k lo : ℕ) (q : Queue SpecimenTree) (s : SpecimenTree) → lo ≤ k → Deep s → Rising k lo q → Rising (suc k) lo (later q k s)
-unfolding later
-rising-later k lo done s i d h = (i, omega arith, d, tt)
-rising-later k lo (job o t q) s i d h = (h .0, omega (arith, h .1), h .2, rising-later k (suc o) q s (omega (arith, h .1)) d (h .3))
-
-after-leaf : (k lo o p : ℕ) (r : SpecimenTree) (q : Queue SpecimenTree) → Rising k lo (job o (leaf p r) q) → Rising (suc k) lo (job o r q)
-after-leaf k lo o p r q h = (h .0, omega (arith, h .1), h .2 .1, rising-more k (suc o) q (h .3))
-
-after-node : (k lo o l m : ℕ) (s r : SpecimenTree) (q : Queue SpecimenTree) → Rising k lo (job o (node (group l m) s r) q) → Rising (suc k) lo (job o r (later q k s))
-after-node k lo o l m s r q h = (h .0, omega (arith, h .1), h .2 .2, rising-later k (suc o) q s (omega (arith, h .1)) (h .2 .1) (h .3))
-
-lay-over : (f k lo : ℕ) (q : Queue SpecimenTree) (e : Entry) → e .owner < lo → Rising k lo q → AllAfter entryBefore e (map rowEntry (lay f k q))
-unfolding lay
-lay-over zero k lo q e i h = tt
-lay-over (suc f) k lo done e i h = tt
-lay-over (suc f) k lo (job o end q) e i h = lay-over f k (suc o) q e (omega (arith, h .0)) (h .3)
-lay-over (suc f) k lo (job o (leaf p r) q) e i h =
-    let z : e .owner < o = omega (arith, h .0) in
-    (or-left _ (lt-ltb z), lay-over f (suc k) lo (job o r q) e i (after-leaf k lo o p r q h))
-lay-over (suc f) k lo (job o (node (group l m) s r) q) e i h =
-    let z : e .owner < o = omega (arith, h .0) in
-    (or-left _ (lt-ltb z), lay-over f (suc k) lo (job o r (later q k s)) e i (after-node k lo o l m s r q h))
-
-lay-next : (f k lo : ℕ) (e : Entry) (t : SpecimenTree) (q : Queue SpecimenTree) → Above (e .kind) (e .name) t → Rising k lo (job (e .owner) t q)
-    → AllAfter entryBefore e (map rowEntry (lay f k (job (e .owner) t q)))
-unfolding lay
-lay-next zero k lo e t q a h = tt
-lay-next (suc f) k lo e end q a h = lay-over f k (suc (e .owner)) q e (omega arith) (h .3)
-lay-next (suc f) k lo e (leaf p r) q a h = (
-  or-right (ltb (e .owner) (e .owner)) (and-both (eqb-self (e .owner)) (a .0)),
-  lay-next f (suc k) lo e r q (a .1) (after-leaf k lo (e .owner) p r q h),
-)
-lay-next (suc f) k lo e (node (group l m) s r) q a h = (
-  or-right (ltb (e .owner) (e .owner)) (and-both (eqb-self (e .owner)) (a .0)),
-  lay-next f (suc k) lo e r (later q k s) (a .1) (after-node k lo (e .owner) l m s r q h),
-)
-
-lay-ascends : (f k lo : ℕ) (q : Queue SpecimenTree) → Rising k lo q → Sorted entryBefore (map rowEntry (lay f k q))
-unfolding lay
-lay-ascends zero k lo q h = tt
-lay-ascends (suc f) k lo done h = tt
-lay-ascends (suc f) k lo (job o end q) h = lay-ascends f k (suc o) q (h .3)
-lay-ascends (suc f) k lo (job o (leaf p r) q) h =
-    let g = after-leaf k lo o p r q h in
-    (lay-next f (suc k) lo (rowEntry (leafRow o p)) r q (h .2 .0) g, lay-ascends f (suc k) lo (job o r q) g)
-lay-ascends (suc f) k lo (job o (node (group l m) s r) q) h =
-    let g = after-node k lo o l m s r q h in
-    (lay-next f (suc k) lo (rowEntry (nodeRow o (group l m))) r (later q k s) (h .2 .0) g, lay-ascends f (suc k) lo (job o r (later q k s)) g)
-
 -- "Order as in the normal form."
 pub specimen-ascends : (t : Place) (d : List Entry) (n : ℕ) → Sorted entryBefore (specimenFor t d n)
-unfolding specimenFor specimenEntries write
-specimen-ascends t d n =
-    let s : SpecimenTree = witness t (on (linksTo d n) _) in
-    lay-ascends (weight s) 1 0 (job 0 s done) (omega arith, omega arith, witness-deep t _, tt)
+unfolding specimenFor specimenEntries
+specimen-ascends t d n = laid-ascends rowEntry keyed (witness t (on (linksTo d n) _)) (witness-deep t _)

@@ -10,11 +10,11 @@ use native.Mathlib.Nat.{add-assoc, add-zero}
 use native.Mathlib.Omega.{arith}
 use Rattle.base.proofs.Missing.{opt-cases}
 use Rattle.base.proofs.Tests.{bool-cases}
+use Rattle.logic.specs.Filling.{laterEach}
 use Rattle.logic.specs.Layout.{Queue, done, job, later}
 use Rattle.logic.specs.Place.{Atom, Kind, atom, has, lacks, least, most}
 use Rattle.logic.specs.Tree.{Row, leafRow, nodeRow}
 use Rattle.normal.specs.code.Emitted.{atomRows, everyRows, everySlots, kindRows}
-use Rattle.normal.specs.code.Filling.{laterEach}
 use Rattle.passes.specs.code.Pipeline.{outEvery, outKind, walk}
 use Rattle.passes.specs.code.Slots.{Cell, cell, isLink, sameClass, value}
 

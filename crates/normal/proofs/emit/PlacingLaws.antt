@@ -10,12 +10,12 @@ use mathlib.Core.Option.{Option}
 use mathlib.Core.Path.{_∙_, _≡_, ap, refl, sym}
 use native.Mathlib.Omega.{arith}
 use Rattle.base.proofs.Tests.{bool-cases, eq-cases, ge-ltb, gt-leb, lt-cases, lt-ltb, ne-eqb}
+use Rattle.logic.proofs.TreeRows.FillLaws.{joined-none, joined-one, noted-append, noted-length}
+use Rattle.logic.specs.Filling.{noted}
 use Rattle.logic.specs.Normal.{atMost}
 use Rattle.logic.specs.Place.{has, lacks, least, most}
-use Rattle.normal.proofs.FillLaws.{joined-none, joined-one, noted-append, noted-length}
 use Rattle.normal.proofs.emit.PushLaws.{Pushing, part-room, pushed-more, pushed-total, pushing-done, pushing-more, pushing-room, pushing-start}
 use Rattle.normal.specs.code.Emitted.{Placing, Pushed, atomRows, cellName, cellSlot, everyRows, everySlots, keepCell, kindRows, packedOf, placeRows}
-use Rattle.normal.specs.code.Filling.{noted}
 use Rattle.passes.specs.code.Slots.{Cell, cell}
 use Rattle.slots.specs.code.Tables.{highIn}
 

@@ -10,10 +10,10 @@ use mathlib.Core.Path.{_∙_, _≡_, ap, refl, sym}
 use native.Mathlib.Numerals.{add-one}
 use native.Mathlib.Omega.{arith}
 use Rattle.base.proofs.Tests.{bool-cases, eq-cases, eq-eqb, ge-ltb, lt-cases, lt-ltb, ne-eqb}
+use Rattle.logic.proofs.TreeRows.FillLaws.{filled-more, filled-none, filled-one}
 use Rattle.logic.specs.Normal.{rank}
 use Rattle.logic.specs.Place.{Atom, Kind, atom, has, kindOf, lacks, least, most, nothing}
 use Rattle.logic.specs.Tree.{Row, leafRow}
-use Rattle.normal.proofs.FillLaws.{filled-more, filled-none, filled-one}
 use Rattle.normal.specs.code.Emitted.{Pushed, cellName, cellValue, kindRows, packedOf, rowNumber, rowsIf, valueNumber}
 use Rattle.normal.specs.code.Ordered.{runFrom, tagCell, tagPlace, tagSlot}
 use Rattle.passes.specs.code.Slots.{Cell, cell, isLink, sameClass, value}

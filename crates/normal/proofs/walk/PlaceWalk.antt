@@ -11,16 +11,16 @@ use mathlib.Core.Path.{_∙_, _≡_, ap, refl, sym}
 use native.Mathlib.Omega.{arith}
 use Rattle.base.proofs.Lists.{zeros-read}
 use Rattle.base.proofs.Tests.{bool-cases, eq-cases}
+use Rattle.logic.proofs.TreeRows.FillLaws.{Codes, filled-anew, filled-none, noted-after, noted-good, noted-length, queue-each, queue-next, queue-none, queue-past}
+use Rattle.logic.specs.Filling.{laterEach, queueFrom}
 use Rattle.logic.specs.Layout.{Queue, done, job}
 use Rattle.logic.specs.Place.{Atom}
 use Rattle.logic.specs.Tree.{Row}
 use Rattle.meaning.proofs.Verdicts.FirstLaws.{first-within}
-use Rattle.normal.proofs.FillLaws.{Codes, filled-anew, filled-none, noted-after, noted-good, noted-length, queue-each, queue-next, queue-none, queue-past}
 use Rattle.normal.proofs.emit.EmitLaws.{walk-done, walk-place}
 use Rattle.normal.proofs.emit.PlacingLaws.{every-length}
 use Rattle.normal.proofs.emit.PushLaws.{Pushing, part-room, pushed-total, pushing-done, pushing-more, pushing-room, pushing-same}
 use Rattle.normal.specs.code.Emitted.{Placing, Pushed, Walkable, allRows, atomRows, everyRows, everySlots, keepCell, placeRows}
-use Rattle.normal.specs.code.Filling.{laterEach, queueFrom}
 use Rattle.normal.specs.code.Ordered.{firstOfPlace, otherPlace, runFrom, runOf, tagCell, tagPlace, tagSlot}
 use Rattle.passes.specs.code.Pipeline.{walk}
 use Rattle.passes.specs.code.Slots.{Cell}

@@ -9,12 +9,12 @@ use mathlib.Core.Logic.{_≢_}
 use mathlib.Core.Option.{Option, none, some}
 use mathlib.Core.Path.{_≡_}
 use Rattle.blocks.specs.Entries.{packed}
+use Rattle.logic.specs.Filling.{Filled, Joined}
 use Rattle.logic.specs.Layout.{done, job}
 use Rattle.logic.specs.Normal.{atMost}
 use Rattle.logic.specs.Place.{Atom, Kind, atom, has, lacks, least, most, nothing}
 use Rattle.logic.specs.Tree.{Row, leafRow, nodeRow}
 use Rattle.meaning.specs.RowEntries.{rowEntry}
-use Rattle.normal.specs.code.Filling.{Filled, Joined}
 use Rattle.normal.specs.code.Ordered.{runOf, tagNumbers, tagPlace, tagSlot}
 use Rattle.passes.specs.code.Pipeline.{walk}
 use Rattle.passes.specs.code.Slots.{Cell, cell, isLink, sameClass, value}

@@ -19,12 +19,12 @@ abbrev μ-loop : tie.MeasureT-loop
 μ-loop d total n links₀ o₀ m₀ links o m = o
 
 -- the entry that is read is that of the list
-entry-read : (c : tie.After-nth-entry2 Inv-loop μ-loop)
-    → c .nth-entry2 .result ≡ nth (entriesOf (c .before .before .before .before .before .before .args .d .now)) (c .before .before .loop .o)
-entry-read c = c .nth-entry2 .ensures ∙ of-nth _ _ _ (c .before .before .before .before .before .before .pre .0)
+entry-read : (c : tie.After-entry-held2 Inv-loop μ-loop)
+    → c .entry-held2 .result ≡ nth (entriesOf (c .before .before .before .before .before .before .args .d .now)) (c .before .before .loop .o)
+entry-read c = c .entry-held2 .ensures ∙ of-nth _ _ _ (c .before .before .before .before .before .before .pre .0)
 
 -- there is room for one link more
-room : (c : tie.After-nth-entry2 Inv-loop μ-loop) → c .before .before .loop .m < 32
+room : (c : tie.After-entry-held2 Inv-loop μ-loop) → c .before .before .loop .m < 32
 room c =
     let l = c .before .before in
     omega (arith, climbed-room (c .before .loop-test .taken) (l .loop .inv .0), l .before .before .before .before .pre .2)
@@ -32,34 +32,37 @@ room c =
 loop-holds : tie.Need-loop-holds Inv-loop μ-loop
 loop-holds c =
     let p = c .before .before .before .pre in
-    let e = c .before .nth-entry .ensures ∙ of-nth _ _ _ (p .0) in
+    let e = c .before .entry-held .ensures ∙ of-nth _ _ _ (p .0) in
     (climbed-start (p .1) _ (p .3) (omega (arith, p)) (c .wide .ensures .0 ∙ ap (λ (x : Entry). x .owner) e), omega arith, ap length (p .5) ∙ length-replicate {A = ℕ} 32 0, names-start (p .5))
 
-element-write-links : tie.Need-element-write-links Inv-loop μ-loop
-element-write-links c = omega (arith, room c)
+keep-link-requires : tie.Need-keep-link-requires Inv-loop μ-loop
+keep-link-requires c κs = omega (arith, room (c .before .before))
 
 loop-less : tie.Need-loop-less Inv-loop μ-loop
 unfolding ownerOf
 loop-less c =
-    let l = c .before .before .before in
+    let r = c .before .before .before .before in
+    let l = r .before .before in
     let p = l .before .before .before .before .pre in
-    let t = c .before .before .loop-test .taken in
-    let q = c .wide2 .ensures .0 ∙ ap (λ (x : Entry). x .owner) (entry-read (c .before)) in
+    let t = r .before .loop-test .taken in
+    let q = c .wide2 .ensures .0 ∙ ap (λ (x : Entry). x .owner) (entry-read r) in
     rw q (p .1 .earlier (l .loop .o) (omega (arith, t)) (omega (arith, l .loop .inv .0 .before, p)))
 
 loop-again : tie.Need-loop-again Inv-loop μ-loop
 loop-again c =
-    let l = c .before .before .before in
+    let r = c .before .before .before .before in
+    let l = r .before .before in
     let p = l .before .before .before .before .pre in
     let i = l .loop .inv in
-    let t = c .before .before .loop-test .taken in
-    let b = room (c .before) in
-    let e = entry-read (c .before) in (
-      climbed-more (p .1) t (omega (arith, i .0 .before, p)) (omega (arith, b, i .2)) (ap (λ (x : Entry). x .name) e)
+    let t = r .before .loop-test .taken in
+    let b = room r in
+    let e = entry-read r in
+    rw (c .before .keep-link .ensures) (
+      climbed-more (p .1) t (omega (arith, i .0 .before, p)) (omega (arith, b, i .2)) (c .before .before .link .ensures ∙ ap (λ (x : Entry). x .name) e)
           (c .wide2 .ensures .0 ∙ ap (λ (x : Entry). x .owner) e) (i .0),
       omega (arith, b),
       simp length-set (i .2),
-      names-more (l .loop .links) (i .3) (omega (arith, b, i .2)) (let k = c .before .nth-entry2 .ok in omega (arith, k)),
+      names-more (l .loop .links) (i .3) (omega (arith, b, i .2)) (let k = c .before .before .link .ok in omega (arith, k)),
     )
 
 returns : tie.Need-returns Inv-loop μ-loop
@@ -69,4 +72,4 @@ pub links-up-spec : {M : Type 1} → statement M
 links-up-spec =
     tie.close
     (tie.spec Inv-loop μ-loop (λ c κs. search needs) (λ c κs. search needs) loop-holds
-    (λ c κs. search needs) (λ c. search needs) element-write-links (λ c. search needs) (λ c κs. search needs) loop-less loop-again returns)
+    (λ c κs. search needs) (λ c κs. search needs) keep-link-requires (λ c. search needs) (λ c κs. search needs) loop-less loop-again returns)

@@ -6,17 +6,14 @@ use native.Mathlib.Omega.{arith}
 use Rattle.compare.proofs.places.asked_number.Statement.{statement}
 use Rattle.compare.proofs.places.asked_number.Tie as tie
 
-returns : tie.Need-returns
-returns c = λ z links q. absurd (z (c .if1 .taken))
-
 less-one-requires : tie.Need-less-one-requires
 less-one-requires c κs = omega (arith, c .larger .ensures, c .before .asked-count .ensures .0, c .before .before .listed-least .ensures .1)
 
-returns-2 : tie.Need-returns-2
-returns-2 c = λ z links q.
+returns : tie.Need-returns
+returns c = λ links q.
     c .less-one .ensures ∙ ap pred (c .before .larger .ensures) ∙ rw (c .before .before .before .listed-least .ensures .0, c .before .before .asked-count .ensures .1 links _ q)
 
 pub asked-number-spec : {M : Type 1} → statement M
 asked-number-spec =
     tie.close
-    (tie.spec returns (λ c. search needs) (λ c κs. search needs) (λ c κs. search needs) (λ c κs. search needs) less-one-requires returns-2)
+    (tie.spec (λ c κs. search needs) (λ c κs. search needs) (λ c κs. search needs) less-one-requires returns)

@@ -1,58 +1,67 @@
--- `push_joints` meets its contract: the groups of the links before x, that of x, and those after it.
-use Prim.Native.Nat.{_+_, _-_, _≤_, suc}
+-- `push_joints` meets its contract, by whether a link's items are asked for.
+use Prim.Native.Nat.{_%_}
 use borrow.Author.Needs.{needs}
-use native.Mathlib.Numerals.{add-one}
+use mathlib.Core.Path.{_∙_, _≡_, ap}
 use native.Mathlib.Omega.{arith}
-use Rattle.compare.proofs.places.SpanLaws.{around-first, around-rest, groups-length, groups-total, joints-none, joints-some}
-use Rattle.compare.specs.code.Table.{spanFrom}
+use Rattle.compare.proofs.places.PlaceLaws.{asked-joints}
+use Rattle.compare.proofs.places.SpanLaws.{groups-length}
+use Rattle.compare.specs.code.Asked.{linkIn}
+use Rattle.compare.specs.code.Codes.{groupsIn, jointsBy}
 use Rattle.compare.proofs.places.push_joints.Statement.{statement}
 use Rattle.compare.proofs.places.push_joints.Tie as tie
 
--- the groups before x fit
-front-room : (c : tie.After-span-from2) → c .before .before .args .count + (c .span-from2 .result - c .before .span-from .result) ≤ 2016
-front-room c =
-    let a = c .before .before in
-    rw (groups-length _ _ _ _ _, ← c .span-from2 .ensures .0, ← c .before .span-from .ensures .0) at (around-first _ _ _ _ _ (a .pre .4))
+asked-link-requires : tie.Need-asked-link-requires
+asked-link-requires c κs = (omega (arith, c .pre .1), c .pre .0 .short)
 
--- and that of x, and those after it
-back-room : (c : tie.Else1) → c .before .push-groups .result + 1
-    + (spanFrom (c .before .before .before .before .before .before .args .form .now) (c .before .before .before .before .before .before .args .k) (c .before .before .before .before .before .before .args .v) 4 0
-    - spanFrom (c .before .before .before .before .before .before .args .form .now) (c .before .before .before .before .before .before .args .k) (c .before .before .before .before .before .before .args .v) 3 (suc (c .before .before .before .before .before .before .args .x))) ≤ 2016
-back-room c =
-    let s = c .before .before .before .before in
-    let a = s .before .before in
-    rw (← groups-total _ _ _ _ _ _ (c .before .push-groups .ensures .pushed))
-    at (rw (groups-length _ _ _ _ _, groups-length _ _ _ _ _, ← s .span-from2 .ensures .0, ← s .before .span-from .ensures .0) at (around-rest _ _ _ _ _ (a .pre .4) (c .if1 .left)))
+asked-number-requires : tie.Need-asked-number-requires
+asked-number-requires c κs = let a = c .before .before .before .before in (a .pre .0 .formed, omega arith, omega (arith, a .pre .1), a .pre .0 .short)
+
+asked-code-requires : tie.Need-asked-code-requires
+asked-code-requires c κs = let a = c .before .before .before .before .before in (a .pre .0 .formed, omega arith, omega (arith, a .pre .1), a .pre .0 .short)
+
+push-joints-with-requires : tie.Need-push-joints-with-requires
+push-joints-with-requires c κs =
+    let n = c .before .before in
+    let k = n .before .before .before in
+    let a = k .before .before .before in
+    let e = ap linkIn (k .asked .given .1) in
+    let r = k .before .before .asked-link .ensures in
+    let q = r .1 ∙ e in
+    let j = asked-joints _ _ _ _ _ (a .args .code) _ (a .pre .0) (r .0 _ e) q (n .before .asked-number .ensures _ q) (n .asked-code .ensures _ _ q) in
+    (a .pre .0 .formed, omega arith, a .pre .2, rw j at (a .pre .3))
+
+all-groups-requires : tie.Need-all-groups-requires
+all-groups-requires c κs = let a = c .before .before .before in (a .pre .0 .formed, omega arith)
+
+-- the groups of the place, where none is asked for
+plain : (c : tie.After-enum-told) → jointsBy (c .before .before .before .args .form .now) (c .before .before .before .args .k) (c .before .before .before .args .links .now)
+    (c .before .before .before .args .m) (c .before .before .before .args .e) (c .before .before .before .args .code)
+    ≡ groupsIn (c .before .before .before .args .form .now) (c .before .before .before .args .k) (c .before .before .before .args .code % 1024)
+plain c = c .before .before .before .pre .0 .groups _ (c .before .before .asked-link .ensures .1 ∙ ap linkIn (c .enum-told .given .1))
 
 push-groups-requires : tie.Need-push-groups-requires
-push-groups-requires c κs = let a = c .before .before .before .before in (a .pre .1, a .pre .0, a .pre .3, c .before .before .span-from2 .ensures .1, front-room (c .before .before))
+push-groups-requires c κs =
+    let s = c .before .before .all-groups .ensures in
+    let t = c .before .before .before in
+    let a = t .before .before .before in
+    (omega arith, a .pre .0 .formed, a .pre .2, s .2, rw (groups-length _ _ _ _ _, ← s .0, ← s .1) at (rw (plain t) at (a .pre .3)))
 
 returns : tie.Need-returns
 returns c =
-    let s = c .before .before .before .before in
-    joints-none _ _ _ _ _ _ (rw (s .before .span-from .ensures .0, s .span-from2 .ensures .0) at (c .before .push-groups .ensures)) (c .if1 .taken)
-
-push-group-requires : tie.Need-push-group-requires
-push-group-requires c κs = (c .before .before .before .push-groups .ensures .pushed .size, omega (arith, back-room (c .before .before)))
-
-span-from-requires-3 : tie.Need-span-from-requires-3
-span-from-requires-3 c κs = let a = c .before .before .before .before .before .before .before .before .before in (a .pre .0, a .pre .1, omega arith, omega (arith, c .before .before .before .if1 .left, a .pre .2))
-
-push-groups-requires-2 : tie.Need-push-groups-requires-2
-push-groups-requires-2 c κs =
-    let p = c .before .before .before .before in
-    let a = p .before .before .before .before .before .before .before .before .before in
-    let h = back-room (p .before .before .before) in
-    (a .pre .1, a .pre .0, p .push-group .ensures .pushed .size, c .before .before .span-from4 .ensures .1, rw (c .before .before .before .span-from3 .ensures .0, c .before .before .span-from4 .ensures .0, add-one, p .push-group .ensures .pushed .total) h)
+    let n = c .before .before .before in
+    let k = n .before .before .before in
+    let a = k .before .before .before in
+    let e = ap linkIn (k .asked .given .1) in
+    let r = k .before .before .asked-link .ensures in
+    let q = r .1 ∙ e in
+    rw (asked-joints _ _ _ _ _ (a .args .code) _ (a .pre .0) (r .0 _ e) q (n .before .asked-number .ensures _ q) (n .asked-code .ensures _ _ q)) (c .push-joints-with .ensures)
 
 returns-2 : tie.Need-returns-2
 returns-2 c =
-    let p = c .before .before .before .before .before in
-    let s = p .before .before .before .before .before .before .before in
-    joints-some _ _ _ _ _ _ (rw (s .before .span-from .ensures .0, s .span-from2 .ensures .0) at (p .before .before .before .before .push-groups .ensures)) (p .before .before .before .if1 .left)
-    (p .push-group .ensures) (rw (c .before .before .before .before .span-from3 .ensures .0, c .before .before .before .span-from4 .ensures .0, add-one) at (c .push-groups2 .ensures))
+    let s = c .before .before .before .all-groups .ensures in
+    rw (plain (c .before .before .before .before)) (rw (s .0, s .1) at (c .push-groups .ensures))
 
 pub push-joints-spec : {M : Type 1} → statement M
 push-joints-spec =
     tie.close
-    (tie.spec (λ c κs. search needs) (λ c κs. search needs) push-groups-requires returns (λ c. search needs) push-group-requires (λ c. search needs) span-from-requires-3 (λ c κs. search needs) push-groups-requires-2 returns-2)
+    (tie.spec asked-link-requires (λ c. search needs) asked-number-requires asked-code-requires push-joints-with-requires (λ c. search needs) all-groups-requires push-groups-requires returns returns-2)

@@ -1,6 +1,6 @@
 -- `push_group` meets its contract.
 use borrow.Author.Needs.{needs}
-use Rattle.normal.proofs.FillLaws.{joined-one}
+use Rattle.logic.proofs.TreeRows.FillLaws.{joined-one}
 use Rattle.compare.proofs.rows.push_group.Statement.{statement}
 use Rattle.compare.proofs.rows.push_group.Tie as tie
 

@@ -9,7 +9,7 @@ use Rattle.compare.proofs.rows.RowLaws.{groups-end, groups-next}
 use Rattle.compare.specs.code.Codes.{groupsFrom, specimenNumber}
 use Rattle.compare.specs.code.Laying.{Placed, codes, jointRows}
 use Rattle.compare.specs.code.Table.{entriesIn, placeBelow}
-use Rattle.normal.proofs.FillLaws.{joined-none}
+use Rattle.logic.proofs.TreeRows.FillLaws.{joined-none}
 use Rattle.compare.proofs.rows.push_groups.Statement.{statement}
 use Rattle.compare.proofs.rows.push_groups.Tie as tie
 

@@ -9,7 +9,7 @@ use Rattle.compare.proofs.rows.RowLaws.{names-end, names-first}
 use Rattle.compare.specs.code.Codes.{specimenNumber}
 use Rattle.compare.specs.code.Laying.{Pushed, leafRows}
 use Rattle.compare.specs.code.Table.{namesFrom}
-use Rattle.normal.proofs.FillLaws.{filled-more, filled-none}
+use Rattle.logic.proofs.TreeRows.FillLaws.{filled-more, filled-none}
 use Rattle.compare.proofs.rows.push_names.Statement.{statement}
 use Rattle.compare.proofs.rows.push_names.Tie as tie
 

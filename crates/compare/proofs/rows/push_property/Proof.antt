@@ -1,6 +1,6 @@
 -- `push_property` meets its contract.
 use borrow.Author.Needs.{needs}
-use Rattle.normal.proofs.FillLaws.{filled-one}
+use Rattle.logic.proofs.TreeRows.FillLaws.{filled-one}
 use Rattle.compare.proofs.rows.push_property.Statement.{statement}
 use Rattle.compare.proofs.rows.push_property.Tie as tie
 

@@ -12,17 +12,17 @@ use Rattle.compare.proofs.verdict.write_specimen.Statement.{statement}
 use Rattle.compare.proofs.verdict.write_specimen.Tie as tie
 
 -- the entry that is read is that of the list
-entry-read : (c : tie.After-nth-entry) → c .nth-entry .result ≡ nth (entriesOf (c .before .before .before .before .before .before .before .before .args .d .now)) (c .before .before .before .before .before .before .before .before .args .n)
-entry-read c = c .nth-entry .ensures ∙ of-nth _ _ _ (prepared-second (c .before .before .before .before .before .before .before .before .pre .0) .0)
+entry-read : (c : tie.After-entry-held) → c .entry-held .result ≡ nth (entriesOf (c .before .before .before .before .before .before .before .before .args .d .now)) (c .before .before .before .before .before .before .before .before .args .n)
+entry-read c = c .entry-held .ensures ∙ of-nth _ _ _ (prepared-second (c .before .before .before .before .before .before .before .before .pre .0) .0)
 
 -- what is read is of its type
-entry-bounded : (c : tie.After-nth-entry) → Bounded (nth (entriesOf (c .before .before .before .before .before .before .before .before .args .d .now)) (c .before .before .before .before .before .before .before .before .args .n))
+entry-bounded : (c : tie.After-entry-held) → Bounded (nth (entriesOf (c .before .before .before .before .before .before .before .before .args .d .now)) (c .before .before .before .before .before .before .before .before .args .n))
 entry-bounded c =
-    let k = c .nth-entry .ok in
+    let k = c .entry-held .ok in
     rw (← entry-read c) (record { kind = omega (arith, k); reserved = omega (arith, k); owner = omega (arith, k); name = omega (arith, k); number = omega (arith, k) })
 
 -- the tables give its specimen
-writable : (c : tie.After-nth-entry) → Writable (c .before .before .before .unpack .last .1 .1 .0) (c .before .before .before .before .before .before .before .before .args .k) (c .before .links-up .last .1 .1 .1 .0) (c .before .links-up .result) (c .nth-entry .result)
+writable : (c : tie.After-entry-held) → Writable (c .before .before .before .unpack .last .1 .1 .0) (c .before .before .before .before .before .before .before .before .args .k) (c .before .links-up .last .1 .1 .1 .0) (c .before .links-up .result) (c .entry-held .result)
 writable c =
     let p = c .before .before .before .before .before .before .before .before .pre in
     let l = c .before .links-up .ensures in

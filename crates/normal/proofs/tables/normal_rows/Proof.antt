@@ -5,7 +5,7 @@ use mathlib.Core.Path.{refl}
 use native.Mathlib.Omega.{arith}
 use Rattle.base.proofs.Tests.{eq-eqb, ne-eqb}
 use Rattle.blocks.specs.Entries.{packed}
-use Rattle.normal.proofs.FillLaws.{filled-anew, filled-one}
+use Rattle.logic.proofs.TreeRows.FillLaws.{filled-anew, filled-one}
 use Rattle.normal.proofs.tables.normal_rows.Statement.{statement}
 use Rattle.normal.proofs.tables.normal_rows.Tie as tie
 

@@ -1,5 +1,5 @@
 -- Tables that are filled row by row, with a code noted for each row that leads to a place, and the jobs that such a table stands for.
--- Normal forms and specimens are both written by way of them. No public promise names these.
+-- Normal forms and specimens are both written by way of them. No promise to the customer names these.
 -- Assumes nothing.
 use Prim.Native.Nat.{_+_, suc, zero, ℕ}
 use lib.Dec.{eqb}

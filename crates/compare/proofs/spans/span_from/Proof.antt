@@ -2,8 +2,8 @@
 use borrow.Author.Needs.{needs}
 use native.Mathlib.Omega.{arith}
 use Rattle.compare.proofs.places.SpanLaws.{ranked-is}
-use Rattle.compare.proofs.places.span_from.Statement.{statement}
-use Rattle.compare.proofs.places.span_from.Tie as tie
+use Rattle.compare.proofs.spans.span_from.Statement.{statement}
+use Rattle.compare.proofs.spans.span_from.Tie as tie
 
 returns : tie.Need-returns
 returns c =

@@ -11,8 +11,8 @@ use native.Mathlib.Nat.{add-assoc, add-zero}
 use native.Mathlib.Numerals.{add-one}
 use native.Mathlib.Omega.{arith}
 use Rattle.base.proofs.Tests.{bool-cases, eq-cases, eq-eqb, ne-eqb}
+use Rattle.logic.specs.Filling.{Filled, Joined, laterEach, noted, queueFrom}
 use Rattle.logic.specs.Layout.{job, later}
-use Rattle.normal.specs.code.Filling.{Filled, Joined, laterEach, noted, queueFrom}
 
 -- ---- numbers after numbers
 

@@ -1,0 +1,304 @@
+//! The command line.
+
+use std::ffi::OsString;
+use std::path::PathBuf;
+
+use crate::entry::Sort;
+use crate::input::Form;
+
+/// What `gx` is asked to do.
+#[derive(Clone, Copy, Debug, PartialEq, Eq)]
+pub enum Command {
+    /// A description or specimen as text.
+    Show,
+    /// A text as blocks.
+    Write,
+    /// The reader's answer.
+    Check,
+    /// The normal form.
+    Normal,
+    /// The fit answer.
+    Fit,
+    /// The comparison.
+    Compare,
+    /// The question in OWL.
+    Owl,
+    /// A description from OWL.
+    FromOwl,
+}
+
+impl Command {
+    /// All commands, in the order of the help.
+    pub const ALL: [Command; 8] = [
+        Command::Show,
+        Command::Write,
+        Command::Check,
+        Command::Normal,
+        Command::Fit,
+        Command::Compare,
+        Command::Owl,
+        Command::FromOwl,
+    ];
+
+    /// The word for it on the command line.
+    pub fn word(self) -> &'static str {
+        match self {
+            Command::Show => "show",
+            Command::Write => "write",
+            Command::Check => "check",
+            Command::Normal => "normal",
+            Command::Fit => "fit",
+            Command::Compare => "compare",
+            Command::Owl => "owl",
+            Command::FromOwl => "from-owl",
+        }
+    }
+
+    fn called(word: &str) -> Option<Command> {
+        Command::ALL
+            .into_iter()
+            .find(|command| command.word() == word)
+    }
+
+    /// The options that it takes, beside `--help`.
+    pub fn options(self) -> &'static [&'static str] {
+        match self {
+            Command::Show => &[
+                "--names",
+                "--json",
+                "--from",
+                "--sort",
+                "--to",
+                "--numbers",
+                "--out",
+            ],
+            Command::Write => &["--names", "--json", "--from", "--sort", "--out"],
+            Command::Check => &["--names", "--json", "--from", "--sort"],
+            Command::Normal => &["--names", "--json", "--from", "--to", "--numbers", "--out"],
+            Command::Fit => &["--names", "--json", "--from"],
+            Command::Compare => &[
+                "--names",
+                "--json",
+                "--from",
+                "--svg",
+                "--html",
+                "--specimen",
+                "--whole",
+            ],
+            Command::Owl => &["--names", "--json", "--from", "--out"],
+            Command::FromOwl => &["--names", "--json", "--class", "--to", "--numbers", "--out"],
+        }
+    }
+
+    /// Whether it takes two inputs, and not any number of them.
+    pub fn takes_pair(self) -> bool {
+        matches!(self, Command::Fit | Command::Compare | Command::Owl)
+    }
+
+    /// Whether what it prints is an answer and not data: then a refusal is an answer too.
+    pub fn answers(self) -> bool {
+        matches!(self, Command::Check | Command::Fit | Command::Compare)
+    }
+}
+
+/// The form of what is written.
+#[derive(Clone, Copy, Debug, PartialEq, Eq)]
+pub enum To {
+    /// Text, an entry on each line.
+    Text,
+    /// The desk notation.
+    Desk,
+    /// Blocks.
+    Blocks,
+}
+
+/// The options.
+#[derive(Clone, Debug, Default, PartialEq, Eq)]
+pub struct Options {
+    /// The names file.
+    pub names: Option<PathBuf>,
+    /// For programs.
+    pub json: bool,
+    /// The form of the inputs, where it is not told by them.
+    pub from: Option<Form>,
+    /// The sort of the inputs, where it is not told by them.
+    pub sort: Option<Sort>,
+    /// The form of the output.
+    pub to: Option<To>,
+    /// Each entry is written with its number.
+    pub numbers: bool,
+    /// The file or folder for the output.
+    pub out: Option<PathBuf>,
+    /// The file or folder for drawings.
+    pub svg: Option<PathBuf>,
+    /// The file or folder for pages.
+    pub html: Option<PathBuf>,
+    /// The file or folder for the blocks of specimens.
+    pub specimen: Option<PathBuf>,
+    /// The drawing shows each group.
+    pub whole: bool,
+    /// The class that is read from OWL.
+    pub class: Option<String>,
+}
+
+/// A command line that makes sense.
+#[derive(Clone, Debug, PartialEq, Eq)]
+pub enum Args {
+    /// The help of a command, or of all.
+    Help(Option<Command>),
+    /// The version.
+    Version,
+    /// Something to do.
+    Do(Command, Vec<PathBuf>, Options),
+}
+
+/// Reads the command line, without the program's own name.
+///
+/// # Errors
+///
+/// What is wrong with it, in words.
+pub fn read(args: &[OsString]) -> Result<Args, String> {
+    let Some((first, rest)) = args.split_first() else {
+        return Err("a command is missing".into());
+    };
+    match first.to_str() {
+        Some("--help" | "-h") => return Ok(Args::Help(None)),
+        Some("--version") => return Ok(Args::Version),
+        Some("help") => return help(rest),
+        _ => (),
+    }
+    let command = first.to_str().and_then(Command::called);
+    let Some(command) = command else {
+        return Err(format!("there is no command '{}'", first.to_string_lossy()));
+    };
+    Line::new(command, rest).read()
+}
+
+fn help(rest: &[OsString]) -> Result<Args, String> {
+    match rest {
+        [] => Ok(Args::Help(None)),
+        [word] => match word.to_str().and_then(Command::called) {
+            Some(command) => Ok(Args::Help(Some(command))),
+            None => Err(format!("there is no command '{}'", word.to_string_lossy())),
+        },
+        _ => Err("help takes one command".into()),
+    }
+}
+
+/// The words after the command.
+struct Line<'a> {
+    command: Command,
+    rest: std::slice::Iter<'a, OsString>,
+    files: Vec<PathBuf>,
+    options: Options,
+}
+
+impl<'a> Line<'a> {
+    fn new(command: Command, rest: &'a [OsString]) -> Line<'a> {
+        Line {
+            command,
+            rest: rest.iter(),
+            files: Vec::new(),
+            options: Options::default(),
+        }
+    }
+
+    fn read(mut self) -> Result<Args, String> {
+        while let Some(word) = self.rest.next() {
+            match word.to_str() {
+                Some("--help" | "-h") => return Ok(Args::Help(Some(self.command))),
+                Some("--") => self.files.extend(self.rest.by_ref().map(PathBuf::from)),
+                Some(option) if option.starts_with("--") => self.option(option)?,
+                Some(option) if option.starts_with('-') && option != "-" => {
+                    return Err(format!("there is no option '{option}'"))
+                }
+                _ => self.files.push(word.into()),
+            }
+        }
+        self.counted()
+    }
+
+    /// Whether there are as many files as the command takes.
+    fn counted(self) -> Result<Args, String> {
+        let (word, count) = (self.command.word(), self.files.len());
+        if self.command.takes_pair() && count != 2 {
+            return Err(format!("{word} takes two inputs, and {count} are given"));
+        }
+        let stdin = self.files.iter().filter(|file| file.as_os_str() == "-");
+        if stdin.count() > 1 {
+            return Err("standard input can be read once only".into());
+        }
+        let mut files = self.files;
+        if files.is_empty() {
+            files.push("-".into());
+        }
+        Ok(Args::Do(self.command, files, self.options))
+    }
+
+    fn option(&mut self, word: &str) -> Result<(), String> {
+        let (option, joined) = match word.split_once('=') {
+            Some((option, value)) => (option, Some(value)),
+            None => (word, None),
+        };
+        if !self.command.options().contains(&option) {
+            return Err(format!("{} has no option '{option}'", self.command.word()));
+        }
+        let flag = match option {
+            "--json" => Some(&mut self.options.json),
+            "--numbers" => Some(&mut self.options.numbers),
+            "--whole" => Some(&mut self.options.whole),
+            _ => None,
+        };
+        if let Some(flag) = flag {
+            *flag = true;
+            return match joined {
+                None => Ok(()),
+                Some(_) => Err(format!("{option} takes no value")),
+            };
+        }
+        let value = match joined {
+            Some(value) => value.into(),
+            None => self
+                .rest
+                .next()
+                .ok_or(format!("{option} takes a value"))?
+                .clone(),
+        };
+        self.valued(option, value)
+    }
+
+    fn valued(&mut self, option: &str, value: OsString) -> Result<(), String> {
+        let options = &mut self.options;
+        match option {
+            "--names" => options.names = Some(value.into()),
+            "--out" => options.out = Some(value.into()),
+            "--svg" => options.svg = Some(value.into()),
+            "--html" => options.html = Some(value.into()),
+            "--specimen" => options.specimen = Some(value.into()),
+            "--class" => options.class = Some(value.to_string_lossy().into_owned()),
+            "--from" => options.from = Some(one_of(option, &value, FORMS)?),
+            "--sort" => options.sort = Some(one_of(option, &value, SORTS)?),
+            _ => options.to = Some(one_of(option, &value, TARGETS)?),
+        }
+        Ok(())
+    }
+}
+
+const FORMS: &[(&str, Form)] = &[("blocks", Form::Blocks), ("text", Form::Text)];
+const SORTS: &[(&str, Sort)] = &[
+    ("description", Sort::Description),
+    ("specimen", Sort::Specimen),
+];
+const TARGETS: &[(&str, To)] = &[
+    ("text", To::Text),
+    ("desk", To::Desk),
+    ("blocks", To::Blocks),
+];
+
+fn one_of<T: Copy>(option: &str, value: &OsString, list: &[(&str, T)]) -> Result<T, String> {
+    let found = list.iter().find(|(word, _)| value == word);
+    found.map(|&(_, value)| value).ok_or_else(|| {
+        let words: Vec<String> = list.iter().map(|(word, _)| (*word).into()).collect();
+        format!("{option} takes {}", words.join(" or "))
+    })
+}

@@ -1,0 +1,152 @@
+//! What each command answers. A command knows nothing of folders, terminals and exit statuses: see [`crate::run`].
+
+mod check;
+mod compare;
+mod fit;
+mod normal;
+mod owl;
+mod show;
+
+use std::path::Path;
+
+use crate::args::{Command, Options, To};
+use crate::entry::{Entry, Sort};
+use crate::input::{Input, Reading};
+use crate::json::Json;
+use crate::names::Names;
+use crate::text::{self, Numbers};
+use crate::trouble::Trouble;
+
+/// How an answer ends the program.
+#[derive(Clone, Copy, Debug, PartialEq, Eq, PartialOrd, Ord)]
+pub enum Status {
+    /// Yes, contained, accepted, done.
+    Yes,
+    /// No, not contained.
+    No,
+    /// Refused, or a mistake in the input.
+    Bad,
+}
+
+impl Status {
+    /// The exit status.
+    pub fn code(self) -> u8 {
+        match self {
+            Status::Yes => 0,
+            Status::No => 1,
+            Status::Bad => 2,
+        }
+    }
+}
+
+/// What is written into files of their own.
+#[derive(Clone, Copy, Debug, PartialEq, Eq)]
+pub enum Extra {
+    /// The page.
+    Html,
+    /// The drawing.
+    Svg,
+    /// The blocks of the specimen.
+    Specimen,
+}
+
+/// What a command answers.
+#[derive(Clone, Debug)]
+pub struct Answer {
+    /// How it ends.
+    pub status: Status,
+    /// On one line.
+    pub line: String,
+    /// In full: words or data.
+    pub full: Vec<u8>,
+    /// What the file for the data is called after its input.
+    pub ending: &'static str,
+    /// For programs.
+    pub json: Vec<(&'static str, Json)>,
+    /// What goes into files of its own.
+    pub extras: Vec<(Extra, Vec<u8>)>,
+}
+
+/// What a command is to know.
+#[derive(Clone, Debug)]
+pub struct Context {
+    /// The options.
+    pub options: Options,
+    /// How inputs are read.
+    pub reading: Reading,
+}
+
+impl Context {
+    /// Answers a command for one input, or for two.
+    ///
+    /// # Errors
+    ///
+    /// What keeps an input from an answer.
+    pub fn answer(&self, command: Command, files: &[&Path]) -> Result<Answer, Trouble> {
+        match (command, files) {
+            (Command::Show, &[file]) => show::show(self, file),
+            (Command::Write, &[file]) => show::write(self, file),
+            (Command::Check, &[file]) => check::check(self, file),
+            (Command::Normal, &[file]) => normal::normal(self, file),
+            (Command::FromOwl, &[file]) => owl::from_owl(self, file),
+            (Command::Fit, &[specimen, description]) => fit::fit(self, specimen, description),
+            (Command::Compare, &[c, d]) => compare::compare(self, c, d),
+            (Command::Owl, &[c, d]) => owl::owl(self, c, d),
+            _ => Err(Trouble::File {
+                file: command.word().into(),
+                why: "wrong number of inputs".into(),
+            }),
+        }
+    }
+
+    /// A description, the call's input of this number.
+    fn description(&self, file: &Path, input: u16) -> Result<Input, Trouble> {
+        self.reading.input(file, Some(Sort::Description), input)
+    }
+
+    /// Entries in the form that the options ask for, and the ending of a file that holds it.
+    fn written(&self, sort: Sort, entries: &[Entry], names: &Names) -> (Vec<u8>, &'static str) {
+        let numbers = match self.options.numbers {
+            true => Numbers::All,
+            false => Numbers::WhereNeeded,
+        };
+        match self.options.to.unwrap_or(To::Text) {
+            To::Text => {
+                let text = text::text(sort, entries, names, numbers);
+                (text.into_bytes(), "txt")
+            }
+            To::Desk => {
+                let line = text::desk(sort, entries) + "\n";
+                (line.into_bytes(), "txt")
+            }
+            To::Blocks => (crate::blocks::encode(entries), "blocks"),
+        }
+    }
+}
+
+/// The entries for programs.
+pub(crate) fn entries_json(entries: &[Entry], names: &Names) -> Json {
+    let list = (1..).zip(entries).map(|(number, e)| {
+        let says = e.says();
+        let mut fields = vec![
+            ("entry", Json::number(number)),
+            ("kind", Json::number(e.kind.into())),
+            ("owner", Json::number(e.owner.into())),
+        ];
+        if let Some(property) = says.property() {
+            fields.push(("property", Json::number(property.0.into())));
+            fields.push(("word", names.property(property).into()));
+        }
+        if let Some(link) = says.link() {
+            fields.push(("link", Json::number(link.0.into())));
+            fields.push(("word", names.link(link).into()));
+        }
+        match e.kind {
+            3 | 4 => fields.push(("number", Json::number(e.number.into()))),
+            7 => fields.push(("count", Json::number(usize::from(e.number) + 1))),
+            _ => (),
+        }
+        Json::Object(fields)
+    });
+    Json::List(list.collect())
+}

@@ -1,0 +1,134 @@
+//! One entry, and what it says.
+
+/// A property. It is a type of its own, so that a link is never looked up as a property.
+#[derive(Clone, Copy, Debug, PartialEq, Eq, PartialOrd, Ord)]
+pub struct Property(pub u16);
+
+/// A link.
+#[derive(Clone, Copy, Debug, PartialEq, Eq, PartialOrd, Ord)]
+pub struct Link(pub u16);
+
+/// What the entries of an input stand for.
+#[derive(Clone, Copy, Debug, PartialEq, Eq)]
+pub enum Sort {
+    /// Entries of kinds 1 to 6, in at most 16 blocks.
+    Description,
+    /// Entries of kinds 1 and 7, in at most 32 blocks.
+    Specimen,
+}
+
+impl Sort {
+    /// The word for it.
+    pub fn word(self) -> &'static str {
+        match self {
+            Sort::Description => "description",
+            Sort::Specimen => "specimen",
+        }
+    }
+
+    /// The most blocks that the library takes.
+    pub fn most_blocks(self) -> usize {
+        match self {
+            Sort::Description => 16,
+            Sort::Specimen => 32,
+        }
+    }
+
+    /// The kind of the entries that own others, with its word.
+    pub fn owner_kind(self) -> (u8, &'static str) {
+        match self {
+            Sort::Description => (5, "every"),
+            Sort::Specimen => (7, "group"),
+        }
+    }
+
+    /// The sort that these entries are of, where nobody says it: a specimen if they are all of kinds 1 and 7 and one is a group,
+    /// or if they are more than a description holds; otherwise a description.
+    pub fn guess(entries: &[Entry]) -> Sort {
+        let specimen_kinds = entries.iter().all(|e| e.kind == 1 || e.kind == 7);
+        let told = entries.iter().any(|e| e.kind == 7) || entries.len() > 1008;
+        if specimen_kinds && told {
+            Sort::Specimen
+        } else {
+            Sort::Description
+        }
+    }
+}
+
+/// An entry as it stands in a block.
+#[derive(Clone, Copy, Debug, Default, PartialEq, Eq)]
+pub struct Entry {
+    /// The kind, 1 to 7 in accepted inputs.
+    pub kind: u8,
+    /// The byte that is zero in accepted inputs.
+    pub zero: u8,
+    /// The entry that owns this one, or 0 for the top.
+    pub owner: u16,
+    /// The property or link, 0 for kind 6.
+    pub name: u16,
+    /// n for kinds 3 and 4, one less than the count for kind 7, otherwise 0.
+    pub number: u16,
+}
+
+/// What an entry says, by its kind.
+#[derive(Clone, Copy, Debug, PartialEq, Eq)]
+pub enum Says {
+    /// Kind 1.
+    Has(Property),
+    /// Kind 2.
+    Lacks(Property),
+    /// Kind 3.
+    AtLeast(Link, u16),
+    /// Kind 4.
+    AtMost(Link, u16),
+    /// Kind 5.
+    Every(Link),
+    /// Kind 6.
+    Nothing,
+    /// Kind 7, with the count of items.
+    Group(Link, u32),
+    /// A kind that there is not.
+    Unknown(u8),
+}
+
+impl Entry {
+    /// What the entry says.
+    pub fn says(self) -> Says {
+        match self.kind {
+            1 => Says::Has(Property(self.name)),
+            2 => Says::Lacks(Property(self.name)),
+            3 => Says::AtLeast(Link(self.name), self.number),
+            4 => Says::AtMost(Link(self.name), self.number),
+            5 => Says::Every(Link(self.name)),
+            6 => Says::Nothing,
+            7 => Says::Group(Link(self.name), u32::from(self.number) + 1),
+            kind => Says::Unknown(kind),
+        }
+    }
+
+    /// Whether the kind is one that owns entries.
+    pub fn owns(self) -> bool {
+        self.kind == 5 || self.kind == 7
+    }
+}
+
+impl Says {
+    /// The link that the entry speaks of.
+    pub fn link(self) -> Option<Link> {
+        match self {
+            Says::AtLeast(link, _)
+            | Says::AtMost(link, _)
+            | Says::Every(link)
+            | Says::Group(link, _) => Some(link),
+            _ => None,
+        }
+    }
+
+    /// The property that the entry speaks of.
+    pub fn property(self) -> Option<Property> {
+        match self {
+            Says::Has(property) | Says::Lacks(property) => Some(property),
+            _ => None,
+        }
+    }
+}

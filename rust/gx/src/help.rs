@@ -1,0 +1,169 @@
+//! The help.
+
+use crate::args::Command;
+
+/// A few lines for wrong usage.
+pub fn usage() -> String {
+    "usage: gx COMMAND [OPTIONS] FILE...\n       gx --help, gx COMMAND --help\n".into()
+}
+
+/// The help of all.
+pub fn all() -> String {
+    let mut out = String::from(
+        "gx - see, write, check and explain descriptions\n\nusage: gx COMMAND [OPTIONS] FILE...\n\nCommands:\n",
+    );
+    for command in Command::ALL {
+        let (words, about) = about(command);
+        out.push_str(&format!("  {words:<28}{about}\n"));
+    }
+    out.push_str(ALL);
+    out
+}
+
+/// The help of one command.
+pub fn of(command: Command) -> String {
+    let (words, about) = about(command);
+    let mut out = format!(
+        "gx {words} - {about}\n\nusage: gx {} [OPTIONS] {}\n\n",
+        command.word(),
+        inputs(command)
+    );
+    out.push_str(detail(command));
+    out.push_str("\nOptions:\n");
+    for option in command.options() {
+        out.push_str(option_help(command, option));
+    }
+    out.push_str("  --help              this help\n\nExit status: ");
+    out.push_str(match command {
+        Command::Fit => "0 yes, 1 no, 2 refused or a mistake in the input, 64 wrong usage.\n",
+        Command::Compare => {
+            "0 contained, 1 not contained, 2 refused or a mistake in the input, 64 wrong usage.\n"
+        }
+        _ => "0 done, 2 refused or a mistake in the input, 64 wrong usage.\n",
+    });
+    out.push_str("gx --help tells how inputs, texts and names files are written.\n");
+    out
+}
+
+fn inputs(command: Command) -> &'static str {
+    match command {
+        Command::Fit => "SPECIMEN DESCRIPTION",
+        Command::Compare | Command::Owl => "SUPPLIER SERVICE",
+        _ => "[FILE...]",
+    }
+}
+
+fn about(command: Command) -> (&'static str, &'static str) {
+    match command {
+        Command::Show => ("show FILE", "a description or specimen as text"),
+        Command::Write => ("write FILE", "a text as blocks"),
+        Command::Check => (
+            "check FILE",
+            "whether the reader accepts it; a refusal in words",
+        ),
+        Command::Normal => ("normal FILE", "the normal form of a description"),
+        Command::Fit => (
+            "fit SPECIMEN DESCRIPTION",
+            "whether the specimen's top item fits",
+        ),
+        Command::Compare => (
+            "compare SUPPLIER SERVICE",
+            "whether the first is contained in the second; a no explained",
+        ),
+        Command::Owl => (
+            "owl SUPPLIER SERVICE",
+            "the same question in OWL 2 functional syntax",
+        ),
+        Command::FromOwl => (
+            "from-owl FILE",
+            "a description from an OWL class expression",
+        ),
+    }
+}
+
+fn detail(command: Command) -> &'static str {
+    match command {
+        Command::Show => SHOW,
+        Command::Write => "Reads a text and writes its blocks to standard output or into a file. Nothing is written where the library refuses them.\n",
+        Command::Check => "Says what the library's reader says. Of a refusal it tells the row of the table, what is wrong in words, and shows the\nblock or entry in its surroundings; of an entry of a text also the line.\n",
+        Command::Normal => "Writes the library's normal form of a description.\n",
+        Command::Fit => "Answers whether the top item of the specimen fits the description; for a no it names the first entry that is not met.\n",
+        Command::Compare => COMPARE,
+        Command::Owl => "Writes an ontology with the classes Supplier and Service, and SupplierOnly for what fits the first and not the second. The\nsupplier's description is contained in the service's exactly if a reasoner finds Supplier below Service, or SupplierOnly\nunsatisfiable. Property 7 is the class property_7, link 1 the object property link_1; words become labels.\n",
+        Command::FromOwl => FROM_OWL,
+    }
+}
+
+const SHOW: &str = "\
+Shows blocks as text that 'gx write' reads back to the same blocks. An entry's number is written, as #12, only where entries do
+not stand in the order of their numbers; --numbers writes them all.
+";
+
+const COMPARE: &str = "\
+Answers whether every item that fits the supplier's description fits the service's. For a no it names the first entry that fails,
+where it stands, what the supplier's description says there, and shows a specimen that fits the first and not the second.
+";
+
+const FROM_OWL: &str = "\
+Reads OWL 2 functional syntax: a class expression, or an ontology in which EquivalentClasses defines classes. It takes classes,
+ObjectComplementOf a class, ObjectIntersectionOf, ObjectAllValuesFrom, ObjectMinCardinality, ObjectMaxCardinality,
+ObjectExactCardinality, ObjectSomeValuesFrom owl:Thing, owl:Thing and owl:Nothing; of anything else it says what it is and where.
+Names are property_7 and link_1 of <urn:goltximen#>, or others whose label or last part the names file knows.
+";
+
+fn option_help(command: Command, option: &str) -> &'static str {
+    match (option, command) {
+        ("--names", _) => "  --names FILE        the words of properties and links\n",
+        ("--json", _) => "  --json              the answer for programs, one object on a line\n",
+        ("--from", _) => "  --from FORM         the inputs are 'blocks' or 'text', whatever they look like\n",
+        ("--sort", _) => "  --sort SORT         the input is a 'description' or a 'specimen'\n",
+        ("--to", _) => "  --to FORM           write 'text' (without this option), 'desk' (5,1 [3,2,1; 4,2,1]) or 'blocks'\n",
+        ("--numbers", _) => "  --numbers           in text, write each entry's number\n",
+        ("--out", _) => "  --out FILE          write into this file; for folders, into this folder\n",
+        ("--svg", _) => "  --svg FILE          draw the specimen; for folders, into this folder\n",
+        ("--html", _) => "  --html FILE         write a page with the answer, both descriptions and the drawing; for folders, into this folder\n",
+        ("--specimen", _) => "  --specimen FILE     write the specimen's blocks, where there is one; for folders, into this folder\n",
+        ("--whole", _) => "  --whole             draw each group of a large specimen\n",
+        ("--class", _) => "  --class NAME        the class whose definition is read, where there are several\n",
+        _ => "",
+    }
+}
+
+const ALL: &str = "
+Every answer is that of the proved library; gx reads, writes, draws and words it.
+
+Inputs are files, or standard input as -, also where no FILE is given. They are blocks or text, told apart by their bytes: an
+input with a zero byte, or an empty one, is blocks (the second byte of all accepted blocks is zero); any other is text. --from
+says it where that is wrong. A folder stands for its files, without hidden ones, names files (*.names) and folders: each gets a
+line, and one bad file stops none of the others. So it is for several files. With two folders each file of the first goes with
+each of the second.
+
+A text has an entry on each line, or divides them by ';':
+
+    every link 1 \"sample\" [
+        at least 1 link 2 \"core\"
+        at most 1 link 32768 \"taken from field\"
+        has property 7 \"sealed\"
+    ]
+
+The entries are
+    has property P          lacks property P
+    at least N link L       at most N link L
+    every link L [ ... ]    nothing fits
+and in specimens
+    has property P          group of COUNT link L [ ... ]
+or, as at the desk, kind,name,number: 5,1 [3,2,1; 4,2,1]. After a number may come its word in quotes; the word alone stands for
+the number where the names file, or the text before, knows it: at least 1 core. Entries are numbered as they are written, from 1;
+#12 before an entry gives it the number 12, and those after it count on. The word 'description' or 'specimen' may come first; a
+text without entries needs it. // begins a remark.
+
+A names file has lines like
+    property 7 \"sealed\"
+    link 1 \"sample\" \"samples\"
+where the second word is the plural of a link's word.
+
+Exit status: 0 yes, contained, accepted or done; 1 no or not contained; 2 refused or a mistake in the input; 64 wrong usage. For
+several files it is the highest of theirs.
+
+gx COMMAND --help tells the options. gx --version tells the version.
+";

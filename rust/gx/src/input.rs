@@ -1,0 +1,266 @@
+//! An input: a file or standard input, blocks or text, read by the library.
+
+use std::fs::File;
+use std::io::Read;
+use std::path::{Path, PathBuf};
+
+use crate::blocks;
+use crate::entry::{Entry, Sort};
+use crate::library;
+use crate::names::Names;
+use crate::refused;
+use crate::text::{self, Mistake, Position};
+use crate::trouble::Trouble;
+
+/// Whether an input is blocks or text.
+#[derive(Clone, Copy, Debug, PartialEq, Eq)]
+pub enum Form {
+    /// Blocks of 512 bytes.
+    Blocks,
+    /// Text.
+    Text,
+}
+
+impl Form {
+    /// Blocks have a zero byte, since the high byte of the first block's number is one; a text has none. An empty input is no
+    /// text, since that has an entry or a heading.
+    pub fn of(bytes: &[u8]) -> Form {
+        if bytes.is_empty() || bytes.contains(&0) {
+            Form::Blocks
+        } else {
+            Form::Text
+        }
+    }
+}
+
+/// How inputs are to be read.
+#[derive(Clone, Debug, Default)]
+pub struct Reading {
+    /// The form that is forced.
+    pub form: Option<Form>,
+    /// The names given.
+    pub names: Names,
+}
+
+/// An input that the library accepts.
+#[derive(Clone, Debug)]
+pub struct Input {
+    /// The file's name without its folder, or "standard input".
+    pub title: String,
+    /// The sort it was read as.
+    pub sort: Sort,
+    /// The entries.
+    pub entries: Vec<Entry>,
+    /// The blocks.
+    pub bytes: Vec<u8>,
+    /// The words: those given, and then those of the text itself.
+    pub names: Names,
+    /// Where each entry stands in the text, if the input is one.
+    pub positions: Vec<Position>,
+}
+
+/// The most bytes that are read; every accepted input is shorter.
+const MOST_BYTES: u64 = 8 << 20;
+
+/// The bytes of a file, or of standard input for `-`.
+///
+/// # Errors
+///
+/// What the system says.
+pub fn bytes_of(path: &Path) -> Result<Vec<u8>, Trouble> {
+    let mut bytes = Vec::new();
+    let read = if path.as_os_str() == "-" {
+        std::io::stdin()
+            .lock()
+            .take(MOST_BYTES)
+            .read_to_end(&mut bytes)
+    } else {
+        File::open(path).and_then(|file| file.take(MOST_BYTES).read_to_end(&mut bytes))
+    };
+    read.map_err(|error| unreadable(path, &error))?;
+    Ok(bytes)
+}
+
+/// The trouble that a file's error is.
+pub fn unreadable(path: &Path, error: &std::io::Error) -> Trouble {
+    Trouble::File {
+        file: named(path),
+        why: error.to_string(),
+    }
+}
+
+/// The file as messages name it.
+pub fn named(path: &Path) -> String {
+    if path.as_os_str() == "-" {
+        return "standard input".into();
+    }
+    path.display().to_string()
+}
+
+/// The file's name without its folder.
+pub fn title(path: &Path) -> String {
+    match path.file_name() {
+        Some(name) if path.as_os_str() != "-" => name.to_string_lossy().into_owned(),
+        _ => named(path),
+    }
+}
+
+/// The names in a file.
+///
+/// # Errors
+///
+/// The file cannot be read, or has a mistake.
+pub fn names_of(path: &Path) -> Result<Names, Trouble> {
+    let bytes = bytes_of(path)?;
+    let text = text_of(path, &bytes)?;
+    Names::read(text).map_err(|mistake| mistaken(path, mistake, text))
+}
+
+/// The bytes as text.
+///
+/// # Errors
+///
+/// Where they are no UTF-8, or so many that not all of them were read.
+pub fn text_of<'a>(path: &Path, bytes: &'a [u8]) -> Result<&'a str, Trouble> {
+    if bytes.len() as u64 == MOST_BYTES {
+        return Err(Trouble::File {
+            file: named(path),
+            why: "the text is longer than 8 MiB".into(),
+        });
+    }
+    std::str::from_utf8(bytes).map_err(|error| {
+        let good = String::from_utf8_lossy(&bytes[..error.valid_up_to()]);
+        let last = good.rsplit('\n').next().unwrap_or("");
+        let at = Position {
+            line: good.matches('\n').count() + 1,
+            column: last.chars().count() + 1,
+        };
+        let byte = bytes.get(error.valid_up_to()).copied().unwrap_or(0);
+        let found = format!("the byte {byte:02x}");
+        mistaken(path, Mistake::new(at, "text in UTF-8", found), &good)
+    })
+}
+
+/// The trouble that a mistake is.
+pub fn mistaken(path: &Path, mistake: Mistake, text: &str) -> Trouble {
+    Trouble::Mistake {
+        file: named(path),
+        shown: mistake.shown_in(text),
+        mistake: Box::new(mistake),
+    }
+}
+
+impl Reading {
+    /// Reads an input as this sort; where none is given, as the sort that its heading or its entries tell. It is the call's
+    /// input of this number.
+    ///
+    /// # Errors
+    ///
+    /// The file cannot be read, its text has a mistake, or the library refuses it.
+    pub fn input(&self, path: &Path, sort: Option<Sort>, input: u16) -> Result<Input, Trouble> {
+        let bytes = bytes_of(path)?;
+        let draft = match self.form.unwrap_or(Form::of(&bytes)) {
+            Form::Blocks => self.blocks(path, bytes, sort),
+            Form::Text => self.text(path, &bytes, sort)?,
+        };
+        accepted(path, draft, input)
+    }
+
+    fn blocks(&self, path: &Path, bytes: Vec<u8>, sort: Option<Sort>) -> Input {
+        let entries = blocks::decode(&bytes);
+        Input {
+            title: title(path),
+            sort: sort.unwrap_or_else(|| Sort::guess(&entries)),
+            entries,
+            bytes,
+            names: self.names.clone(),
+            positions: Vec::new(),
+        }
+    }
+
+    fn text(&self, path: &Path, bytes: &[u8], sort: Option<Sort>) -> Result<Input, Trouble> {
+        let text = text_of(path, bytes)?;
+        let parsed = text::parse(text, &self.names);
+        let parsed = parsed.map_err(|mistake| mistaken(path, mistake, text))?;
+        if let (Some(due), Some((said, at))) = (sort, parsed.sort) {
+            if due != said {
+                let expected = format!("a {} here", due.word());
+                let mistake = Mistake::new(at, expected, format!("the heading '{}'", said.word()));
+                return Err(mistaken(path, mistake, text));
+            }
+        }
+        let said = parsed.sort.map(|(said, _)| said);
+        let mut names = self.names.clone();
+        names.join(&parsed.words);
+        Ok(Input {
+            title: title(path),
+            sort: sort
+                .or(said)
+                .unwrap_or_else(|| Sort::guess(&parsed.entries)),
+            bytes: blocks::encode(&parsed.entries),
+            entries: parsed.entries,
+            names,
+            positions: parsed.positions,
+        })
+    }
+}
+
+/// The input, if the library accepts it.
+///
+/// # Errors
+///
+/// The refusal.
+pub fn accepted(path: &Path, draft: Input, input: u16) -> Result<Input, Trouble> {
+    let Err(refusal) = library::read(draft.sort, &draft.bytes) else {
+        return Ok(draft);
+    };
+    let place = usize::from(refusal.place);
+    let of_entry = refusal.reason.number() >= 4;
+    let at = draft.positions.get(place.wrapping_sub(1)).copied();
+    Err(Trouble::Refused {
+        file: named(path),
+        why: refused::why(refusal, draft.sort, &draft.bytes),
+        shown: refused::shown(refusal, &draft.bytes, &draft.names),
+        refusal: library::Refusal { input, ..refusal },
+        at: at.filter(|_| of_entry),
+    })
+}
+
+/// The files that an argument names: itself, or the files of a folder by name. Hidden files, names files and folders in it are
+/// passed over.
+///
+/// # Errors
+///
+/// What the system says.
+pub fn files_of(path: &Path) -> Result<Vec<PathBuf>, Trouble> {
+    let listed = std::fs::read_dir(path).and_then(|list| {
+        let paths = list.map(|file| file.map(|file| file.path()));
+        paths.collect::<Result<Vec<PathBuf>, _>>()
+    });
+    let mut files = listed.map_err(|error| unreadable(path, &error))?;
+    files.retain(|file| {
+        let name = title(file);
+        file.is_file() && !name.starts_with('.') && !name.ends_with(".names")
+    });
+    files.sort();
+    Ok(files)
+}
+
+impl Input {
+    /// The line of the text on which an entry stands, if the input is a text.
+    pub fn line_of(&self, entry: usize) -> Option<usize> {
+        let at = self.positions.get(entry.checked_sub(1)?)?;
+        Some(at.line)
+    }
+}
+
+/// The trouble that a refusal of accepted inputs would be; the library is proved to have none.
+pub fn not_refused(path: &Path, refusal: library::Refusal) -> Trouble {
+    Trouble::Refused {
+        file: named(path),
+        refusal,
+        why: refusal.to_string(),
+        shown: String::new(),
+        at: None,
+    }
+}

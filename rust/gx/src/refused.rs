@@ -1,0 +1,216 @@
+//! A refusal in words, and the block or entry that it names in its surroundings.
+//!
+//! That an input is refused, by which row and where, is the library's answer. Here it is only looked up what stands there.
+
+use goltximen::{Reason, Refusal};
+
+use crate::blocks::{self, Frame, BLOCK, BLOCK_ENTRIES};
+use crate::entry::{Entry, Sort};
+use crate::names::Names;
+use crate::text;
+use crate::tree::owners;
+
+/// Why the input is refused, in words.
+pub fn why(refusal: Refusal, sort: Sort, bytes: &[u8]) -> String {
+    let place = usize::from(refusal.place);
+    match refusal.reason {
+        Reason::Length => length(sort, bytes),
+        Reason::Check => match blocks::frame(bytes, place) {
+            Some(Frame { check, sum, .. }) => format!(
+                "the check of block {place} is wrong: it says {check}, and the words of the block add up to {sum}"
+            ),
+            None => format!("the check of block {place} is wrong"),
+        },
+        Reason::Frame => {
+            let fault = blocks::frame(bytes, place).map(|frame| frame_fault(frame, place, bytes));
+            format!("block {place}: {}", fault.unwrap_or_default())
+        }
+        Reason::Form | Reason::Owner | Reason::Depth => {
+            let entries = blocks::decode(bytes);
+            let e = entries.get(place.wrapping_sub(1)).copied().unwrap_or_default();
+            let fault = match refusal.reason {
+                Reason::Form => form_fault(sort, e),
+                Reason::Owner => owner_fault(sort, e, place, &entries),
+                _ => depth_fault(&entries, place),
+            };
+            format!("entry {place}: {fault}")
+        }
+        Reason::Output => "the output is too short".into(),
+    }
+}
+
+fn length(sort: Sort, bytes: &[u8]) -> String {
+    let (whole, rest) = (bytes.len() / BLOCK, bytes.len() % BLOCK);
+    let most = sort.most_blocks();
+    let sort = sort.word();
+    let utf16 = bytes.starts_with(&[0xff, 0xfe]) || bytes.starts_with(&[0xfe, 0xff]);
+    match (bytes.len(), rest) {
+        (0, _) => "the input is empty: it has 0 bytes, and the least is one block of 512".into(),
+        _ if utf16 => {
+            "the input is no blocks; it looks like a text in UTF-16, save it as UTF-8".into()
+        }
+        // No more than 8 MiB are read.
+        (_, 0) if whole >= 1 << 14 => {
+            format!("the input has {whole} blocks or more, and a {sort} has at most {most}")
+        }
+        (_, 0) => format!("the input has {whole} blocks, and a {sort} has at most {most}"),
+        (length, _) => format!(
+            "the input has {length} bytes, which is no multiple of 512: {}, and {}",
+            counted(whole, "whole block", "whole blocks"),
+            counted(rest, "byte more", "bytes more")
+        ),
+    }
+}
+
+fn counted(count: usize, one: &str, many: &str) -> String {
+    let word = if count == 1 { one } else { many };
+    format!("{count} {word}")
+}
+
+/// Which of the block's number, its used count and its zero bytes is wrong.
+fn frame_fault(frame: Frame, block: usize, bytes: &[u8]) -> String {
+    let total = bytes.len() / BLOCK;
+    let used = usize::from(frame.used);
+    let least = if block < total {
+        BLOCK_ENTRIES
+    } else {
+        usize::from(total > 1)
+    };
+    if usize::from(frame.number) != block {
+        return format!("its number says {}", frame.number);
+    }
+    if used > BLOCK_ENTRIES || used < least {
+        let due = match (block < total, total) {
+            (true, _) => "every block but the last uses 63".into(),
+            (_, 1) => "a block uses 0 to 63".to_string(),
+            _ => "the last of several uses 1 to 63".into(),
+        };
+        return format!("it says that {used} entries are used, and {due}");
+    }
+    match frame.not_zero {
+        Some((at, value)) => format!("byte {at} is due to be zero and is {value}"),
+        None => "its frame is wrong".into(),
+    }
+}
+
+/// Which field of an entry is outside the table.
+fn form_fault(sort: Sort, e: Entry) -> String {
+    let allowed = match sort {
+        Sort::Description => (1..=6).contains(&e.kind),
+        Sort::Specimen => e.kind == 1 || e.kind == 7,
+    };
+    let kinds = match sort {
+        Sort::Description => "1 to 6",
+        Sort::Specimen => "1 and 7",
+    };
+    if !allowed {
+        let sort = sort.word();
+        return format!("its kind is {}, and a {sort} has kinds {kinds}", e.kind);
+    }
+    if e.zero != 0 {
+        return format!("its byte 1 is {}, and it is due to be zero", e.zero);
+    }
+    match (e.kind, e.name) {
+        (6, 0) => format!("its number is {}, and kind 6 has 0", e.number),
+        (6, name) => format!("its name is {name}, and kind 6 has 0"),
+        (kind, 0) => format!("its name is 0, and kind {kind} has 1 to 65,535"),
+        (kind, _) => format!("its number is {}, and kind {kind} has 0", e.number),
+    }
+}
+
+fn owner_fault(sort: Sort, e: Entry, number: usize, entries: &[Entry]) -> String {
+    let owner = usize::from(e.owner);
+    let (kind, word) = sort.owner_kind();
+    if owner >= number {
+        let which = if owner == number {
+            "itself"
+        } else if owner > entries.len() {
+            "and there is no such entry"
+        } else {
+            "a later entry"
+        };
+        return format!("its owner is entry {owner}, {which}");
+    }
+    let found = entries
+        .get(owner.wrapping_sub(1))
+        .map_or(0, |owner| owner.kind);
+    format!("its owner is entry {owner} of kind {found}, and an owner is of kind {kind} ({word})")
+}
+
+fn depth_fault(entries: &[Entry], number: usize) -> String {
+    let depth = owners(entries, number).len();
+    format!("it stands {depth} deep, and the most is 32")
+}
+
+/// How many entries are shown on each side.
+const AROUND: usize = 3;
+
+/// The block or entry that the refusal names, in its surroundings.
+pub fn shown(refusal: Refusal, bytes: &[u8], names: &Names) -> String {
+    let place = usize::from(refusal.place);
+    match refusal.reason {
+        Reason::Length | Reason::Output => String::new(),
+        Reason::Check | Reason::Frame => shown_blocks(bytes, place),
+        Reason::Form | Reason::Owner | Reason::Depth => shown_entries(bytes, place, names),
+    }
+}
+
+fn shown_blocks(bytes: &[u8], place: usize) -> String {
+    let total = bytes.len() / BLOCK;
+    let first = place.saturating_sub(1).max(1);
+    let mut out = String::new();
+    for block in first..=(place + 1).min(total) {
+        let Some(frame) = blocks::frame(bytes, block) else {
+            continue;
+        };
+        let sign = if block == place { '>' } else { ' ' };
+        let zero = frame.not_zero.map_or(String::new(), |(at, value)| {
+            format!(", byte {at} is {value}")
+        });
+        out.push_str(&format!(
+            "{sign} block {block} of {total} (bytes {} to {}): number {}, used {}, check {}, sum {}{zero}\n",
+            (block - 1) * BLOCK,
+            block * BLOCK - 1,
+            frame.number,
+            frame.used,
+            frame.check,
+            frame.sum
+        ));
+    }
+    out
+}
+
+fn shown_entries(bytes: &[u8], place: usize, names: &Names) -> String {
+    let entries = blocks::decode(bytes);
+    let first = place.saturating_sub(AROUND).max(1);
+    let last = (place + AROUND).min(entries.len());
+    let width = last.to_string().len();
+    let mut out = String::new();
+    for number in first..=last {
+        let e = entries[number - 1];
+        let sign = if number == place { '>' } else { ' ' };
+        let owner = match e.owner {
+            0 => "at the top".into(),
+            owner => format!("owner {owner}"),
+        };
+        let words = text::entry(e.says(), names);
+        out.push_str(&format!(
+            "{sign} entry {number:>width$}, {owner}: {words}\n"
+        ));
+    }
+    let e = entries
+        .get(place.wrapping_sub(1))
+        .copied()
+        .unwrap_or_default();
+    let (block, at) = blocks::place_of(place);
+    let hex: Vec<String> = blocks::entry_bytes(&e)
+        .iter()
+        .map(|byte| format!("{byte:02x}"))
+        .collect();
+    out.push_str(&format!(
+        "\n  entry {place} is in block {block}, bytes {at} to {}: {}\n",
+        at + 7,
+        hex.join(" ")
+    ));
+    out
+}

@@ -1,0 +1,315 @@
+//! One run of the program: the inputs of the command line, one by one, and what is printed of each answer.
+
+use std::collections::BTreeSet;
+use std::ffi::OsString;
+use std::io::{ErrorKind, IsTerminal, Write};
+use std::path::{Path, PathBuf};
+
+use crate::args::{self, Args, Command, Options, To};
+use crate::commands::{Answer, Context, Extra, Status};
+use crate::help;
+use crate::input::{files_of, names_of, title, unreadable, Reading};
+use crate::json::Json;
+use crate::page;
+use crate::trouble::Trouble;
+
+/// The exit status for wrong usage.
+const USAGE: u8 = 64;
+
+/// Does what the command line says, and returns the exit status.
+pub fn run(args: &[OsString]) -> u8 {
+    match args::read(args) {
+        Ok(Args::Help(command)) => {
+            let help = command.map_or(help::all(), help::of);
+            printed(help.as_bytes(), Status::Yes).code()
+        }
+        Ok(Args::Version) => {
+            let version = concat!("gx ", env!("CARGO_PKG_VERSION"), "\n");
+            printed(version.as_bytes(), Status::Yes).code()
+        }
+        Ok(Args::Do(command, files, options)) => done(command, &files, options),
+        Err(wrong) => {
+            complain(&format!("gx: {wrong}\n\n{}", help::usage()));
+            USAGE
+        }
+    }
+}
+
+/// Writes to standard output, and says whether that went well. Where nobody reads on, nobody misses it.
+fn print(bytes: &[u8]) -> bool {
+    let mut out = std::io::stdout().lock();
+    match out.write_all(bytes).and_then(|()| out.flush()) {
+        Err(error) if error.kind() != ErrorKind::BrokenPipe => {
+            complain(&format!("gx: standard output cannot be written: {error}\n"));
+            false
+        }
+        _ => true,
+    }
+}
+
+/// The status of an answer, or bad where it could not be printed.
+fn printed(bytes: &[u8], status: Status) -> Status {
+    if print(bytes) {
+        status
+    } else {
+        Status::Bad
+    }
+}
+
+fn complain(words: &str) {
+    let _ = std::io::stderr().lock().write_all(words.as_bytes());
+}
+
+fn done(command: Command, files: &[PathBuf], options: Options) -> u8 {
+    let names = options
+        .names
+        .as_deref()
+        .map_or(Ok(Default::default()), names_of);
+    let names = match names {
+        Ok(names) => names,
+        Err(trouble) => {
+            complain(&format!("gx: {}", trouble.lines()));
+            return Status::Bad.code();
+        }
+    };
+    let reading = Reading {
+        form: options.from,
+        names,
+    };
+    let run = Run {
+        command,
+        context: Context { options, reading },
+    };
+    let many = files.iter().any(|file| file.is_dir());
+    if many || (!command.takes_pair() && files.len() > 1) {
+        return run.lines(files);
+    }
+    let blocks = command == Command::Write || run.options().to == Some(To::Blocks);
+    if blocks && run.to_terminal() {
+        complain("gx: blocks are not for a terminal; --out FILE writes them into a file\n");
+        return USAGE;
+    }
+    let files: Vec<&Path> = files.iter().map(PathBuf::as_path).collect();
+    run.one(&files).code()
+}
+
+struct Run {
+    command: Command,
+    context: Context,
+}
+
+impl Run {
+    fn options(&self) -> &Options {
+        &self.context.options
+    }
+
+    fn to_terminal(&self) -> bool {
+        let options = self.options();
+        options.out.is_none() && !options.json && std::io::stdout().is_terminal()
+    }
+
+    /// One answer, in full.
+    fn one(&self, files: &[&Path]) -> Status {
+        let answer = self.context.answer(self.command, files);
+        let answer = answer.and_then(|answer| {
+            self.store_extras(&answer, None)?;
+            Ok(answer)
+        });
+        match answer {
+            Ok(answer) => self.print_one(answer),
+            Err(trouble) => {
+                self.print_trouble(&trouble);
+                Status::Bad
+            }
+        }
+    }
+
+    fn print_one(&self, answer: Answer) -> Status {
+        if let Some(out) = &self.options().out {
+            if let Err(trouble) = store(out, &answer.full) {
+                self.print_trouble(&trouble);
+                return Status::Bad;
+            }
+        }
+        if self.options().json {
+            let line = format!("{}\n", Json::Object(answer.json));
+            return printed(line.as_bytes(), answer.status);
+        }
+        match self.options().out {
+            Some(_) => answer.status,
+            None => printed(&answer.full, answer.status),
+        }
+    }
+
+    fn print_trouble(&self, trouble: &Trouble) {
+        self.store_refused(trouble, None);
+        let unread = matches!(trouble, Trouble::File { .. });
+        if self.options().json {
+            print(format!("{}\n", Json::Object(trouble.json())).as_bytes());
+        } else if self.command.answers() && !unread {
+            print(trouble.lines().as_bytes());
+        } else {
+            complain(&format!("gx: {}", trouble.lines()));
+        }
+    }
+
+    /// A line for each input, or for each pair of inputs; the worst status.
+    fn lines(&self, files: &[PathBuf]) -> u8 {
+        let mut worst = Status::Yes;
+        let mut sides = Vec::new();
+        for file in files {
+            match self.side(file) {
+                Ok(side) => sides.push(side),
+                Err(trouble) => {
+                    complain(&format!("gx: {}", trouble.lines()));
+                    worst = Status::Bad;
+                }
+            }
+        }
+        let jobs = match (self.command.takes_pair(), sides.as_slice()) {
+            (false, _) => sides
+                .concat()
+                .iter()
+                .map(|file| vec![file.clone()])
+                .collect(),
+            (true, [c, d]) => pairs(c, d),
+            _ => Vec::new(),
+        };
+        if let Some(name) = self.written_twice(&jobs, files) {
+            complain(&format!(
+                "gx: two inputs are called {name}, and would be written into one file\n"
+            ));
+            return USAGE;
+        }
+        let progress = std::io::stderr().is_terminal();
+        for (at, job) in jobs.iter().enumerate() {
+            if progress {
+                complain(&format!("\r{} of {}", at + 1, jobs.len()));
+            }
+            let status = self.line(job, files, progress);
+            worst = worst.max(status);
+        }
+        if progress {
+            complain("\r\x1b[K");
+        }
+        worst.code()
+    }
+
+    /// A name that two answers have, where answers are written into files called by their names.
+    fn written_twice(&self, jobs: &[Vec<PathBuf>], given: &[PathBuf]) -> Option<String> {
+        let options = self.options();
+        let places = [&options.out, &options.html, &options.svg, &options.specimen];
+        places.into_iter().find(|place| place.is_some())?;
+        let mut names = BTreeSet::new();
+        let mut jobs = jobs.iter().map(|job| named(job, given));
+        jobs.find(|name| !names.insert(name.clone()))
+    }
+
+    /// The files that an argument names.
+    fn side(&self, file: &Path) -> Result<Vec<PathBuf>, Trouble> {
+        match file.is_dir() {
+            true => files_of(file),
+            false => Ok(vec![file.into()]),
+        }
+    }
+
+    fn line(&self, job: &[PathBuf], given: &[PathBuf], progress: bool) -> Status {
+        let name = named(job, given);
+        let paths: Vec<&Path> = job.iter().map(PathBuf::as_path).collect();
+        let answer = self.context.answer(self.command, &paths);
+        let answer = answer.and_then(|answer| {
+            self.store_extras(&answer, Some(&name))?;
+            if let Some(out) = &self.options().out {
+                let file = out.join(format!("{name}.{}", answer.ending));
+                store_in(out, &file, &answer.full)?;
+            }
+            Ok(answer)
+        });
+        let (status, line, json) = match answer {
+            Ok(answer) => (answer.status, answer.line, answer.json),
+            Err(trouble) => {
+                self.store_refused(&trouble, Some(&name));
+                (Status::Bad, trouble.line(), trouble.json())
+            }
+        };
+        let shown = match self.options().json {
+            true => {
+                let first = Json::Object(vec![("file", Json::text(&name))]);
+                format!("{}\n", first.with(json))
+            }
+            false => format!("{name}: {line}\n"),
+        };
+        if progress && std::io::stdout().is_terminal() {
+            complain("\r\x1b[K");
+        }
+        printed(shown.as_bytes(), status)
+    }
+
+    /// Writes the drawing, the page and the specimen; into folders where there are several answers.
+    fn store_extras(&self, answer: &Answer, name: Option<&str>) -> Result<(), Trouble> {
+        for (extra, bytes) in &answer.extras {
+            let (path, ending) = match extra {
+                Extra::Html => (&self.options().html, "html"),
+                Extra::Svg => (&self.options().svg, "svg"),
+                Extra::Specimen => (&self.options().specimen, "blocks"),
+            };
+            match (path, name) {
+                (Some(path), None) => store(path, bytes)?,
+                (Some(folder), Some(name)) => {
+                    store_in(folder, &folder.join(format!("{name}.{ending}")), bytes)?;
+                }
+                (None, _) => (),
+            }
+        }
+        Ok(())
+    }
+
+    /// Writes a page that says why there is no answer, so that no older page is taken for one.
+    fn store_refused(&self, trouble: &Trouble, name: Option<&str>) {
+        let Some(path) = &self.options().html else {
+            return;
+        };
+        let page = page::refused(trouble);
+        let stored = match name {
+            None => store(path, page.as_bytes()),
+            Some(name) => store_in(path, &path.join(format!("{name}.html")), page.as_bytes()),
+        };
+        if let Err(trouble) = stored {
+            complain(&format!("gx: {}", trouble.lines()));
+        }
+    }
+}
+
+/// Each file of the one side with each of the other.
+fn pairs(c: &[PathBuf], d: &[PathBuf]) -> Vec<Vec<PathBuf>> {
+    let with = |one: &PathBuf| {
+        let one = one.clone();
+        d.iter().map(move |other| vec![one.clone(), other.clone()])
+    };
+    c.iter().flat_map(with).collect()
+}
+
+/// The name on a line: that of the file, and of a pair those that come from folders.
+fn named(job: &[PathBuf], given: &[PathBuf]) -> String {
+    match (job, given) {
+        ([c, d], [from_c, from_d]) => match (from_c.is_dir(), from_d.is_dir()) {
+            (true, false) => title(c),
+            (false, true) => title(d),
+            _ => format!("{} and {}", title(c), title(d)),
+        },
+        _ => job.first().map(|file| title(file)).unwrap_or_default(),
+    }
+}
+
+fn store(path: &Path, bytes: &[u8]) -> Result<(), Trouble> {
+    std::fs::write(path, bytes).map_err(|error| match unreadable(path, &error) {
+        Trouble::File { file, why } => Trouble::Unwritten { file, why },
+        other => other,
+    })
+}
+
+fn store_in(folder: &Path, path: &Path, bytes: &[u8]) -> Result<(), Trouble> {
+    // A folder that cannot be made shows when the file is written.
+    let _ = std::fs::create_dir_all(folder);
+    store(path, bytes)
+}

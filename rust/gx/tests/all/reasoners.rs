@@ -1,0 +1,188 @@
+//! The same questions asked of OWL reasoners, where they are installed: Konclude reads what `gx owl` writes, FaCT++ the same class
+//! expressions in its own notation.
+
+use std::process::{Command, Stdio};
+use std::time::{Duration, Instant};
+
+use differential::chance::Chance;
+use differential::draw::{self, Shape};
+use differential::pairs::{missed, weaker};
+use gx::blocks::encode;
+use gx::library::{compare, Compared};
+use gx::names::Names;
+use gx::owl::question;
+
+use crate::support::{ours, Folder};
+
+/// How many pairs are asked.
+const PAIRS: u64 = 200;
+/// How long a reasoner may take for one.
+const PATIENCE: Duration = Duration::from_secs(3);
+/// How often it is asked.
+const TRIES: usize = 2;
+/// How long it may take for all. One that does not end has said nothing, and what it has not said is no difference.
+const LIMIT: Duration = Duration::from_secs(60);
+
+/// A small pair with small numbers: a reasoner may make as many items as a number says.
+fn pair(seed: u64) -> (Vec<gx::entry::Entry>, Vec<gx::entry::Entry>) {
+    let mut chance = Chance::from_seed(seed);
+    let shape = Shape {
+        entries: 4 + chance.below(8),
+        numbers: 3,
+        conflicts: chance.one_of([0, 10, 40]),
+        ..draw::SMALL
+    };
+    let c = draw::description(&mut chance, &shape);
+    let d = match chance.below(3) {
+        0 => weaker(&mut chance, &c),
+        1 => {
+            let weaker = weaker(&mut chance, &c);
+            missed(&mut chance, &weaker)
+        }
+        _ => draw::description(
+            &mut chance,
+            &Shape {
+                entries: 3,
+                ..shape
+            },
+        ),
+    };
+    (ours(&c), ours(&d))
+}
+
+/// What a program prints, if it ends in time. Konclude now and then does not end, so it is asked again.
+fn printed(program: &str, args: &[&str], folder: &Folder) -> Option<String> {
+    (0..TRIES).find_map(|_| printed_once(program, args, folder))
+}
+
+fn printed_once(program: &str, args: &[&str], folder: &Folder) -> Option<String> {
+    let out = std::fs::File::create(folder.path().join("printed")).ok()?;
+    let mut child = Command::new(program)
+        .args(args)
+        .current_dir(folder.path())
+        .stdin(Stdio::null())
+        .stdout(out)
+        .stderr(Stdio::null())
+        .spawn()
+        .ok()?;
+    let begin = Instant::now();
+    while child.try_wait().ok()?.is_none() {
+        if begin.elapsed() > PATIENCE {
+            child.kill().ok()?;
+            child.wait().ok()?;
+            println!("{program} did not end in {PATIENCE:?}");
+            return None;
+        }
+        std::thread::sleep(Duration::from_millis(2));
+    }
+    Some(String::from_utf8_lossy(&folder.get("printed")).into_owned())
+}
+
+/// Whether the program stands in one of the folders where programs are looked for.
+fn installed(program: &str) -> bool {
+    let path = std::env::var_os("PATH").unwrap_or_default();
+    let found = std::env::split_paths(&path).any(|folder| folder.join(program).is_file());
+    if !found {
+        println!("{program} is not installed: not asked (apt-get install konclude fact++)");
+    }
+    found
+}
+
+/// Asks of all pairs, and wants the reasoner's answers to be the library's. A pair that it does not answer in time is counted.
+fn agree(program: &str, ask: impl Fn(&Folder, &str) -> Option<bool>) {
+    if !installed(program) {
+        return;
+    }
+    let folder = Folder::new(program);
+    let begin = Instant::now();
+    let (mut answered, mut contained) = (0, 0);
+    for seed in 0..PAIRS {
+        let (c, d) = pair(seed);
+        let text = question(&c, &d, &Names::default());
+        let ours = compare(&encode(&c), &encode(&d)).unwrap() == Compared::Contained;
+        contained += u64::from(ours);
+        if begin.elapsed() > LIMIT {
+            continue;
+        }
+        if let Some(theirs) = ask(&folder, &text) {
+            assert_eq!(theirs, ours, "{program}, pair {seed}:\n{text}");
+            answered += 1;
+        }
+    }
+    println!("{program} agrees on {answered} of {PAIRS} pairs, of which {contained} are contained");
+    assert!(contained > 40 && contained < PAIRS - 40);
+}
+
+#[test]
+fn konclude_agrees() {
+    agree("Konclude", |folder, text| {
+        folder.put("question.ofn", text);
+        let class = "urn:goltximen#SupplierOnly";
+        let args = [
+            "satisfiability",
+            "-w",
+            "2",
+            "-i",
+            "question.ofn",
+            "-x",
+            class,
+        ];
+        let said = printed("Konclude", &args, folder)?;
+        match (
+            said.contains("is not satisfiable"),
+            said.contains("is satisfiable"),
+        ) {
+            (true, false) => Some(true),
+            (false, true) => Some(false),
+            _ => None,
+        }
+    });
+}
+
+#[test]
+fn fact_agrees() {
+    agree("FaCT++", |folder, text| {
+        folder.put("question.lisp", in_lisp(text));
+        let conf = "[LeveLogger]\nfile = /dev/null\nallowedLevel = 0\n[Tuning]\n[Query]\nTBox = question.lisp\nTarget = Supplier\nTarget2 = Service\n";
+        folder.put("question.conf", conf);
+        let said = printed("FaCT++", &["question.conf"], folder)?;
+        match (
+            said.contains("subsumption does holds"),
+            said.contains("does NOT holds"),
+        ) {
+            (true, false) => Some(true),
+            (false, true) => Some(false),
+            _ => None,
+        }
+    });
+}
+
+/// The axioms of `gx owl` in the notation of FaCT++, word by word.
+fn in_lisp(owl: &str) -> String {
+    let from = owl.find("EquivalentClasses(:Supplier").unwrap();
+    let to = owl.find("EquivalentClasses(:SupplierOnly").unwrap();
+    let mut lisp = owl[from..to].to_string();
+    for (functional, word) in [
+        ("EquivalentClasses(", "(equal_c "),
+        ("ObjectIntersectionOf(", "(and "),
+        ("ObjectComplementOf(", "(not "),
+        ("ObjectMinCardinality(", "(atleast "),
+        ("ObjectMaxCardinality(", "(atmost "),
+        ("ObjectAllValuesFrom(", "(all "),
+        ("owl:Thing", "*TOP*"),
+        ("owl:Nothing", "*BOTTOM*"),
+        (":", ""),
+    ] {
+        lisp = lisp.replace(functional, word);
+    }
+    let mut declared = String::new();
+    for number in 1..=9 {
+        if lisp.contains(&format!("link_{number}")) {
+            declared.push_str(&format!("(defprimrole link_{number})\n"));
+        }
+        if lisp.contains(&format!("property_{number}")) {
+            declared.push_str(&format!("(defprimconcept property_{number})\n"));
+        }
+    }
+    declared + &lisp
+}
