@@ -2,9 +2,9 @@
 // second hold is asked of the layer of the normal form; where one fails, the first is normalised, and the specimen is written place by
 // place from the table of its normal form, with what the path to the failing entry asks for.
 //
-// The contracts cite specs/: Answer says what is answered and written; Table, Asked, Codes, Laying and Prepared mirror the code, and no public
-// promise names them. What the specimen is, and what the answer for two lists of entries means in every finite record, is said and proved
-// in `meaning`: SpecimenFor, Failing, Contained, NotContained. The same of two inputs is in proofs/Answer.
+// The contracts cite specs/: Answer says what is answered and written; Table, Asked, Codes, Laying and Prepared mirror the code, and no
+// public promise names them. What the specimen is, and what the answer for two lists of entries means in every finite record, is said and
+// proved in `meaning`: SpecimenFor, Failing, Contained, NotContained. The same of two inputs is in proofs/Answer.
 mod asked;
 mod lookup;
 mod path;
