@@ -1,7 +1,7 @@
 // The spans of the table's words that a place lists: its properties, kind 1, and its groups, kind 3; whole, or around one name. A property
 // alone is looked for among properties, and a link alone among links.
 ghost use mathlib.Core.Path.{_≡_};
-ghost use Prim.Native.Nat.{_+_, _≤_, _<_, suc};
+ghost use Prim.Native.Nat.{_≤_, _<_, suc};
 ghost use Rattle.compare.specs.code.Table.{Formed, spanFrom};
 use crate::table::key_of;
 use crate::table::rank;
