@@ -4,7 +4,7 @@ use Prim.Native.Nat.{_+_, _-_, _<_, _≤_, suc, zero, ℕ}
 use lib.Dec.{ltb}
 use lib.ListN.{getD, length, length-append}
 use mathlib.Core.List.{List, [], _++_, _∷_, map}
-use mathlib.Core.Path.{_∙_, _≡_, ap, refl}
+use mathlib.Core.Path.{_∙_, _≡_, refl}
 use native.Mathlib.Omega.{arith}
 use Rattle.base.proofs.Tests.{bool-cases, eq-cases, ge-ltb, lt-cases, lt-ltb, ltb-ge, ltb-lt}
 use Rattle.blocks.specs.declared.Entry.{Entry}
