@@ -12,3 +12,5 @@ pub mod LevelLaws
 pub mod Legal
 -- An encoding is made of bytes, and the fields of entries read from bytes fit theirs.
 pub mod Bounds
+-- The ways that reading goes, for one input and for two.
+pub mod Readings

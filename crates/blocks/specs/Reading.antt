@@ -19,6 +19,11 @@ answer i total (Faulty k p) = Refused k i p
 unfoldable pub readingOf : Schema → ℕ → List ℕ → Reading
 readingOf σ i s = answer i (totalIn plain s) (first (faults σ s))
 
+-- an answer that takes accepted inputs: where reading one of them refuses it, that refusal instead
+abbrev pub unlessRefused : {A : Type 0} → (ℕ → ℕ → ℕ → A) → Reading → A → A
+unlessRefused refuse (Refused k i p) a = refuse k i p
+unlessRefused refuse (Accepted total) a = a
+
 -- The paper's numbers for each case: the number returned, 0 where nothing is refused, the input, the place, and the entries
 -- of an accepted input.
 pub record Returned : Type 0 where

@@ -5,16 +5,16 @@ use lib.ListN.{length}
 use mathlib.Core.List.{List}
 use mathlib.Core.Option.{none}
 use mathlib.Core.Logic.{_≢_}
-use mathlib.Core.Path.{_≡_, ap, refl}
+use mathlib.Core.Path.{_≡_, ap}
 use native.Mathlib.Omega.{arith}
 use Rattle.base.proofs.Tests.{eq-cases, eq-eqb, ge-ltb, lt-cases, lt-ltb, ne-eqb}
+use Rattle.blocks.proofs.Refusing.Readings.{readings-cases}
 use Rattle.blocks.proofs.RoundTrip.Accepting.{accepted-by-none, refused-by-first}
 use Rattle.blocks.specs.Entries.{entriesOf}
 use Rattle.blocks.specs.Faults.{faults}
 use Rattle.blocks.specs.Promise.{FirstOf, None}
 use Rattle.blocks.specs.Reading.{readingOf}
 use Rattle.blocks.specs.declared.Entry.{Entry}
-use Rattle.blocks.specs.declared.Reading.{Reading}
 use Rattle.blocks.specs.declared.Reading.the-variants as reading
 use Rattle.blocks.specs.declared.Schema.the-variants.{Description}
 use Rattle.compare.specs.Answer.{compareOf, returned, verdict}
@@ -49,21 +49,13 @@ module _ (c d out : List ℕ) where
 
   -- refused, or compared
   pub compare-cases : {X : Type 0} → ((k i p : ℕ) → compareOf c d out ≡ Refused k i p → X) → (Comparable c d out → X) → X
-  compare-cases {X} f g = by-first (readingOf Description 1 c) refl
-    where
-      by-room : (n m : ℕ) → readingOf Description 1 c ≡ reading.Accepted n → readingOf Description 2 d ≡ reading.Accepted m → X
-      by-room n m e e′ =
-          lt-cases (length out) (length c + length d)
-          (λ h. f 7 0 0 (too-short e e′ h))
-          (λ h. g (record { first = n; second = m; first-read = e; second-read = e′; room = h }))
-
-      by-second : (n : ℕ) → readingOf Description 1 c ≡ reading.Accepted n → (r : Reading) → readingOf Description 2 d ≡ r → X
-      by-second n e (reading.Refused k i p) q = f k i p (second-refused e q)
-      by-second n e (reading.Accepted m) q = by-room n m e q
-
-      by-first : (r : Reading) → readingOf Description 1 c ≡ r → X
-      by-first (reading.Refused k i p) q = f k i p (first-refused q)
-      by-first (reading.Accepted n) q = by-second n q (readingOf Description 2 d) refl
+  compare-cases f g =
+      readings-cases (readingOf Description 1 c) (readingOf Description 2 d)
+      (λ k i p e. f k i p (first-refused e))
+      (λ n k i p e e′. f k i p (second-refused e e′))
+      (λ n m e e′. lt-cases (length out) (length c + length d)
+      (λ h. f 7 0 0 (too-short e e′ h))
+      (λ h. g (record { first = n; second = m; first-read = e; second-read = e′; room = h })))
 
   -- what is contained or not contained was compared
   pub contained-ready : compareOf c d out ≡ Contained → Comparable c d out

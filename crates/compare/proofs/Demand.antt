@@ -4,17 +4,16 @@ use Prim.Native.Nat.{_+_, _<_, ℕ}
 use lib.ListN.{length}
 use mathlib.Core.List.{List}
 use mathlib.Core.Logic.{_⊎_, _↔_, inl, inr}
-use mathlib.Core.Path.{_∙_, _≡_, refl, sym}
+use mathlib.Core.Path.{_∙_, _≡_, sym}
 use native.Mathlib.Omega.{arith}
 use Rattle.base.proofs.Tests.{both-ways, eq-cases, lt-cases}
+use Rattle.blocks.proofs.Refusing.Readings.{readings-cases}
 use Rattle.blocks.proofs.RoundTrip.Accepting.{accepted-by-none, none-of-accepted, sound-of-accepted}
 use Rattle.blocks.proofs.RoundTrip.RefusalNumbers.{reading-number}
 use Rattle.blocks.specs.Entries.{entriesOf}
 use Rattle.blocks.specs.Faults.{faults}
 use Rattle.blocks.specs.Promise.{None}
 use Rattle.blocks.specs.Reading.{readingOf}
-use Rattle.blocks.specs.declared.Reading.{Reading}
-use Rattle.blocks.specs.declared.Reading.the-variants as reading
 use Rattle.blocks.specs.declared.Schema.the-variants.{Description}
 use Rattle.compare.proofs.AnswerLaws.{compared, first-refused, not-verdict, second-refused, too-short, verdict-contained, verdict-not}
 use Rattle.compare.proofs.PromiseKept.{contained-exactly, not-contained-means}
@@ -66,33 +65,25 @@ Short c d out = None (faults Description c) × None (faults Description d) × (l
 
 module _ (c d out : List ℕ) where
   seven-short : {i p : ℕ} → compareOf c d out ≡ Refused 7 i p → Short c d out
-  seven-short {i} {p} e = by-first (readingOf Description 1 c) refl
+  seven-short {i} {p} e =
+      readings-cases (readingOf Description 1 c) (readingOf Description 2 d)
+      (λ k j q f.
+      let g : Refused k j q ≡ Refused 7 i p = sym (first-refused c d out f) ∙ e in
+      let z : k ≡ 7 = cc in
+      absurd (omega (arith, reading-number Description 1 c f .0)))
+      (λ n k j q a f.
+      let g : Refused k j q ≡ Refused 7 i p = sym (second-refused c d out a f) ∙ e in
+      let z : k ≡ 7 = cc in
+      absurd (omega (arith, reading-number Description 2 d f .0)))
+      (λ n m a b. lt-cases (length out) (length c + length d)
+      (λ h. (none-of-accepted Description 1 c a .0, none-of-accepted Description 2 d b .0, h))
+      (λ h. absurd (not-refused (record { first = n; second = m; first-read = a; second-read = b; room = h }))))
     where
-      by-room : {n m : ℕ} → readingOf Description 1 c ≡ reading.Accepted n → readingOf Description 2 d ≡ reading.Accepted m → Short c d out
-      by-room a b =
-          lt-cases (length out) (length c + length d)
-          (λ h. (none-of-accepted Description 1 c a .0, none-of-accepted Description 2 d b .0, h))
-          (λ h. absurd (not-refused (record { first = _; second = _; first-read = a; second-read = b; room = h })))
-        where
-          not-refused : Comparable c d out → ⊥
-          not-refused r =
-              eq-cases (failing (entriesOf c) (entriesOf d)) 0
-              (λ z. let g : Contained ≡ Refused 7 i p = sym (compared c d out r ∙ verdict-contained (entriesOf c) (entriesOf d) z) ∙ e in let w : _≡_ {A = ℕ} 0 1 = cc in omega arith)
-              (λ z. let g = sym (compared c d out r ∙ verdict-not (entriesOf c) (entriesOf d) z) ∙ e in let w : _≡_ {A = ℕ} 0 1 = cc in omega arith)
-
-      by-second : {n : ℕ} → readingOf Description 1 c ≡ reading.Accepted n → (y : Reading) → readingOf Description 2 d ≡ y → Short c d out
-      by-second a (reading.Refused k j q) f =
-          let g : Refused k j q ≡ Refused 7 i p = sym (second-refused c d out a f) ∙ e in
-          let z : k ≡ 7 = cc in
-          absurd (omega (arith, reading-number Description 2 d f .0))
-      by-second a (reading.Accepted m) f = by-room a f
-
-      by-first : (x : Reading) → readingOf Description 1 c ≡ x → Short c d out
-      by-first (reading.Refused k j q) f =
-          let g : Refused k j q ≡ Refused 7 i p = sym (first-refused c d out f) ∙ e in
-          let z : k ≡ 7 = cc in
-          absurd (omega (arith, reading-number Description 1 c f .0))
-      by-first (reading.Accepted n) f = by-second f (readingOf Description 2 d) refl
+      not-refused : Comparable c d out → ⊥
+      not-refused r =
+          eq-cases (failing (entriesOf c) (entriesOf d)) 0
+          (λ z. let g : Contained ≡ Refused 7 i p = sym (compared c d out r ∙ verdict-contained (entriesOf c) (entriesOf d) z) ∙ e in let w : _≡_ {A = ℕ} 0 1 = cc in omega arith)
+          (λ z. let g = sym (compared c d out r ∙ verdict-not (entriesOf c) (entriesOf d) z) ∙ e in let w : _≡_ {A = ℕ} 0 1 = cc in omega arith)
 
   -- "then 7": exactly if both inputs are accepted and the output is shorter than both together
   pub seven-exactly : (compareOf c d out ≡ Refused 7 0 0) ↔ Short c d out

@@ -9,10 +9,9 @@ use mathlib.Core.Option.{Option, none, some}
 use Rattle.blocks.specs.Encoding.{blocksFor, encode}
 use Rattle.blocks.specs.Entries.{entriesOf}
 use Rattle.blocks.specs.Frame.{plain}
-use Rattle.blocks.specs.Reading.{readingOf}
+use Rattle.blocks.specs.Reading.{readingOf, unlessRefused}
 use Rattle.blocks.specs.declared.Entry.{Entry}
 use Rattle.blocks.specs.declared.Reading.{Reading}
-use Rattle.blocks.specs.declared.Reading.the-variants as reading
 use Rattle.blocks.specs.declared.Schema.the-variants.{Description}
 use Rattle.compare.specs.declared.Comparison.{Comparison}
 use Rattle.compare.specs.declared.Comparison.the-variants.{Contained, NotContained, Refused}
@@ -32,12 +31,10 @@ roomOf c d out = cond (ltb (length out) (length c + length d)) (Refused 7 0 0) (
 
 -- the answer where C is accepted, by what reading D answers
 abbrev pub secondOf : List ℕ → List ℕ → List ℕ → Reading → Comparison
-secondOf c d out (reading.Refused k i p) = Refused k i p
-secondOf c d out (reading.Accepted m) = roomOf c d out
+secondOf c d out r = unlessRefused Refused r (roomOf c d out)
 
 abbrev pub firstOf : List ℕ → List ℕ → List ℕ → Reading → Comparison
-firstOf c d out (reading.Refused k i p) = Refused k i p
-firstOf c d out (reading.Accepted n) = secondOf c d out (readingOf Description 2 d)
+firstOf c d out r = unlessRefused Refused r (secondOf c d out (readingOf Description 2 d))
 
 -- "Input 1 is C, input 2 is D"; "input 1 in full, input 2 in full, then 7"
 unfoldable pub compareOf : List ℕ → List ℕ → List ℕ → Comparison

@@ -8,13 +8,12 @@ use mathlib.Core.Option.{none, some}
 use mathlib.Core.Path.{_∙_, _≡_, ap, refl, sym}
 use native.Mathlib.Omega.{arith}
 use Rattle.base.proofs.Tests.{bool-cases}
+use Rattle.blocks.proofs.Refusing.Readings.{readings-cases}
 use Rattle.blocks.proofs.RoundTrip.Accepting.{accepted-by-none, refused-by-first}
 use Rattle.blocks.proofs.RoundTrip.RefusalNumbers.{reading-number}
 use Rattle.blocks.specs.Faults.{faults}
 use Rattle.blocks.specs.Promise.{FirstOf, None}
 use Rattle.blocks.specs.Reading.{readingOf}
-use Rattle.blocks.specs.declared.Reading.{Reading}
-use Rattle.blocks.specs.declared.Reading.the-variants as reading
 use Rattle.blocks.specs.declared.Schema.the-variants.{Description, Specimen}
 use Rattle.fit.proofs.AnswerLaws.{first-accepted, first-refused, second-no, second-refused, second-yes}
 use Rattle.fit.specs.Answer.{fitOf, returned, topFits}
@@ -63,23 +62,18 @@ module _ (s d : List ℕ) where
 
   -- "It has no output buffer": number 7 is never answered
   pub never-seven : {i p : ℕ} → fitOf s d ≡ Refused 7 i p → ⊥
-  never-seven {i} {p} e = by-first (readingOf Specimen 1 s) refl
-    where
-      refused-six : {k j q : ℕ} → k ≡ 7 → readingOf Specimen 1 s ≡ reading.Refused k j q → ⊥
-      refused-six z f = omega (arith, reading-number Specimen 1 s f .0)
-
-      by-second : {n : ℕ} → readingOf Specimen 1 s ≡ reading.Accepted n → (y : Reading) → readingOf Description 2 d ≡ y → ⊥
-      by-second a (reading.Refused k j q) f =
-          let g : Refused k j q ≡ Refused 7 i p = first-accepted s d refl a (second-refused s d refl f) ∙ e in
-          let z : k ≡ 7 = cc in
-          omega (arith, reading-number Description 2 d f .0)
-      by-second a (reading.Accepted m) f =
-          let r : Judgeable s d = record { first = _; second = _; first-read = a; second-read = f } in
-          bool-cases (topFits s d)
-          (λ t. let g : Yes ≡ Refused 7 i p = sym (says-yes s d r t) ∙ e in let w : _≡_ {A = ℕ} 0 1 = cc in omega arith)
-          (λ t. let g : No ≡ Refused 7 i p = sym (says-no s d r t) ∙ e in let w : _≡_ {A = ℕ} 0 1 = cc in omega arith)
-
-      by-first : (x : Reading) → readingOf Specimen 1 s ≡ x → ⊥
-      by-first (reading.Refused k j q) f =
-          let g : Refused k j q ≡ Refused 7 i p = first-refused s d refl f ∙ e in let z : k ≡ 7 = cc in refused-six z f
-      by-first (reading.Accepted n) f = by-second f (readingOf Description 2 d) refl
+  never-seven {i} {p} e =
+      readings-cases (readingOf Specimen 1 s) (readingOf Description 2 d)
+      (λ k j q f.
+      let g : Refused k j q ≡ Refused 7 i p = first-refused s d refl f ∙ e in
+      let z : k ≡ 7 = cc in
+      omega (arith, reading-number Specimen 1 s f .0))
+      (λ n k j q a f.
+      let g : Refused k j q ≡ Refused 7 i p = first-accepted s d refl a (second-refused s d refl f) ∙ e in
+      let z : k ≡ 7 = cc in
+      omega (arith, reading-number Description 2 d f .0))
+      (λ n m a f.
+      let r : Judgeable s d = record { first = n; second = m; first-read = a; second-read = f } in
+      bool-cases (topFits s d)
+      (λ t. let g : Yes ≡ Refused 7 i p = sym (says-yes s d r t) ∙ e in let w : _≡_ {A = ℕ} 0 1 = cc in omega arith)
+      (λ t. let g : No ≡ Refused 7 i p = sym (says-no s d r t) ∙ e in let w : _≡_ {A = ℕ} 0 1 = cc in omega arith))

@@ -5,9 +5,8 @@ use mathlib.Core.List.{List}
 use mathlib.Core.Option.{Option, none, some}
 use Prim.Native.Nat.{ℕ}
 use Rattle.blocks.specs.Entries.{entriesOf}
-use Rattle.blocks.specs.Reading.{readingOf}
+use Rattle.blocks.specs.Reading.{readingOf, unlessRefused}
 use Rattle.blocks.specs.declared.Reading.{Reading}
-use Rattle.blocks.specs.declared.Reading.the-variants as reading
 use Rattle.blocks.specs.declared.Schema.the-variants.{Description, Specimen}
 use Rattle.fit.specs.declared.FitAnswer.{FitAnswer}
 use Rattle.fit.specs.declared.FitAnswer.the-variants.{Yes, No, Refused}
@@ -21,16 +20,11 @@ topFits s d = fits (recordOf (entriesOf s)) (placeOf (entriesOf d) 0) 0
 
 -- the answer where the specimen is accepted, by what reading the description answers
 abbrev pub secondOf : List ℕ → List ℕ → Reading → FitAnswer
-secondOf s d (reading.Refused k i p) = Refused k i p
-secondOf s d (reading.Accepted m) = cond (topFits s d) Yes No
-
-abbrev pub firstOf : List ℕ → List ℕ → Reading → FitAnswer
-firstOf s d (reading.Refused k i p) = Refused k i p
-firstOf s d (reading.Accepted n) = secondOf s d (readingOf Description 2 d)
+secondOf s d r = unlessRefused Refused r (cond (topFits s d) Yes No)
 
 -- "The fit answer takes a specimen (input 1) and a description (input 2)"; "input 1 in full, input 2 in full"
 unfoldable pub fitOf : List ℕ → List ℕ → FitAnswer
-fitOf s d = firstOf s d (readingOf Specimen 1 s)
+fitOf s d = unlessRefused Refused (readingOf Specimen 1 s) (secondOf s d (readingOf Description 2 d))
 
 -- The paper's numbers for each case: yes or no, and neither where an input is refused; the number returned, the input and the place, 0
 -- where nothing is refused.

@@ -4,15 +4,15 @@ use Prim.Native.Nat.{_<_, _≤_, ℕ}
 use lib.ListN.{length}
 use mathlib.Core.List.{List}
 use mathlib.Core.Logic.{_⊎_, inl, inr}
-use mathlib.Core.Path.{_∙_, _≡_, ap, refl}
+use mathlib.Core.Path.{_∙_, _≡_, ap}
 use native.Mathlib.Omega.{arith}
 use Rattle.base.proofs.Tests.{ge-ltb, lt-cases, lt-ltb}
+use Rattle.blocks.proofs.Refusing.Readings.{reading-cases}
 use Rattle.blocks.proofs.RoundTrip.Accepting.{accepted-by-none, none-of-accepted, refused-by-first}
 use Rattle.blocks.specs.Entries.{entriesOf}
 use Rattle.blocks.specs.Faults.{faults}
 use Rattle.blocks.specs.Promise.{FirstOf, None}
 use Rattle.blocks.specs.Reading.{readingOf}
-use Rattle.blocks.specs.declared.Reading.{Reading}
 use Rattle.blocks.specs.declared.Reading.the-variants as reading
 use Rattle.blocks.specs.declared.Schema.the-variants.{Description}
 use Rattle.meaning.specs.NormalEntries.{normalEntries}
@@ -46,12 +46,9 @@ module _ (d out : List ℕ) where
   -- refused by reading, too short, or normalised
   pub normalise-cases : {X : Type 0} → ((k i p : ℕ) → readingOf Description 1 d ≡ reading.Refused k i p → X)
       → ((n : ℕ) → readingOf Description 1 d ≡ reading.Accepted n → length out < length d → X) → (Ready d out → X) → X
-  normalise-cases {X} f s g = by-reading (readingOf Description 1 d) refl
-    where
-      by-reading : (r : Reading) → readingOf Description 1 d ≡ r → X
-      by-reading (reading.Refused k i p) q = f k i p q
-      by-reading (reading.Accepted n) q =
-          lt-cases (length out) (length d) (λ h. s n q h) (λ h. g (record { total = n; read = q; room = h }))
+  normalise-cases f s g =
+      reading-cases (readingOf Description 1 d) f
+      (λ n q. lt-cases (length out) (length d) (λ h. s n q h) (λ h. g (record { total = n; read = q; room = h })))
 
   -- what was normalised was accepted, and its answer is the number of entries of its normal form
   pub normalised-ready : {k : ℕ} → normaliseOf d out ≡ Normalised k → Ready d out × (length (normalEntries (entriesOf d)) ≡ k)

@@ -8,9 +8,8 @@ use mathlib.Core.List.{List, _++_}
 use Rattle.blocks.specs.Encoding.{blocksFor, encode}
 use Rattle.blocks.specs.Entries.{entriesOf}
 use Rattle.blocks.specs.Frame.{plain}
-use Rattle.blocks.specs.Reading.{readingOf}
+use Rattle.blocks.specs.Reading.{readingOf, unlessRefused}
 use Rattle.blocks.specs.declared.Reading.{Reading}
-use Rattle.blocks.specs.declared.Reading.the-variants as reading
 use Rattle.blocks.specs.declared.Schema.the-variants.{Description}
 use Rattle.meaning.specs.NormalEntries.{normalEntries}
 use Rattle.normal.specs.declared.NormalAnswer.{NormalAnswer}
@@ -21,8 +20,7 @@ abbrev pub roomOf : List ℕ → List ℕ → NormalAnswer
 roomOf d out = cond (ltb (length out) (length d)) (Refused 7 0 0) (Normalised (length (normalEntries (entriesOf d))))
 
 abbrev pub readOf : List ℕ → List ℕ → Reading → NormalAnswer
-readOf d out (reading.Refused k i p) = Refused k i p
-readOf d out (reading.Accepted n) = roomOf d out
+readOf d out r = unlessRefused Refused r (roomOf d out)
 
 -- "Order: input 1 in full, .. then 7."
 unfoldable pub normaliseOf : List ℕ → List ℕ → NormalAnswer

@@ -12,13 +12,13 @@ use Rattle.base.proofs.Tests.{eq-cases, eq-eqb, ne-eqb}
 use Rattle.base.specs.Range.{bit}
 use Rattle.base.specs.Search.{firstFrom}
 use Rattle.blocks.proofs.Refusing.Legal.{owner-earlier, owner-kind}
+use Rattle.blocks.proofs.Refusing.Readings.{readings-cases}
 use Rattle.blocks.proofs.RoundTrip.Accepting.{accepted-by-none, none-of-accepted, refused-by-first, sound-of-accepted}
 use Rattle.blocks.proofs.RoundTrip.Faithful.{entries-limit}
 use Rattle.blocks.specs.Entries.{entriesOf}
 use Rattle.blocks.specs.Faults.{faults}
 use Rattle.blocks.specs.Promise.{FirstOf, None}
 use Rattle.blocks.specs.Reading.{readingOf}
-use Rattle.blocks.specs.declared.Reading.{Reading}
 use Rattle.blocks.specs.declared.Reading.the-variants as reading
 use Rattle.blocks.specs.declared.Schema.the-variants.{Description}
 use Rattle.meaning.specs.Description.{rowOf}
@@ -61,15 +61,9 @@ module _ (c d : List ℕ) where
   -- the first is refused, or the second, or neither
   holding-cases : {X : Type 0} → ((k i p : ℕ) → readingOf Description 1 c ≡ reading.Refused k i p → X)
       → ((n k i p : ℕ) → readingOf Description 1 c ≡ reading.Accepted n → readingOf Description 2 d ≡ reading.Refused k i p → X) → (BothRead c d → X) → X
-  holding-cases {X} f g h = by-first (readingOf Description 1 c) refl
-    where
-      by-second : (n : ℕ) → readingOf Description 1 c ≡ reading.Accepted n → (r : Reading) → readingOf Description 2 d ≡ r → X
-      by-second n e (reading.Refused k i p) q = g n k i p e q
-      by-second n e (reading.Accepted m) q = h (record { first = n; second = m; first-read = e; second-read = q })
-
-      by-first : (r : Reading) → readingOf Description 1 c ≡ r → X
-      by-first (reading.Refused k i p) q = f k i p q
-      by-first (reading.Accepted n) q = by-second n q (readingOf Description 2 d) refl
+  holding-cases f g h =
+      readings-cases (readingOf Description 1 c) (readingOf Description 2 d) f g
+      (λ n m e e′. h (record { first = n; second = m; first-read = e; second-read = e′ }))
 
   none-fails : BothRead c d → failingIn c d ≡ 0 → holdingOf c d ≡ All
   none-fails r z = both-read c d (r .first-read) (r .second-read) ∙ rw (eq-eqb z)

@@ -6,9 +6,7 @@ use mathlib.Core.Bool.{Bool, cond, false, true}
 use mathlib.Core.List.{List}
 use mathlib.Core.Option.{Option, none, some}
 use Rattle.blocks.specs.Entries.{entriesOf}
-use Rattle.blocks.specs.Reading.{readingOf}
-use Rattle.blocks.specs.declared.Reading.{Reading}
-use Rattle.blocks.specs.declared.Reading.the-variants as reading
+use Rattle.blocks.specs.Reading.{readingOf, unlessRefused}
 use Rattle.blocks.specs.declared.Schema.the-variants.{Description}
 use Rattle.logic.specs.Background.{unrestricted}
 use Rattle.logic.specs.Normal.{nf}
@@ -26,16 +24,8 @@ abbrev pub holdingBy : ℕ → Holding
 holdingBy n = cond (eqb n 0) All (Fails n)
 
 -- "input 1 in full, input 2 in full"
-abbrev pub secondHolding : List ℕ → List ℕ → Reading → Holding
-secondHolding c d (reading.Refused k i p) = Refused k i p
-secondHolding c d (reading.Accepted m) = holdingBy (failingIn c d)
-
-abbrev pub firstHolding : List ℕ → List ℕ → Reading → Holding
-firstHolding c d (reading.Refused k i p) = Refused k i p
-firstHolding c d (reading.Accepted n) = secondHolding c d (readingOf Description 2 d)
-
 unfoldable pub holdingOf : List ℕ → List ℕ → Holding
-holdingOf c d = firstHolding c d (readingOf Description 1 c)
+holdingOf c d = unlessRefused Refused (readingOf Description 1 c) (unlessRefused Refused (readingOf Description 2 d) (holdingBy (failingIn c d)))
 
 -- The paper's numbers for each case: whether all hold, and neither where an input is refused; the number of the first that fails; the
 -- number returned, the input and the place. 0 where a case has none.

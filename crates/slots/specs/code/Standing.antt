@@ -4,7 +4,7 @@ use Prim.Native.Nat.{ℕ}
 use lib.ListN.{length}
 use mathlib.Core.List.{List}
 use mathlib.Core.Path.{_≡_}
-use Rattle.blocks.specs.Reading.{readingOf}
+use Rattle.blocks.specs.Reading.{readingOf, unlessRefused}
 use Rattle.blocks.specs.declared.Reading.{Reading}
 use Rattle.blocks.specs.declared.Reading.the-variants as reading
 use Rattle.blocks.specs.declared.Schema.the-variants.{Description}
@@ -17,16 +17,14 @@ use Rattle.slots.specs.declared.Slotting.the-variants.{Filled, Refused}
 
 -- how many slots there are; or the refusal
 abbrev pub slottingBy : List ℕ → Reading → Slotting
-slottingBy d (reading.Refused k i p) = Refused k i p
-slottingBy d (reading.Accepted n) = Filled (length (slotsOf d))
+slottingBy d r = unlessRefused Refused r (Filled (length (slotsOf d)))
 
 unfoldable pub slottingOf : List ℕ → Slotting
 slottingOf d = slottingBy d (readingOf Description 1 d)
 
 -- a table that is filled anew where the input is accepted, and else stays
 abbrev pub filledBy : Reading → List ℕ → List ℕ → List ℕ
-filledBy (reading.Refused k i p) new old = old
-filledBy (reading.Accepted n) new old = new
+filledBy r new old = unlessRefused (λ k i p. old) r new
 
 -- the settled slots
 unfoldable pub tableAfter : List ℕ → List ℕ → List ℕ
