@@ -11,14 +11,12 @@ use Rattle.blocks.proofs.Refusing.Readings.{readings-cases}
 use Rattle.blocks.proofs.RoundTrip.Accepting.{accepted-by-none, none-of-accepted, sound-of-accepted}
 use Rattle.blocks.proofs.RoundTrip.RefusalNumbers.{reading-number}
 use Rattle.blocks.specs.Entries.{entriesOf}
-use Rattle.blocks.specs.Faults.{faults}
-use Rattle.blocks.specs.Promise.{None}
 use Rattle.blocks.specs.Reading.{readingOf}
 use Rattle.blocks.specs.declared.Schema.the-variants.{Description}
 use Rattle.compare.proofs.AnswerLaws.{compared, first-refused, not-verdict, second-refused, too-short, verdict-contained, verdict-not}
 use Rattle.compare.proofs.PromiseKept.{contained-exactly, not-contained-means}
 use Rattle.compare.specs.Answer.{compareOf}
-use Rattle.compare.specs.Promise.{AnswersNot, Comparable, Countermodel, Decided}
+use Rattle.compare.specs.Promise.{AnswersNot, Comparable, Countermodel, Decided, TooShort}
 use Rattle.compare.specs.declared.Comparison.the-variants.{Contained, Refused}
 use Rattle.meaning.proofs.Verdicts.NotContained.{not-contained-shown}
 use Rattle.meaning.specs.Failing.{failing, specimenOf}
@@ -59,12 +57,8 @@ module _ (c d out : List ℕ) (r : Comparable c d out) where
 
 -- ---- number 7
 
--- both inputs are accepted, and the output is shorter than both together
-abbrev Short : List ℕ → List ℕ → List ℕ → Type 0
-Short c d out = None (faults Description c) × None (faults Description d) × (length out < length c + length d)
-
 module _ (c d out : List ℕ) where
-  seven-short : {i p : ℕ} → compareOf c d out ≡ Refused 7 i p → Short c d out
+  seven-short : {i p : ℕ} → compareOf c d out ≡ Refused 7 i p → TooShort c d out
   seven-short {i} {p} e =
       readings-cases (readingOf Description 1 c) (readingOf Description 2 d)
       (λ k j q f.
@@ -86,5 +80,5 @@ module _ (c d out : List ℕ) where
           (λ z. let g = sym (compared c d out r ∙ verdict-not (entriesOf c) (entriesOf d) z) ∙ e in let w : _≡_ {A = ℕ} 0 1 = cc in omega arith)
 
   -- "then 7": exactly if both inputs are accepted and the output is shorter than both together
-  pub seven-exactly : (compareOf c d out ≡ Refused 7 0 0) ↔ Short c d out
+  pub seven-exactly : (compareOf c d out ≡ Refused 7 0 0) ↔ TooShort c d out
   seven-exactly = (seven-short, λ h. too-short c d out (accepted-by-none Description 1 c (h .0)) (accepted-by-none Description 2 d (h .1)) (h .2))

@@ -10,7 +10,9 @@ use mathlib.Core.Path.{_≡_}
 use Rattle.base.specs.Ascending.{Sorted}
 use Rattle.blocks.specs.Encoding.{blocksFor, encode, firstBlocks}
 use Rattle.blocks.specs.Entries.{entriesOf}
+use Rattle.blocks.specs.Faults.{faults}
 use Rattle.blocks.specs.Frame.{plain}
+use Rattle.blocks.specs.Promise.{None}
 use Rattle.blocks.specs.Reading.{readingOf}
 use Rattle.blocks.specs.declared.Reading.the-variants as reading
 use Rattle.blocks.specs.declared.Schema.the-variants.{Description, Specimen}
@@ -35,6 +37,10 @@ pub record Comparable (c d out : List ℕ) : Type 0 where
   pub first-read : readingOf Description 1 c ≡ reading.Accepted first
   pub second-read : readingOf Description 2 d ≡ reading.Accepted second
   pub room : length c + length d ≤ length out
+
+-- both inputs are accepted, and the output is shorter than both together
+abbrev pub TooShort : List ℕ → List ℕ → List ℕ → Type 0
+TooShort c d out = None (faults Description c) × None (faults Description d) × (length out < length c + length d)
 
 -- every item that fits C fits D, in every finite record
 abbrev pub ContainedInAll : List ℕ → List ℕ → Type 0

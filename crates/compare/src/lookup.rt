@@ -1,7 +1,7 @@
 // Looking up what the specimen needs of the normal form: an entry of a link, its number, and the place below it.
 ghost use mathlib.Core.Path.{_≡_};
 ghost use mathlib.Core.List.{List};
-ghost use Prim.Native.Nat.{_≤_, _<_};
+ghost use Prim.Native.Nat.{ℕ, _≤_, _<_};
 ghost use Rattle.blocks.specs.Entries.{nth};
 ghost use Rattle.blocks.specs.declared.Entry.{Entry};
 ghost use Rattle.compare.specs.code.Table.{Table, nowhere, placeBelow};
@@ -22,9 +22,9 @@ pub(crate) fn find_link(form: &[u64; 1008], k: usize, place: u64, kind: u64, l: 
 }
 
 // The own number of entry j.
-pub(crate) fn number_of(form: &[u64; 1008], k: usize, j: usize) -> u64
-    requires { ⌜ (k ≤ 1008) × (1 ≤ j) × (j ≤ k) ⌝ }
-    ensures { λ r. ⌜ (r < 65536) × ((es : List Entry) → Table es (now (form .entry)) k → r ≡ nth es j .number) ⌝ }
+pub(crate) fn number_of(form: &[u64; 1008], j: usize) -> u64
+    requires { ⌜ (1 ≤ j) × (j ≤ 1008) ⌝ }
+    ensures { λ r. ⌜ (r < 65536) × ((es : List Entry) (k : ℕ) → j ≤ k → Table es (now (form .entry)) k → r ≡ nth es j .number) ⌝ }
 {
     number_in(form[j - 1])
 }

@@ -107,7 +107,7 @@ fn listed_least(form: &[u64; 1008], k: usize, v: u64, l: Link) -> u64
     if j == 0 {
         return 0;
     }
-    number_of(form, k, j)
+    number_of(form, j)
 }
 
 // The number of the group of a link that the target asks for, one less than its count.

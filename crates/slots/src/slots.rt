@@ -70,6 +70,9 @@ pub(crate) fn search(
     requires { ⌜ Kept (now table) (now next) (now head) used × (used ≤ 1008) ⌝ }
     ensures { λ r. ⌜ r ≡ lastWhere (λ j. keyIn (getD (now (table .entry)) j 0)) key used ⌝ }
 {
+    if used == 0 {
+        return 0;
+    }
     let b = bucket(key);
     let mut s = wide(head[b]);
     loop {

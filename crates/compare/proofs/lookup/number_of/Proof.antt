@@ -10,9 +10,9 @@ use Rattle.compare.proofs.lookup.number_of.Tie as tie
 returns : tie.Need-returns
 returns c =
     let a = c .before .before in
-    let s : suc (a .args .j - 1) ≡ a .args .j = omega (arith, a .pre .1) in (
+    let s : suc (a .args .j - 1) ≡ a .args .j = omega (arith, a .pre .0) in (
       c .number-in .ensures .1,
-      λ es t. c .number-in .ensures .0 ∙ number-at es _ _ t (a .args .j - 1) (omega (arith, a .pre)) ∙ rw s,
+      λ es k h t. c .number-in .ensures .0 ∙ number-at es _ k t (a .args .j - 1) (omega (arith, a .pre, h)) ∙ rw s,
     )
 
 pub number-of-spec : {M : Type 1} → statement M

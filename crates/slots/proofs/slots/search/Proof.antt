@@ -13,47 +13,52 @@ Inv-loop table next head used key b s₀ s = Reached table used key s × (lastWh
 abbrev μ-loop : tie.MeasureT-loop
 μ-loop table next head used key b s₀ s = s
 
+-- in a table of no slots nothing is found
+returns : tie.Need-returns Inv-loop μ-loop
+unfolding lastWhere
+returns c = rw (c .if1 .taken)
+
 loop-holds : tie.Need-loop-holds Inv-loop μ-loop
 loop-holds c =
-    let a = c .before .before .before in
+    let a = c .before .before .before .before in
     (search-starts (a .pre .0) _ (c .before .before .bucket .ensures .0) (c .wide .ensures .0), found-starts (a .pre .0) _ (c .before .before .bucket .ensures .0) (c .wide .ensures .0))
 
 element-copy-out-key-in : tie.Need-element-copy-out-key-in Inv-loop μ-loop
-element-copy-out-key-in c = omega (arith, c .before .loop .inv .0 .bound, c .before .before .before .before .before .pre .1)
+element-copy-out-key-in c = omega (arith, c .before .loop .inv .0 .bound, c .before .before .before .before .before .before .pre .1)
 
 element-copy-out-wide-2 : tie.Need-element-copy-out-wide-2 Inv-loop μ-loop
 element-copy-out-wide-2 c =
     let l = c .before .before .before .before in
-    omega (arith, l .loop .inv .0 .bound, l .before .before .before .before .pre .1)
+    omega (arith, l .loop .inv .0 .bound, l .before .before .before .before .before .pre .1)
 
 loop-less : tie.Need-loop-less Inv-loop μ-loop
 loop-less c =
     let l = c .before .before .before .before .before .before in
-    let a = l .before .before .before .before in
-    search-falls (a .pre .0) _ (l .loop .inv .0) (c .before .before .before .before .before .if1 .left) (c .wide2 .ensures .0)
+    let a = l .before .before .before .before .before in
+    search-falls (a .pre .0) _ (l .loop .inv .0) (c .before .before .before .before .before .if2 .left) (c .wide2 .ensures .0)
 
 loop-again : tie.Need-loop-again Inv-loop μ-loop
 loop-again c =
     let l = c .before .before .before .before .before .before in
-    let a = l .before .before .before .before in
-    let z = c .before .before .before .before .before .if1 .left in (
+    let a = l .before .before .before .before .before in
+    let z = c .before .before .before .before .before .if2 .left in (
       search-goes (a .pre .0) _ (l .loop .inv .0) z (c .wide2 .ensures .0),
-      l .loop .inv .1 ∙ found-goes (a .pre .0) _ (l .loop .inv .0) z (c .wide2 .ensures .0) (c .before .before .before .key-in .ensures) (c .before .before .if2 .left),
+      l .loop .inv .1 ∙ found-goes (a .pre .0) _ (l .loop .inv .0) z (c .wide2 .ensures .0) (c .before .before .before .key-in .ensures) (c .before .before .if3 .left),
     )
-
-returns : tie.Need-returns Inv-loop μ-loop
-returns c =
-    let l = c .before in
-    sym (l .loop .inv .1 ∙ found-ends (l .before .before .before .before .args .table .now) _ (c .if1 .taken))
 
 returns-2 : tie.Need-returns-2 Inv-loop μ-loop
 returns-2 c =
+    let l = c .before in
+    sym (l .loop .inv .1 ∙ found-ends (l .before .before .before .before .before .args .table .now) _ (c .if2 .taken))
+
+returns-3 : tie.Need-returns-3 Inv-loop μ-loop
+returns-3 c =
     let l = c .before .before .before .before in
-    sym (l .loop .inv .1 ∙ found-hits (l .before .before .before .before .args .table .now) _ (c .before .before .before .if1 .left) (c .before .key-in .ensures) (c .if2 .taken))
+    sym (l .loop .inv .1 ∙ found-hits (l .before .before .before .before .before .args .table .now) _ (c .before .before .before .if2 .left) (c .before .key-in .ensures) (c .if3 .taken))
 
 pub search-spec : {M : Type 1} → statement M
 search-spec =
     tie.close
-    (tie.spec Inv-loop μ-loop (λ c κs. search needs) (λ c. search needs) (λ c. search needs) (λ c κs. search needs)
+    (tie.spec Inv-loop μ-loop returns (λ c κs. search needs) (λ c. search needs) (λ c. search needs) (λ c κs. search needs)
     loop-holds (λ c. search needs) element-copy-out-key-in (λ c κs. search needs) (λ c. search needs)
-    element-copy-out-wide-2 (λ c κs. search needs) loop-less loop-again returns returns-2)
+    element-copy-out-wide-2 (λ c κs. search needs) loop-less loop-again returns-2 returns-3)
