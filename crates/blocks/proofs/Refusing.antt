@@ -2,6 +2,8 @@
 
 -- Laws of entries read by number.
 pub mod EntryLaws
+-- Passes over entries that go block by block: each entry of a block is that of the list.
+pub mod Blockwise
 -- The first fault of a list: what finding it means, and how a search goes on.
 pub mod FirstFault
 -- Laws of the rows that blocks break.

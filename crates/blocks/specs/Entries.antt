@@ -23,6 +23,11 @@ entryFrom s at = record {
   number = wordAt s (at + 6);
 }
 
+-- the entry of 8 bytes
+unfoldable pub entryOfBytes : ℕ → ℕ → ℕ → ℕ → ℕ → ℕ → ℕ → ℕ → Entry
+entryOfBytes b0 b1 b2 b3 b4 b5 b6 b7 =
+    record { kind = b0; reserved = b1; owner = b2 + 256 * b3; name = b4 + 256 * b5; number = b6 + 256 * b7 }
+
 -- an entry of kind k, owner o, a name and a number
 abbrev pub entry : ℕ → ℕ → ℕ → ℕ → Entry
 entry k o name number = record { kind = k; reserved = 0; owner = o; name = name; number = number }
@@ -61,10 +66,6 @@ zeroEntry = record { kind = 0; reserved = 0; owner = 0; name = 0; number = 0 }
 unfoldable pub nth : List Entry → ℕ → Entry
 nth es zero = zeroEntry
 nth es (suc k) = getD es k zeroEntry
-
--- the entry whose bytes start at an offset, and the zero entry where they are not all there
-unfoldable pub entryWhole : List ℕ → ℕ → Entry
-entryWhole s at = cond (leb (at + 8) (length s)) (entryFrom s at) zeroEntry
 
 -- entry n of the blocks s that have `total` entries, read by number
 unfoldable pub entryOf : List ℕ → ℕ → ℕ → Entry

@@ -2,3 +2,5 @@
 
 -- The steps of the passes over blocks and entries, as the code takes them.
 pub mod ReadingSteps
+-- Passes over entries that go block by block: where one stands before a block, and the entries of the block.
+pub mod Blockwise

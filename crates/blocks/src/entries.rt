@@ -3,13 +3,14 @@ ghost use mathlib.Core.Path.{_≡_};
 ghost use Prim.Native.Nat.{_+_, _*_, _/_, _^_, _≤_};
 ghost use lib.ListN.{length};
 ghost use Rattle.blocks.specs.Frame.{plain, entryPos};
-ghost use Rattle.blocks.specs.Entries.{entryFrom, entryOf, entryWhole, packed, zeroEntry};
+ghost use Rattle.blocks.specs.code.Blockwise.{nextCount};
+ghost use Rattle.blocks.specs.Entries.{entryFrom, entryOf, entryOfBytes, packed, zeroEntry};
 use crate::Entry;
 use crate::Link;
 use crate::Property;
 use crate::words::byte;
+use crate::words::joined;
 use crate::words::word;
-use crate::words::word_at;
 
 impl Entry {
     // The name of an entry of kind 1 or 2, as a property.
@@ -35,18 +36,34 @@ fn entry_pos(n: usize) -> usize
     512 * ((n - 1) / 63) + 4 + 8 * ((n - 1) % 63)
 }
 
+// The entry of 8 bytes. For a pass that knows that they are there and reads them itself, without a test for each entry.
+pub fn entry_of_bytes(b0: u8, b1: u8, b2: u8, b3: u8, b4: u8, b5: u8, b6: u8, b7: u8) -> Entry
+    ensures { λ r. ⌜ r ≡ entryOfBytes b0 b1 b2 b3 b4 b5 b6 b7 ⌝ }
+{
+    Entry {
+        kind: b0,
+        reserved: b1,
+        owner: joined(b2, b3),
+        name: joined(b4, b5),
+        number: joined(b6, b7),
+    }
+}
+
 // The entry whose 8 bytes start at an index.
 fn entry_from(s: &[u8], at: usize) -> Entry
     requires { ⌜ at + 8 ≤ length (now s) ⌝ }
     ensures { λ r. ⌜ r ≡ entryFrom (now (s .entry)) at ⌝ }
 {
-    Entry {
-        kind: s[at],
-        reserved: s[at + 1],
-        owner: word_at(s, at + 2),
-        name: word_at(s, at + 4),
-        number: word_at(s, at + 6),
-    }
+    entry_of_bytes(
+        s[at],
+        s[at + 1],
+        s[at + 2],
+        s[at + 3],
+        s[at + 4],
+        s[at + 5],
+        s[at + 6],
+        s[at + 7],
+    )
 }
 
 // The entry whose bytes start at an index, where some may lie past the end and read 0.
@@ -96,18 +113,11 @@ pub fn nth_entry(s: &[u8], total: usize, n: usize) -> Entry
     entry_near_end(s, at)
 }
 
-// The entry whose bytes start at an index; the zero entry where they are not all there. For a reader that goes over counted entries, one
-// after the other.
-pub fn entry_at(s: &[u8], at: usize) -> Entry
-    ensures { λ r. ⌜ r ≡ entryWhole (now (s .entry)) at ⌝ }
+// How many of the entries left stand in the next block: for a pass that goes block by block.
+pub fn next_count(left: usize) -> usize
+    ensures { λ r. ⌜ r ≡ nextCount left ⌝ }
 {
-    if s.len() < 8 {
-        return zero_entry();
-    }
-    if s.len() - 8 < at {
-        return zero_entry();
-    }
-    entry_from(s, at)
+    if left < 63 { left } else { 63 }
 }
 
 // An entry as one number: its 8 bytes, low byte first.

@@ -6,7 +6,8 @@
 mod entries;
 mod words;
 
-pub use entries::entry_at;
+pub use entries::entry_of_bytes;
+pub use entries::next_count;
 pub use entries::nth_entry;
 pub use entries::pack;
 pub use words::block_check;

@@ -18,7 +18,7 @@ pub fn word(s: &[u8], at: usize) -> u16
     if s.len() <= at {
         return 0;
     }
-    wide(byte(s, at)) + 256 * wide(byte(s, at + 1))
+    joined(byte(s, at), byte(s, at + 1))
 }
 
 // A byte as a word.
@@ -28,12 +28,19 @@ fn wide(x: u8) -> u16
     x as u16
 }
 
+// The word of two bytes.
+pub(crate) fn joined(low: u8, high: u8) -> u16
+    ensures { λ r. ⌜ r ≡ low + 256 * high ⌝ }
+{
+    wide(low) + 256 * wide(high)
+}
+
 // The word of two bytes at an index that has both.
-pub(crate) fn word_at(s: &[u8], at: usize) -> u16
+fn word_at(s: &[u8], at: usize) -> u16
     requires { ⌜ at + 1 < length (now s) ⌝ }
     ensures { λ r. ⌜ r ≡ wordAt (now (s .entry)) at ⌝ }
 {
-    wide(s[at]) + 256 * wide(s[at + 1])
+    joined(s[at], s[at + 1])
 }
 
 // The first n words from an index on, all there, added: "this sum wraps at 65,536".

@@ -1,4 +1,4 @@
 -- Laws of the code in src/rows.rt.
 
--- The words of a span, one after another, and the groups that they push.
+-- The rows of tags, pushed one after another.
 pub mod RowLaws

@@ -1,8 +1,12 @@
 -- Laws of the code in src/verdict.rt.
 
--- A specimen is written from tables: the normal form of C as words, and the path to the entry of D that fails.
-pub mod WritableLaws
--- The fields of a specimen that is written from tables fit their bytes.
-pub mod SpecimenWritten
--- The ways through the comparison: from the normal form's blocks to its table, to an answer without a specimen, and to a specimen.
+-- How many entries an accepted description has by its length, and tables that have room for them.
+pub mod RoomLaws
+-- What the slots' layer answers and leaves behind: refused, all hold, or the slots of the first description and the entry that fails.
+pub mod SlotsLeft
+-- Where an entry fails, its specimen can be shown, and is what the answer promises.
+pub mod ShownLaws
+-- The specimen's rows are those that the slots and the path give, and written they are its blocks.
+pub mod RowsWritten
+-- The answers without a specimen.
 pub mod VerdictLaws

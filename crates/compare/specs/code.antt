@@ -1,12 +1,12 @@
 -- Mirrors of the code: the contracts of its functions cite these, and no promise to the customer does.
 
--- The normal form as an ascending table of words, and looking an entry up in it.
-pub mod Table
--- What a place is asked for, as names: the enums of src/asked.rt.
+-- What a place is asked for, as names and numbers: the enums of src/asked.rt.
 pub mod Asked
--- The places of a specimen as codes: a place of the normal form, and how far on the path to the entry that fails.
+-- The places of a specimen as codes: a place of the first description's slots, and how far on the path to the entry that fails.
 pub mod Codes
+-- The names of one place and class in order, as tags.
+pub mod Tags
 -- A tree by its places: each place has a code, and lists its leaves and then its nodes, each with the code of the place below it.
 pub mod Laying
--- What is known where an entry fails: a normal form, a second description, and room.
+-- What is known where an entry fails: two descriptions, the slots of the first, and room.
 pub mod Prepared

@@ -1,18 +1,15 @@
 // The comparison of two descriptions, and the specimen that shows where the first is not contained in the second. Which entries of the
-// second hold is asked of the layer of the normal form; where one fails, the first is normalised, and the specimen is written place by
-// place from the table of its normal form, with what the path to the failing entry asks for.
+// second hold is asked of the layer of the normal form, which leaves the slots of the first behind; where one fails, the specimen is written
+// place by place from these slots, with what the path to the failing entry asks for. Nothing is read or slotted twice.
 //
-// The contracts cite specs/: Answer says what is answered and written; Table, Asked, Codes, Laying and Prepared mirror the code, and no
-// public promise names them. What the specimen is, and what the answer for two lists of entries means in every finite record, is said and
-// proved in `meaning`: SpecimenFor, Failing, Contained, NotContained. The same of two inputs is in proofs/Answer.
+// The contracts cite specs/: Answer says what is answered and written; the others mirror the code, and no public promise names them. What the
+// specimen is, and what the answer for two lists of entries means in every finite record, is said and proved in `meaning`: SpecimenFor,
+// Failing, Contained, NotContained. The same of two inputs is in proofs/PromiseKept.antt.
 mod asked;
-mod lookup;
 mod path;
 mod places;
 mod rows;
-mod spans;
 mod specimen;
-mod table;
 mod verdict;
 
 pub use verdict::compare;

@@ -25,15 +25,16 @@ fn keep_link(links: &mut [u16; 32], i: usize, l: Link)
     links[i] = l.0;
 }
 
-// Stores the links of the owners of entry n, nearest first, and returns how many there are.
-pub(crate) fn links_up(d: &[u8], total: usize, n: usize, links: &mut [u16; 32]) -> usize
-    requires { ⌜ (total ≡ length (entriesOf (now d))) × Owned (entriesOf (now d)) × (length (linksTo (entriesOf (now d)) n) ≤ 32) × (1 ≤ n) × (n ≤ total) × (now links ≡ replicate 32 0) ⌝ }
+// Stores the links of the owners of entry n, nearest first, and returns how many there are. Owners stand before what they own, so that no
+// entry after n is looked at.
+pub(crate) fn links_up(d: &[u8], n: usize, links: &mut [u16; 32]) -> usize
+    requires { ⌜ Owned (entriesOf (now d)) × (length (linksTo (entriesOf (now d)) n) ≤ 32) × (1 ≤ n) × (n ≤ length (entriesOf (now d))) × (now links ≡ replicate 32 0) ⌝ }
     ensures { λ r. ⌜ (r ≤ 32) × (linksTo (entriesOf (now (d .entry))) n ≡ upFrom (now (links .exit)) r) × ((i : ℕ) → getD (now (links .exit)) i 0 < 65536) ⌝ }
 {
-    let mut o = wide(lent::entry_held(d, total, n).owner);
+    let mut o = wide(lent::entry_held(d, n, n).owner);
     let mut m: usize = 0;
     while o != 0 {
-        let e = lent::entry_held(d, total, o);
+        let e = lent::entry_held(d, n, o);
         keep_link(links, m, e.link());
         m += 1;
         o = wide(e.owner);

@@ -1,189 +1,165 @@
-// The rows of one place of the specimen: the properties and groups that the normal form lists there, and what its target asks for.
+// The rows of one place of the specimen: the properties and groups that the first description's slots ask for there, and what its target
+// asks for. The names of a place are put in order when its turn comes, so that places that the specimen does not come to are never sorted.
 ghost use mathlib.Core.Path.{_≡_};
-ghost use mathlib.Core.List.{List, [], _∷_, map};
-ghost use Prim.Native.Nat.{ℕ, _+_, _*_, _≤_, _<_, max, pred};
-ghost use lib.ListN.{length};
-ghost use Rattle.logic.specs.Place.{Atom};
-ghost use Rattle.meaning.specs.Description.{atomOf};
-ghost use Rattle.logic.specs.SpecimenTree.{group};
-ghost use Rattle.logic.specs.Witness.{targetLinks, want};
-ghost use Rattle.compare.specs.code.Asked.{namesWith};
-ghost use Rattle.compare.specs.code.Table.{Formed, entriesIn, namesAround, placeBelow};
-ghost use Rattle.compare.specs.code.Laying.{Placed, Pushed, codes, joint, jointRows, leafRows};
-ghost use Rattle.compare.specs.code.Codes.{OnPath, PlacedBy, Writable, groupsAround, jointsBy, leastFor, numbersBy, specimenNumber, targetAt, targetBelow, upFrom};
+ghost use mathlib.Core.Bool.{Bool, false, true};
+ghost use Prim.Native.Nat.{ℕ, _*_, _+_, _≤_, _<_};
+ghost use lib.ListN.{length, take};
+ghost use Rattle.base.specs.Range.{bit};
+ghost use Rattle.logic.specs.Filling.{Filled};
+ghost use Rattle.logic.specs.Place.{has, least};
+ghost use Rattle.sorting.specs.Sorted.{sorted};
+ghost use Rattle.compare.specs.code.Asked.{One, linkIn, propertyIn};
+ghost use Rattle.slots.specs.code.TablePlaces.{Stood};
+ghost use Rattle.compare.specs.code.Codes.{OnPath, PlacedBy, Writable, numbersBy};
+ghost use Rattle.compare.specs.code.Tags.{Chained, Run, extraTag, extraTags};
 use crate::asked::AskedLink;
 use crate::asked::AskedProperty;
-use crate::asked::asked_count;
 use crate::asked::asked_link;
 use crate::asked::asked_property;
-use crate::asked::target_below;
-use crate::lookup::find_link;
-use crate::lookup::number_of;
-use crate::lookup::place_below;
-use crate::rows::less_one;
-use crate::rows::push_group;
+use crate::rows::least_in;
 use crate::rows::push_groups;
-use crate::rows::push_names;
-use crate::rows::push_property;
-use crate::spans::all_groups;
-use crate::spans::all_properties;
-use crate::spans::around_link;
-use crate::spans::around_property;
-use base::larger;
+use crate::rows::push_properties;
+use base::long;
 use blocks::Entry;
-use blocks::Link;
-use blocks::Property;
+use runs::gather;
+use runs::slot_named;
 
-// Pushes the properties of place v, and property p once.
-fn push_properties_with(
-    owner: u16,
-    v: u64,
-    p: Property,
-    form: &[u64; 1008],
-    k: usize,
-    rows: &mut [u64; 2016],
-    count: usize,
-) -> usize
-    requires { ⌜ Formed (now form) k × (v < 1024) × (length (now rows) ≡ 2016) × (count + length (namesAround (now form) k v 1 (p .0)) ≤ 2016) ⌝ }
-    ensures { λ r. ⌜ Pushed (now (rows .entry)) count (map specimenNumber (leafRows owner (namesAround (now (form .entry)) k v 1 (p .0)))) (now (rows .exit)) r ⌝ }
+// The tag of a name, and of its slot, 0 where it has none.
+fn asked_tag(name: u16, s: usize) -> u64
+    requires { ⌜ s < 1024 ⌝ }
+    ensures { λ r. ⌜ r ≡ 1024 * name + s ⌝ }
 {
-    let s = around_property(form, k, v, p);
-    let before = push_names(owner, form, s.from, s.to, rows, count);
-    let with = push_property(owner, p, rows, before);
-    push_names(owner, form, s.past, s.end, rows, with)
+    1024 * long(name) + s as u64
 }
 
-// Pushes the properties of place v, and once the one that is asked for.
-fn push_properties(
-    owner: u16,
-    v: u64,
+// Adds the tag of a name of a run, where no slot asks for it.
+fn add_name(
+    table: &[u64],
+    last: &[u16],
+    before: &[u16],
+    run: usize,
+    name: u16,
+    order: &mut [u64],
+    n: usize,
+) -> usize
+    requires { ⌜ Stood (now table) × Chained (now table) (now last) (now before) × (n < length (now order)) ⌝ }
+    ensures { λ r. ⌜ ((v : ℕ) (b : Bool) → run ≡ 2 * v + bit b → Filled (length (now (order .entry))) (now (order .entry)) n (extraTag (now (table .entry)) v b name) (now (order .exit)) r) ⌝ }
+{
+    let s = slot_named(table, last, before, run, name);
+    if least_in(table, s) != 0 {
+        return n;
+    }
+    order[n] = asked_tag(name, s);
+    n + 1
+}
+
+// Sorts the first n numbers.
+fn sort_first(order: &mut [u64], n: usize)
+    requires { ⌜ n ≤ length (now order) ⌝ }
+    ensures { λ _. ⌜ (length (now (order .exit)) ≡ length (now (order .entry))) × (take n (now (order .exit)) ≡ sorted (take n (now (order .entry)))) ⌝ }
+{
+    sorting::sort(&mut order[0..n]);
+}
+
+// Adds the tag of the property that is asked for, if any, to n tags of place v.
+fn add_property(
+    table: &[u64],
+    last: &[u16],
+    before: &[u16],
+    v: usize,
     asked: AskedProperty,
-    form: &[u64; 1008],
-    k: usize,
-    rows: &mut [u64; 2016],
-    count: usize,
+    order: &mut [u64],
+    n: usize,
 ) -> usize
-    requires { ⌜ Formed (now form) k × (v < 1024) × (length (now rows) ≡ 2016) × (count + length (namesWith (now form) k v asked) ≤ 2016) ⌝ }
-    ensures { λ r. ⌜ Pushed (now (rows .entry)) count (map specimenNumber (leafRows owner (namesWith (now (form .entry)) k v asked))) (now (rows .exit)) r ⌝ }
+    requires { ⌜ Stood (now table) × Chained (now table) (now last) (now before) × (v < 1024) × (n < length (now order)) ⌝ }
+    ensures { λ r. ⌜ Filled (length (now (order .entry))) (now (order .entry)) n (extraTags (now (table .entry)) v false (propertyIn asked)) (now (order .exit)) r ⌝ }
 {
     match asked {
-        AskedProperty::Property(p) => push_properties_with(owner, v, p, form, k, rows, count),
-        AskedProperty::Nothing => {
-            let s = all_properties(form, k, v);
-            push_names(owner, form, s.from, s.end, rows, count)
-        }
+        AskedProperty::Nothing => n,
+        AskedProperty::Property(p) => add_name(table, last, before, 2 * v, p.0, order, n),
     }
 }
 
-// Pushes the groups of place v, and once that of link l, with this number and code.
-fn push_joints_with(
-    owner: u16,
-    v: u64,
-    l: Link,
-    number: u16,
-    code: u16,
-    form: &[u64; 1008],
-    k: usize,
-    rows: &mut [u64; 2016],
-    below: &mut [u16; 2017],
-    count: usize,
+// Adds the tag of the link of which items are asked for, if any.
+fn add_link(
+    table: &[u64],
+    last: &[u16],
+    before: &[u16],
+    v: usize,
+    asked: AskedLink,
+    order: &mut [u64],
+    n: usize,
 ) -> usize
-    requires { ⌜ Formed (now form) k × (v < 1024) × (length (now rows) ≡ 2016) × (count + length (groupsAround (now form) k v (l .0) (joint (group (l .0) number) code)) ≤ 2016) ⌝ }
-    ensures { λ r. ⌜ Placed (now (rows .entry)) count (map specimenNumber (jointRows owner (groupsAround (now (form .entry)) k v (l .0) (joint (group (l .0) number) code))))
-        (now (below .entry)) (count + 1) (codes (groupsAround (now (form .entry)) k v (l .0) (joint (group (l .0) number) code))) (now (rows .exit)) r (now (below .exit)) ⌝ }
+    requires { ⌜ Stood (now table) × Chained (now table) (now last) (now before) × (v < 1024) × (n < length (now order)) ⌝ }
+    ensures { λ r. ⌜ Filled (length (now (order .entry))) (now (order .entry)) n (extraTags (now (table .entry)) v true (linkIn asked)) (now (order .exit)) r ⌝ }
 {
-    let s = around_link(form, k, v, l);
-    let before = push_groups(owner, v, form, k, s.from, s.to, rows, below, count);
-    let with = push_group(owner, l, number, code, rows, below, before);
-    push_groups(owner, v, form, k, s.past, s.end, rows, below, with)
-}
-
-// How many items of a link the normal form has at place v at least.
-fn listed_least(form: &[u64; 1008], k: usize, v: u64, l: Link) -> u64
-    requires { ⌜ Formed (now form) k × (v < 1024) ⌝ }
-    ensures { λ r. ⌜ (r ≡ leastFor (entriesIn (now (form .entry)) k) v (l .0)) × (r < 65536) ⌝ }
-{
-    let j = find_link(form, k, v, 3, l);
-    if j == 0 {
-        return 0;
-    }
-    number_of(form, j)
-}
-
-// The number of the group of a link that the target asks for, one less than its count.
-fn asked_number(
-    form: &[u64; 1008],
-    k: usize,
-    v: u64,
-    l: Link,
-    target: usize,
-    m: usize,
-    e: Entry,
-) -> u16
-    requires { ⌜ Formed (now form) k × (v < 1024) × (target ≤ m + 1) × (m ≤ 32) ⌝ }
-    ensures { λ r. ⌜ ((links : List ℕ) → targetLinks (targetAt (upFrom links m) (atomOf e) target) ≡ l .0 ∷ [] → r ≡ pred (max (leastFor (entriesIn (now (form .entry)) k) v (l .0)) (want (targetAt (upFrom links m) (atomOf e) target) (l .0)))) ⌝ }
-{
-    less_one(larger(listed_least(form, k, v, l), asked_count(target, m, e)))
-}
-
-// The code of the place below it.
-fn asked_code(form: &[u64; 1008], k: usize, v: u64, l: Link, target: usize, m: usize) -> u16
-    requires { ⌜ Formed (now form) k × (v < 1024) × (target ≤ m + 1) × (m ≤ 32) ⌝ }
-    ensures { λ r. ⌜ ((links : List ℕ) (a : Atom) → targetLinks (targetAt (upFrom links m) a target) ≡ l .0 ∷ [] → r ≡ 1024 * targetBelow (upFrom links m) target (l .0) + placeBelow (entriesIn (now (form .entry)) k) v (l .0)) ⌝ }
-{
-    (1024 * target_below(target, m) + place_below(form, k, v, l)) as u16
-}
-
-// Pushes the groups of the place of a code, and once that of the link that is asked for.
-fn push_joints(
-    owner: u16,
-    code: usize,
-    form: &[u64; 1008],
-    k: usize,
-    links: &[u16; 32],
-    m: usize,
-    e: Entry,
-    rows: &mut [u64; 2016],
-    below: &mut [u16; 2017],
-    count: usize,
-) -> usize
-    requires { ⌜ Writable (now form) k (now links) m e × OnPath m code × (length (now rows) ≡ 2016) × (count + length (jointsBy (now form) k (now links) m e code) ≤ 2016) ⌝ }
-    ensures { λ r. ⌜ Placed (now (rows .entry)) count (map specimenNumber (jointRows owner (jointsBy (now (form .entry)) k (now (links .entry)) m e code)))
-        (now (below .entry)) (count + 1) (codes (jointsBy (now (form .entry)) k (now (links .entry)) m e code)) (now (rows .exit)) r (now (below .exit)) ⌝ }
-{
-    let v = (code % 1024) as u64;
-    let target = code / 1024;
-    let asked = asked_link(target, links, m, e);
     match asked {
-        AskedLink::Link(l) => {
-            let number = asked_number(form, k, v, l, target, m, e);
-            let next = asked_code(form, k, v, l, target, m);
-            push_joints_with(owner, v, l, number, next, form, k, rows, below, count)
-        }
-        AskedLink::Nothing => {
-            let s = all_groups(form, k, v);
-            push_groups(owner, v, form, k, s.from, s.end, rows, below, count)
-        }
+        AskedLink::Nothing => n,
+        AskedLink::Items(l, _, _) => add_name(table, last, before, 2 * v + 1, l.0, order, n),
     }
+}
+
+// The tags of the properties of place v and of the one that is asked for, in order; returns how many there are.
+fn property_run(
+    table: &[u64],
+    last: &[u16],
+    before: &[u16],
+    v: usize,
+    asked: AskedProperty,
+    order: &mut [u64],
+) -> usize
+    requires { ⌜ Stood (now table) × Chained (now table) (now last) (now before) × (length (now table) ≤ length (now order)) × (v < 1024) × One (propertyIn asked) ⌝ }
+    ensures { λ r. ⌜ (r ≤ length (now (order .entry))) × (length (now (order .exit)) ≡ length (now (order .entry))) × Run (now (table .entry)) v has (propertyIn asked) (take r (now (order .exit))) ⌝ }
+{
+    let n = gather(table, last, before, 2 * v, 1, order);
+    let k = add_property(table, last, before, v, asked, order, n);
+    sort_first(order, k);
+    k
+}
+
+// The tags of the links of place v of which there is at least one item, and of the one that is asked for, in order.
+fn link_run(
+    table: &[u64],
+    last: &[u16],
+    before: &[u16],
+    v: usize,
+    asked: AskedLink,
+    order: &mut [u64],
+) -> usize
+    requires { ⌜ Stood (now table) × Chained (now table) (now last) (now before) × (length (now table) ≤ length (now order)) × (v < 1024) × One (linkIn asked) ⌝ }
+    ensures { λ r. ⌜ (r ≤ length (now (order .entry))) × (length (now (order .exit)) ≡ length (now (order .entry))) × Run (now (table .entry)) v least (linkIn asked) (take r (now (order .exit))) ⌝ }
+{
+    let n = gather(table, last, before, 2 * v + 1, 1, order);
+    let k = add_link(table, last, before, v, asked, order, n);
+    sort_first(order, k);
+    k
 }
 
 // Pushes the rows of the place of a code, of this owner: its properties, then its groups.
 pub(crate) fn push_place(
     owner: u16,
     code: usize,
-    form: &[u64; 1008],
-    k: usize,
+    table: &[u64],
+    last: &[u16],
+    before: &[u16],
     links: &[u16; 32],
     m: usize,
     e: Entry,
-    rows: &mut [u64; 2016],
-    below: &mut [u16; 2017],
+    order: &mut [u64],
+    rows: &mut [u64],
+    below: &mut [u16],
     count: usize,
 ) -> usize
-    requires { ⌜ Writable (now form) k (now links) m e × OnPath m code × (length (now rows) ≡ 2016) × (count + length (numbersBy (now form) k (now links) m e owner code) ≤ 2016) ⌝ }
-    ensures { λ r. ⌜ PlacedBy (now (form .entry)) k (now (links .entry)) m e owner code (now (rows .entry)) count (now (below .entry)) (now (rows .exit)) r (now (below .exit)) ⌝ }
+    requires { ⌜ Writable (now table) (now links) m e (length (now rows)) × Chained (now table) (now last) (now before) × (length (now table) ≤ length (now order)) × (length (now rows) < length (now below))
+        × OnPath m code × (count + length (numbersBy (now table) (now links) m e owner code) ≤ length (now rows)) ⌝ }
+    ensures { λ r. ⌜ PlacedBy (now (table .entry)) (now (links .entry)) m e (length (now (rows .entry))) owner code (now (rows .entry)) count (now (below .entry)) (now (rows .exit)) r (now (below .exit)) × (length (now (order .exit)) ≡ length (now (order .entry))) ⌝ }
 {
-    let asked = asked_property(code / 1024, m, e);
-    let n = push_properties(owner, (code % 1024) as u64, asked, form, k, rows, count);
-    push_joints(owner, code, form, k, links, m, e, rows, below, n)
+    let v = code % 1024;
+    let target = code / 1024;
+    let p = asked_property(target, m, e);
+    let n = property_run(table, last, before, v, p, order);
+    let k = push_properties(owner, order, n, rows, count);
+    let l = asked_link(target, links, m, e);
+    let g = link_run(table, last, before, v, l, order);
+    push_groups(owner, order, g, table, l, rows, below, k)
 }

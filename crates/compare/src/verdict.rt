@@ -1,62 +1,104 @@
-// The comparison. Whether all entries of the second description hold is asked of the normal form's layer, which sorts nothing for it. Only
-// where one fails is the first description normalised, into a local buffer, and the specimen written to the output.
+// The comparison. Whether all entries of the second description hold is asked of the normal form's layer, which slots the first and leaves
+// its slots in a lent table. Only where one fails is the specimen written to the output, from these slots. Tables are made in two sizes, so
+// that two descriptions of one block each do not pay for clearing tables for 1,008 entries.
 ghost use mathlib.Core.Path.{_≡_};
-ghost use mathlib.Core.Logic.{_≢_};
-ghost use Prim.Native.Nat.{_+_, _≤_};
-ghost use lib.Dec.{ltb};
-ghost use lib.ListN.{length};
-ghost use Rattle.blocks.specs.Entries.{entriesOf};
-ghost use Rattle.slots.specs.Holding.{holdingOf};
-ghost use Rattle.slots.specs.declared.Holding.{Holding};
+ghost use Prim.Native.Nat.{_*_, _+_, _≤_};
+ghost use lib.Dec.{leb, ltb};
+ghost use lib.ListN.{length, replicate};
+ghost use mathlib.Core.Bool.{_&&_};
 ghost use Rattle.compare.specs.Answer.{compareOf, outputOf};
-ghost use Rattle.meaning.specs.Failing.{failing};
-ghost use Rattle.compare.specs.code.Prepared.{Denied, Prepared};
+ghost use Rattle.compare.specs.code.Prepared.{Agreed, Failed, Roomy, Showable, shownAfter, shownBy};
 use crate::Comparison;
 use crate::path::links_up;
 use crate::specimen::specimen_rows;
-use crate::table::unpack;
-use blocks::Schema;
-use normal::NormalAnswer;
 use slots::Holding;
 
-// Writes the specimen of a normal form of k entries for entry n of a description with `total` entries, the first that fails.
+// Writes the specimen that the slots give for entry n of a description, in lent tables, and returns its number of entries.
 fn write_specimen(
-    normal: &[u8],
-    k: usize,
+    table: &[u64],
     d: &[u8],
-    total: usize,
     n: usize,
+    last: &mut [u16],
+    before: &mut [u16],
+    order: &mut [u64],
+    rows: &mut [u64],
+    below: &mut [u16],
     out: &mut [u8],
-) -> Comparison
-    requires { ⌜ Prepared (now normal) k (now d) total (now out) × (failing (entriesOf (now normal)) (entriesOf (now d)) ≡ n) × (n ≢ 0) ⌝ }
-    ensures { λ r. ⌜ (r ≡ compareOf (now (normal .entry)) (now (d .entry)) (now (out .entry))) × (now (out .exit) ≡ outputOf (now (normal .entry)) (now (d .entry)) (now (out .entry))) ⌝ }
+) -> usize
+    requires { ⌜ Showable (now table) (now d) n (length (now rows)) (now out) × (now last ≡ replicate (length (now last)) 0) × (2 * length (now table) ≤ length (now last))
+        × (length (now table) ≤ length (now before)) × (length (now table) ≤ length (now order)) × (now below ≡ replicate (length (now rows) + 1) 0) ⌝ }
+    ensures { λ r. ⌜ (r ≡ length (shownBy (now (table .entry)) (now (d .entry)) n)) × (r ≤ 2016) × (now (out .exit) ≡ shownAfter (now (table .entry)) (now (d .entry)) n (now (out .entry))) ⌝ }
 {
-    let mut form = [0u64; 1008];
-    unpack(normal, k, &mut form);
     let mut links = [0u16; 32];
-    let m = links_up(d, total, n, &mut links);
-    let e = lent::entry_held(d, total, n);
-    let mut rows = [0u64; 2016];
-    let count = specimen_rows(&form, k, &links, m, e, &mut rows);
-    writing::write_entries(out, &rows, count);
-    Comparison::NotContained(n as u16, count as u16)
+    let m = links_up(d, n, &mut links);
+    let e = lent::entry_held(d, n, n);
+    let count = specimen_rows(table, last, before, &links, m, e, order, rows, below);
+    writing::write_entries(out, rows, count);
+    count
 }
 
-// Shows that entry n fails: the first description is normalised, and the specimen written.
-fn show(c: &[u8], d: &[u8], n: usize, out: &mut [u8]) -> Comparison
-    requires { ⌜ Denied (now c) (now d) n (now out) ⌝ }
+// The same with tables of its own, where the two descriptions are of one block each.
+fn show_few(table: &[u64], d: &[u8], n: usize, out: &mut [u8]) -> usize
+    requires { ⌜ Showable (now table) (now d) n 126 (now out) × (length (now table) ≤ 64) ⌝ }
+    ensures { λ r. ⌜ (r ≡ length (shownBy (now (table .entry)) (now (d .entry)) n)) × (r ≤ 2016) × (now (out .exit) ≡ shownAfter (now (table .entry)) (now (d .entry)) n (now (out .entry))) ⌝ }
+{
+    let mut last = [0u16; 128];
+    let mut before = [0u16; 64];
+    let mut order = [0u64; 64];
+    let mut rows = [0u64; 126];
+    let mut below = [0u16; 127];
+    write_specimen(
+        table,
+        d,
+        n,
+        &mut last,
+        &mut before,
+        &mut order,
+        &mut rows,
+        &mut below,
+        out,
+    )
+}
+
+// The same for any two.
+fn show_many(table: &[u64], d: &[u8], n: usize, out: &mut [u8]) -> usize
+    requires { ⌜ Showable (now table) (now d) n 2016 (now out) ⌝ }
+    ensures { λ r. ⌜ (r ≡ length (shownBy (now (table .entry)) (now (d .entry)) n)) × (r ≤ 2016) × (now (out .exit) ≡ shownAfter (now (table .entry)) (now (d .entry)) n (now (out .entry))) ⌝ }
+{
+    let mut last = [0u16; 2018];
+    let mut before = [0u16; 1009];
+    let mut order = [0u64; 1009];
+    let mut rows = [0u64; 2016];
+    let mut below = [0u16; 2017];
+    write_specimen(
+        table,
+        d,
+        n,
+        &mut last,
+        &mut before,
+        &mut order,
+        &mut rows,
+        &mut below,
+        out,
+    )
+}
+
+// Whether two descriptions are of one block each.
+fn are_small(c: &[u8], d: &[u8]) -> bool
+    ensures { λ r. ⌜ r ≡ (leb (length (now (c .entry))) 512 && leb (length (now (d .entry))) 512) ⌝ }
+{
+    c.len() <= 512 && d.len() <= 512
+}
+
+// Shows that entry n fails, where the slots of the first description stand in the table.
+fn show(c: &[u8], d: &[u8], n: usize, table: &[u64], out: &mut [u8]) -> Comparison
+    requires { ⌜ Failed (now c) (now d) n (now table) × (length (now c) + length (now d) ≤ length (now out)) ⌝ }
     ensures { λ r. ⌜ (r ≡ compareOf (now (c .entry)) (now (d .entry)) (now (out .entry))) × (now (out .exit) ≡ outputOf (now (c .entry)) (now (d .entry)) (now (out .entry))) ⌝ }
 {
-    let total = lent::total_read(d, Schema::Description);
-    let mut blocks = [0u8; 8192];
-    let answer = normal::normalise(c, &mut blocks);
-    match answer {
-        NormalAnswer::Refused(number, input, place) => Comparison::Refused(number, input, place),
-        NormalAnswer::Normalised(k) => {
-            let size = 512 * writing::blocks_for(k as usize);
-            write_specimen(&blocks[0..size], k as usize, d, total, n, out)
-        }
+    if are_small(c, d) {
+        return Comparison::NotContained(n as u16, show_few(table, d, n, out) as u16);
     }
+    Comparison::NotContained(n as u16, show_many(table, d, n, out) as u16)
 }
 
 // Whether an output is shorter than two descriptions together.
@@ -69,7 +111,7 @@ fn is_short(c: &[u8], d: &[u8], out: &[u8]) -> bool
 
 // The answer where all entries hold: 7 where the output is shorter than both descriptions together.
 fn agree(c: &[u8], d: &[u8], out: &[u8]) -> Comparison
-    requires { ⌜ holdingOf (now c) (now d) ≡ Holding.All ⌝ }
+    requires { ⌜ Agreed (now c) (now d) ⌝ }
     ensures { λ r. ⌜ (r ≡ compareOf (now (c .entry)) (now (d .entry)) (now (out .entry))) × (now (out .entry) ≡ outputOf (now (c .entry)) (now (d .entry)) (now (out .entry))) ⌝ }
 {
     if is_short(c, d, out) {
@@ -79,14 +121,43 @@ fn agree(c: &[u8], d: &[u8], out: &[u8]) -> Comparison
 }
 
 // The answer where entry n fails: 7 where the output is shorter, else the specimen.
-fn deny(c: &[u8], d: &[u8], n: usize, out: &mut [u8]) -> Comparison
-    requires { ⌜ holdingOf (now c) (now d) ≡ Holding.Fails n ⌝ }
+fn deny(c: &[u8], d: &[u8], n: usize, table: &[u64], out: &mut [u8]) -> Comparison
+    requires { ⌜ Failed (now c) (now d) n (now table) ⌝ }
     ensures { λ r. ⌜ (r ≡ compareOf (now (c .entry)) (now (d .entry)) (now (out .entry))) × (now (out .exit) ≡ outputOf (now (c .entry)) (now (d .entry)) (now (out .entry))) ⌝ }
 {
     if is_short(c, d, out) {
         return Comparison::Refused(7, 0, 0);
     }
-    show(c, d, n, out)
+    show(c, d, n, table, out)
+}
+
+// Compares two descriptions, with a lent table for the slots of the first.
+fn compare_in(c: &[u8], d: &[u8], table: &mut [u64], out: &mut [u8]) -> Comparison
+    requires { ⌜ Roomy (now c) (now table) ⌝ }
+    ensures { λ r. ⌜ (r ≡ compareOf (now (c .entry)) (now (d .entry)) (now (out .entry))) × (now (out .exit) ≡ outputOf (now (c .entry)) (now (d .entry)) (now (out .entry))) ⌝ }
+{
+    let holding = slots::first_failing(c, d, table);
+    match holding {
+        Holding::Refused(number, input, place) => Comparison::Refused(number, input, place),
+        Holding::All => agree(c, d, out),
+        Holding::Fails(n, used) => deny(c, d, n as usize, &table[0..used as usize + 1], out),
+    }
+}
+
+// The same with a table of its own, where the first description is of one block, and where it is any.
+fn compare_few(c: &[u8], d: &[u8], out: &mut [u8]) -> Comparison
+    requires { ⌜ length (now c) ≤ 512 ⌝ }
+    ensures { λ r. ⌜ (r ≡ compareOf (now (c .entry)) (now (d .entry)) (now (out .entry))) × (now (out .exit) ≡ outputOf (now (c .entry)) (now (d .entry)) (now (out .entry))) ⌝ }
+{
+    let mut table = [0u64; 64];
+    compare_in(c, d, &mut table, out)
+}
+
+fn compare_many(c: &[u8], d: &[u8], out: &mut [u8]) -> Comparison
+    ensures { λ r. ⌜ (r ≡ compareOf (now (c .entry)) (now (d .entry)) (now (out .entry))) × (now (out .exit) ≡ outputOf (now (c .entry)) (now (d .entry)) (now (out .entry))) ⌝ }
+{
+    let mut table = [0u64; 1009];
+    compare_in(c, d, &mut table, out)
 }
 
 // Compares two descriptions: whether every item of every finite record that fits the first fits the second. Where one does not, the
@@ -96,10 +167,8 @@ fn deny(c: &[u8], d: &[u8], n: usize, out: &mut [u8]) -> Comparison
 pub fn compare(c: &[u8], d: &[u8], out: &mut [u8]) -> Comparison
     ensures { λ r. ⌜ (r ≡ compareOf (now (c .entry)) (now (d .entry)) (now (out .entry))) × (now (out .exit) ≡ outputOf (now (c .entry)) (now (d .entry)) (now (out .entry))) ⌝ }
 {
-    let holding = slots::first_failing(c, d);
-    match holding {
-        Holding::Refused(number, input, place) => Comparison::Refused(number, input, place),
-        Holding::All => agree(c, d, out),
-        Holding::Fails(n) => deny(c, d, n as usize, out),
+    if are_small(c, d) {
+        return compare_few(c, d, out);
     }
+    compare_many(c, d, out)
 }

@@ -1,7 +1,7 @@
 // The entries of an input, read by number straight from the lent blocks: a small struct holds the input and its total.
 //
-// A function that takes or makes the struct is proved by a walk of its own. `total_read`, `read_entry` and `entry_held` have plain
-// parameters, and serve every other caller.
+// A function that takes or makes the struct is proved by a walk of its own. `entry_held` has plain parameters, and serves every other
+// caller.
 ghost use mathlib.Core.Path.{_≡_};
 ghost use Rattle.blocks.specs.Entries.{entryOf};
 ghost use Rattle.blocks.specs.Reading.{totalRead};
@@ -52,14 +52,6 @@ impl<'a> Entries<'a> {
     {
         nth_entry(self.blocks, self.total, number)
     }
-}
-
-// The entry of a number, counted from 1, of an input read as a description or a specimen: the zero entry for 0 and above the
-// total, and for every number where the input is refused. Each call reads the whole input.
-pub fn read_entry(s: &[u8], schema: Schema, number: usize) -> Entry
-    ensures { λ r. ⌜ r ≡ entryOf (now (s .entry)) (totalRead schema (now (s .entry))) number ⌝ }
-{
-    entries_of(s, schema).get(number)
 }
 
 // The entry of a number, counted from 1, of an input whose total is known: the zero entry for 0 and above the total. Nothing is read but

@@ -4,7 +4,7 @@
 pub mod Names
 -- Sums over a list of numbers.
 pub mod Sums
--- Ascending names: names put into a list, of which one may be there already.
+-- Ascending names: those of a place, put into a list each once, ascend.
 pub mod IncreasingNames
 -- The items of a specimen's tree, by groups that are numbered from the root down.
 pub mod TreeItems

@@ -84,5 +84,5 @@ module _ {d : List ℕ} {used : ℕ} {t bad full : List ℕ} (S : Standing d use
     -- they are written as answered
     pub rows-written : (out : List ℕ) → length d ≤ length out → (normaliseOf d out ≡ Normalised r) × (written out rows r ≡ normalisedOf d out)
     rows-written out l =
-        normal-written d out (record { total = S .total; read = S .read; room = l }) (all-bounded d (S .slots-settled .bounded)) rows r (omega (arith, rows-most, P .size))
+        normal-written d out (record { total = S .total; read = S .read; room = l }) (all-bounded d (S .slots-settled .tabled .bounded)) rows r (omega (arith, rows-most, P .size))
         (P .held ∙ ap (map rowNumber) (rows-normal (S .slots-settled) entries-few))

@@ -4,8 +4,6 @@
 pub mod OrderingLaws
 -- The tags of slots, from the numbers that hold a slot's key above its own number.
 pub mod TagLaws
--- Lists whose numbers are all different: sorted, they ascend strictly.
-pub mod Rising
 -- The numbers of slots in ascending order are their tags in ascending order, where no two slots have one key.
 pub mod TagOrder
 -- The fast normal form from a table of settled slots and the ascending list of their numbers.

@@ -6,3 +6,5 @@ pub mod Forms
 pub mod FormMeaning
 -- The places of a description's slots are normal, and the top is the normal form of the description.
 pub mod FormNormal
+-- Settling slots that are settled changes nothing.
+pub mod FormSettled

@@ -6,3 +6,5 @@ pub mod Slots
 pub mod Pipeline
 -- The key of a slot as one number, where names are below 65,536.
 pub mod Keys
+-- The places of the slots of a description, as trees: each is written from its sorted cells.
+pub mod Forms

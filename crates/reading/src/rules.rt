@@ -1,15 +1,34 @@
 // The rules of single entries: the table of kinds, owners and depths, numbers 4, 5 and 6 of the table of refusals.
 ghost use mathlib.Core.Path.{_≡_};
-ghost use Prim.Native.Nat.{ℕ, _+_, _*_, _/_, _≤_, _<_};
+ghost use Prim.Native.Nat.{_+_, _*_, _/_, _≤_, _<_};
 ghost use lib.ListN.{length};
-ghost use Rattle.blocks.specs.Entries.{kindOk, nameOk, numberOk, formOk, owningKind, entriesOf};
+ghost use Rattle.blocks.specs.Entries.{kindOk, nameOk, numberOk, formOk, owningKind, entriesOf, entryFrom};
 ghost use Rattle.blocks.specs.Faults.{entryFaults, first};
-ghost use Rattle.blocks.specs.Frame.{entryPos, plain};
-ghost use Rattle.blocks.specs.code.ReadingSteps.{levelBy, entryRefusal, levelUnder};
+ghost use Rattle.blocks.specs.code.Blockwise.{InBlock, Whole};
+ghost use Rattle.blocks.specs.code.ReadingSteps.{Levels, levelBy, entryRefusal, levelUnder};
+ghost use Rattle.blocks.specs.declared.Finding.{Finding};
 use blocks::Entry;
 use blocks::Finding;
 use blocks::Schema;
-use blocks::entry_at;
+use blocks::entry_of_bytes;
+use blocks::next_count;
+
+// The entry whose 8 bytes start at an index: a pass over a block knows that they are there.
+fn entry_from(s: &[u8], at: usize) -> Entry
+    requires { ⌜ at + 8 ≤ length (now s) ⌝ }
+    ensures { λ r. ⌜ r ≡ entryFrom (now (s .entry)) at ⌝ }
+{
+    entry_of_bytes(
+        s[at],
+        s[at + 1],
+        s[at + 2],
+        s[at + 3],
+        s[at + 4],
+        s[at + 5],
+        s[at + 6],
+        s[at + 7],
+    )
+}
 
 // Whether a kind stands in the schema's table.
 fn kind_ok(schema: Schema, kind: u8) -> bool
@@ -67,8 +86,8 @@ fn form_ok(schema: Schema, e: Entry) -> bool
 }
 
 // The level of owner o of entry n: 0 where it may own nothing or does not stand earlier.
-fn level_by(level: &[u8; 2017], n: usize, o: u16) -> u8
-    requires { ⌜ n ≤ 2017 ⌝ }
+fn level_by(level: &[u8], n: usize, o: u16) -> u8
+    requires { ⌜ n ≤ length (now level) ⌝ }
     ensures { λ r. ⌜ r ≡ levelBy (now (level .entry)) n o ⌝ }
 {
     let at = o as usize;
@@ -103,39 +122,85 @@ fn level_under(schema: Schema, kind: u8, l: u8) -> u8
     }
 }
 
-// The place of the entry after the one at this place: 8 bytes on, and 16 from the last of a block.
-fn next_pos(at: usize) -> usize
-    requires { ⌜ at ≤ 65536 ⌝ }
-    ensures { λ r. ⌜ ((n : ℕ) → 1 ≤ n → at ≡ entryPos plain n → r ≡ entryPos plain (n + 1)) ⌝ }
+// The lowest of `count` entries, those after the first `done`, whose bytes start at `from`, that breaks number 4, 5 or 6. Each entry is
+// decoded once, and a table holds the level of each entry before it, so that neither its owner nor its chain of owners is looked up again.
+fn fault_in_block(
+    s: &[u8],
+    schema: Schema,
+    from: usize,
+    count: usize,
+    done: usize,
+    level: &mut [u8],
+) -> Finding
+    requires { ⌜ (length (entriesOf (now s)) ≤ 2016) × InBlock (now s) from count done × Levels schema (entriesOf (now s)) (now level) (done + 1) ⌝ }
+    ensures { λ r. ⌜ (r ≡ first (entryFaults schema (entriesOf (now (s .entry))) (done + 1) count))
+        × (r ≡ Finding.Clean → Levels schema (entriesOf (now (s .entry))) (now (level .exit)) (done + count + 1)) ⌝ }
 {
-    if at % 512 == 500 {
-        return at + 16;
+    let mut i: usize = 0;
+    loop {
+        if count <= i {
+            break Finding::Clean;
+        }
+        let e = entry_from(s, from + 8 * i);
+        i += 1;
+        let l = level_by(level, done + i, e.owner);
+        let number = entry_refusal(schema, e, l);
+        if number != 0 {
+            break Finding::Faulty(number, (done + i) as u16);
+        }
+        level[done + i] = level_under(schema, e.kind, l);
     }
-    at + 8
 }
 
-// The lowest of `total` entries that breaks number 4, 5 or 6. One pass: each entry is decoded once, and a table holds the level
-// of each entry before it, so that neither its owner nor its chain of owners is looked up again.
+// The lowest of `total` entries that breaks number 4, 5 or 6, block by block, with a table of levels that has a number for each.
+fn fault_by_levels(s: &[u8], schema: Schema, total: usize, level: &mut [u8]) -> Finding
+    requires { ⌜ (total ≡ length (entriesOf (now s))) × (total ≤ 2016) × Whole (now s) total × (total < length (now level)) ⌝ }
+    ensures { λ r. ⌜ r ≡ first (entryFaults schema (entriesOf (now (s .entry))) 1 total) ⌝ }
+{
+    level[0] = 1;
+    let mut n: usize = 0;
+    let mut at: usize = 4;
+    loop {
+        if total <= n {
+            break Finding::Clean;
+        }
+        let count = next_count(total - n);
+        let found = fault_in_block(s, schema, at, count, n, level);
+        match found {
+            Finding::Faulty(number, place) => break Finding::Faulty(number, place),
+            Finding::Clean => {
+                n += count;
+                at += 512;
+            }
+        }
+    }
+}
+
+// The same with a table of its own, for at most 63 entries.
+fn few_entries_fault(s: &[u8], schema: Schema, total: usize) -> Finding
+    requires { ⌜ (total ≡ length (entriesOf (now s))) × (total < 64) × Whole (now s) total ⌝ }
+    ensures { λ r. ⌜ r ≡ first (entryFaults schema (entriesOf (now (s .entry))) 1 total) ⌝ }
+{
+    let mut level = [0u8; 64];
+    fault_by_levels(s, schema, total, &mut level)
+}
+
+// The same for any number.
+fn many_entries_fault(s: &[u8], schema: Schema, total: usize) -> Finding
+    requires { ⌜ (total ≡ length (entriesOf (now s))) × (total ≤ 2016) × Whole (now s) total ⌝ }
+    ensures { λ r. ⌜ r ≡ first (entryFaults schema (entriesOf (now (s .entry))) 1 total) ⌝ }
+{
+    let mut level = [0u8; 2017];
+    fault_by_levels(s, schema, total, &mut level)
+}
+
+// The lowest of `total` entries that breaks number 4, 5 or 6. Few entries take a small table, which is sooner cleared.
 pub(crate) fn first_entry_fault(s: &[u8], schema: Schema, total: usize) -> Finding
     requires { ⌜ (total ≡ length (entriesOf (now s))) × (total ≤ 2016) × (512 * ((total + 62) / 63) ≤ length (now s)) ⌝ }
     ensures { λ r. ⌜ r ≡ first (entryFaults schema (entriesOf (now (s .entry))) 1 total) ⌝ }
 {
-    let mut level = [0u8; 2017];
-    level[0] = 1;
-    let mut n: usize = 1;
-    let mut at: usize = 4;
-    loop {
-        if total < n {
-            break Finding::Clean;
-        }
-        let e = entry_at(s, at);
-        let l = level_by(&level, n, e.owner);
-        let number = entry_refusal(schema, e, l);
-        if number != 0 {
-            break Finding::Faulty(number, n as u16);
-        }
-        level[n] = level_under(schema, e.kind, l);
-        at = next_pos(at);
-        n += 1;
+    if total < 64 {
+        return few_entries_fault(s, schema, total);
     }
+    many_entries_fault(s, schema, total)
 }

@@ -29,10 +29,10 @@ use Rattle.meaning.proofs.Verdicts.FirstLaws.{first-same, none-failing}
 use Rattle.meaning.specs.Description.{atomOf, linksTo, placeOf, rowOf}
 use Rattle.meaning.specs.First.{entryHolds, firstFailing}
 use Rattle.passes.proofs.CellPlaces.FormNormal.{form-top, top-bottom}
-use Rattle.passes.proofs.CellPlaces.Forms.{form, formed}
 use Rattle.passes.proofs.Cells.WrittenLists.{value-none}
 use Rattle.passes.proofs.SlotLists.SlotLaws.{position-from}
 use Rattle.passes.proofs.SlotLists.SlotNumbers.{no-link-slot, no-slot, position-range, slot-lists, slot-owns}
+use Rattle.passes.specs.code.Forms.{form, formed}
 use Rattle.passes.specs.code.Slots.{Slot, inconsistent, isLink, position, slots, taken, value}
 use Rattle.slots.specs.code.States.{entrySlot, holdsInState, holdsBySlots, highAt, lowAt, nowhere, passed, slotFor, stateBelow, stateOf, supportedBy}
 use Rattle.slots.specs.code.Tables.{linkKind}
@@ -83,13 +83,13 @@ formed-end k [] v l = refl
 formed-end k (s ∷ ss) v l = let z : eqb v k ≡ false = omega tests in rw z (formed-end (suc k) ss v (omega arith))
 
 -- so the place there is empty
-form-end : (ss : List Slot) (v : ℕ) → length ss < v → form ss v ≡ end
+pub form-end : (ss : List Slot) (v : ℕ) → length ss < v → form ss v ≡ end
 unfolding form
 form-end ss v l = let z : eqb v 0 ≡ false = omega tests in rw z (formed-end 1 ss v (omega arith))
 
 module _ (rs : List (Row Atom ℕ)) where
   -- what a place lists of a name, by the bounds of its slot
-  place-lists : (v : ℕ) (a : Kind) (n : ℕ) → find a n (form (slots rs) v)
+  pub place-lists : (v : ℕ) (a : Kind) (n : ℕ) → find a n (form (slots rs) v)
       ≡ value a (lowAt (slots rs) (slotFor (slots rs) v (isLink a) n)) (highAt (slots rs) (slotFor (slots rs) v (isLink a) n))
   unfolding slotFor lowAt highAt
   place-lists v a n =
@@ -100,7 +100,7 @@ module _ (rs : List (Row Atom ℕ)) where
       (λ q. rw q (no-slot rs v a n q ∙ sym (value-none a)))
 
   -- what a link owns there, if it is not at most 0
-  place-owns : length (slots rs) ≤ 1008 → (v l : ℕ) → atMost 0 (highAt (slots rs) (slotFor (slots rs) v true l)) ≡ false
+  pub place-owns : length (slots rs) ≤ 1008 → (v l : ℕ) → atMost 0 (highAt (slots rs) (slotFor (slots rs) v true l)) ≡ false
       → sub l (form (slots rs) v) ≡ form (slots rs) (cond (eqb (slotFor (slots rs) v true l) 0) nowhere (slotFor (slots rs) v true l))
   unfolding slotFor highAt
   place-owns few v l h =

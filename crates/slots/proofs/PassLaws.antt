@@ -5,21 +5,20 @@ use lib.Dec.{eqb}
 use lib.ListN.{getD, length}
 use mathlib.Core.Bool.{Bool, _&&_, false, true}
 use mathlib.Core.List.{List, [], _∷_, map}
-use mathlib.Core.Logic.{_≢_}
 use mathlib.Core.Option.{Option}
 use mathlib.Core.Path.{_≡_, ap, refl}
 use native.Mathlib.Omega.{arith}
-use Rattle.base.proofs.Tests.{bool-cases, eq-cases, ne-eqb}
+use Rattle.base.proofs.Tests.{bool-cases, eq-cases}
 use Rattle.blocks.proofs.Refusing.Bounds.{AllBounded}
 use Rattle.blocks.specs.Entries.{Bounded, entriesOf, nth, zeroEntry}
 use Rattle.blocks.specs.declared.Entry.{Entry}
 use Rattle.meaning.specs.Description.{rowOf}
+use Rattle.passes.proofs.SlotLists.KeyLaws.{slots-small}
 use Rattle.passes.proofs.SlotLists.SlotLaws.{slots-early}
 use Rattle.passes.specs.code.Keys.{SmallRows, SmallSlots, SmallTop}
-use Rattle.passes.specs.code.Slots.{EarlySlots, Slot, closed, inconsistent, nonempty, settled, slot}
+use Rattle.passes.specs.code.Slots.{EarlySlots, Slot, closed, inconsistent, settled, slot, slots}
 use Rattle.slots.proofs.slots.TableLaws.{length-slots}
-use Rattle.slots.proofs.states.BoundLaws.{settled-exact}
-use Rattle.slots.specs.code.Tables.{Built, Placed, Settled, Settling, keyIn, lowPart, slotIn, slotsFrom, slotsOf}
+use Rattle.slots.specs.code.Tables.{Built, Placed, Settled, Settling, Tabled, keyIn, lowPart, slotIn, slotsFrom, slotsOf}
 
 -- ---- slots of a table
 
@@ -42,18 +41,10 @@ unfolding settled
 small-settled k [] s = tt
 small-settled k (slot u b n lo hi ∷ ss) s = ((s .0 .0, s .0 .1, small-closed (b && inconsistent (suc k) ss k) hi (s .0 .2)), small-settled (suc k) ss (s .1))
 
-length-settled : (k : ℕ) (ss : List Slot) → length (settled k ss) ≡ length ss
+pub length-settled : (k : ℕ) (ss : List Slot) → length (settled k ss) ≡ length ss
 unfolding settled
 length-settled k [] = refl
 length-settled k (slot u b n lo hi ∷ ss) = omega (arith, length-settled (suc k) ss)
-
--- no slot stands beyond the table
-pub nonempty-far : (k : ℕ) (ss : List Slot) (v : ℕ) → EarlySlots k ss → k + length ss ≤ v → nonempty k (settled k ss) v ≡ false
-unfolding nonempty settled
-nonempty-far k [] v h l = refl
-nonempty-far k (slot u b n lo hi ∷ ss) v h l =
-    let e : v ≢ u = λ q. omega (arith, h .0, q) in
-    rw (settled, nonempty, ne-eqb e) (nonempty-far (suc k) ss v (h .1) (omega arith))
 
 -- ---- the entries
 
@@ -69,29 +60,39 @@ pub all-bounded : (d : List ℕ) → ((n : ℕ) → 1 ≤ n → n ≤ length (en
 unfolding nth
 all-bounded d h = record { each = λ k l. h (suc k) (omega arith) (omega arith) }
 
+-- the lower bounds of settled slots in a table
+pub settled-low : {d : List ℕ} {used : ℕ} {t : List ℕ} → Tabled d used t → (j : ℕ) → 1 ≤ j → j ≤ used → lowPart (getD t j 0) < 65536
+settled-low {d} {used} {t} s j lo hi =
+    let rs = map rowOf (entriesOf d) in
+    let small = small-settled 1 (slots rs) (slots-small rs (rows-small (entriesOf d) (all-bounded d (s .bounded) .each))) in
+    low-at t 1 used (rw (← s .slotted) at small) j lo (omega arith)
+
 -- ---- the first pass and the second
 
-pub built-placed : {d : List ℕ} {used : ℕ} {t next head : List ℕ} → Built d used t next head → Placed t used
-built-placed {d} {used} {t} b =
+pub built-placed : {d : List ℕ} {used : ℕ} {o t next head : List ℕ} → Built d used o t next head → Placed t used
+built-placed {d} {used} {t = t} b =
     record { lower = λ j lo hi. early-at t 1 used (rw (b .slotted) at (slots-early (map rowOf (entriesOf d)))) j lo (omega arith) }
 
-pub settled-from : {d : List ℕ} {used : ℕ} {origin next head t bad full : List ℕ} → Built d used origin next head → Settling origin used 0 t bad full → Settled d used t bad full
-settled-from {d} {used} {origin} {t = t} b s =
+-- as many slots stand in a table as the description has
+slots-counted : (d t : List ℕ) (used : ℕ) → slotsFrom t 1 used ≡ settled 1 (slotsOf d) → used ≡ length (slotsOf d)
+slots-counted d t used e = omega (arith, length-settled 1 (slotsOf d), ap length e, length-slots t 1 used)
+
+pub settled-from : {d : List ℕ} {used : ℕ} {o origin next head t bad full : List ℕ} → Built d used o origin next head → Settling origin used 0 t bad full
+    → length (entriesOf d) ≤ 1008 → Settled d used t bad full
+settled-from {d} {used} {t = t} b s few =
     let z : used - 0 ≡ used = omega arith in
     let e = b .slotted in
+    let here : slotsFrom t 1 used ≡ settled 1 (slotsOf d) = rw (z, ← e) at (s .above) in
     record {
-      few = b .few;
-      exact = settled-exact (b .kept .exact) s;
-      slotted = rw (z, ← e) at (s .above);
-      bad-size = s .bad-size;
-      bads = λ v l. rw (z, ← e) at (s .bads v l);
-      full-size = s .full-size;
-      fulls = λ v l. rw (z, ← e) at (s .fulls v l);
-      apart = λ i j lo l hi. rw (s .keys i, s .keys j) (b .kept .apart i j lo l hi);
-      lower = λ j lo hi. rw (s .keys j) (built-placed b .lower j lo hi);
-      bounded = b .bounded;
+      tabled = record {
+        few = omega (arith, b .few, few);
+        room = rw (s .size) (b .kept .room);
+        counted = slots-counted d t used here;
+        slotted = here;
+        apart = λ i j lo l hi. rw (s .keys i, s .keys j) (b .kept .apart i j lo l hi);
+        lower = λ j lo hi. rw (s .keys j) (built-placed b .lower j lo hi);
+        bounded = b .bounded;
+      };
+      bads = λ v. rw (z, ← e) at (s .bads v);
+      fulls = λ v. rw (z, ← e) at (s .fulls v);
     }
-
--- as many slots stand in the table as the description has
-pub slots-counted : {d : List ℕ} {used : ℕ} {t bad full : List ℕ} → Settled d used t bad full → used ≡ length (slotsOf d)
-slots-counted {d} {used} {t} s = omega (arith, length-settled 1 (slotsOf d), ap length (s .slotted), length-slots t 1 used)

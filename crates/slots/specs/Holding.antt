@@ -1,7 +1,8 @@
 -- Which entries of a second description a normal form holds: the answer.
 -- Assumes nothing.
 use Prim.Native.Nat.{ℕ}
-use lib.Dec.{eqb}
+use lib.Dec.{eqb, ltb}
+use lib.ListN.{length}
 use mathlib.Core.Bool.{Bool, cond, false, true}
 use mathlib.Core.List.{List}
 use mathlib.Core.Option.{Option, none, some}
@@ -12,6 +13,7 @@ use Rattle.logic.specs.Background.{unrestricted}
 use Rattle.logic.specs.Normal.{nf}
 use Rattle.meaning.specs.Description.{placeOf}
 use Rattle.meaning.specs.First.{firstFailing}
+use Rattle.slots.specs.code.Tables.{slotsOf}
 use Rattle.slots.specs.declared.Holding.{Holding}
 use Rattle.slots.specs.declared.Holding.the-variants.{All, Fails, Refused}
 
@@ -19,13 +21,19 @@ use Rattle.slots.specs.declared.Holding.the-variants.{All, Fails, Refuse
 unfoldable pub failingIn : List ℕ → List ℕ → ℕ
 failingIn c d = firstFailing unrestricted (nf unrestricted (placeOf (entriesOf c) 0)) (entriesOf d)
 
--- the answer where both are accepted, by that number
-abbrev pub holdingBy : ℕ → Holding
-holdingBy n = cond (eqb n 0) All (Fails n)
+-- the answer where both are accepted, by the number of slots and that number
+abbrev pub holdingBy : ℕ → ℕ → Holding
+holdingBy used n = cond (eqb n 0) All (Fails n used)
 
--- "input 1 in full, input 2 in full"
-unfoldable pub holdingOf : List ℕ → List ℕ → Holding
-holdingOf c d = unlessRefused Refused (readingOf Description 1 c) (unlessRefused Refused (readingOf Description 2 d) (holdingBy (failingIn c d)))
+-- A lent table has a number for each entry, after number 0. Where it has not, the answer is 7, "0 for number 7", and nothing is written.
+abbrev pub whereRoom : {A : Type 0} → ℕ → List ℕ → A → A → A
+whereRoom room d short a = cond (ltb (length (entriesOf d)) room) a short
+
+-- "input 1 in full, input 2 in full, then 7", with so many numbers in the lent table
+unfoldable pub holdingOf : ℕ → List ℕ → List ℕ → Holding
+holdingOf room c d =
+    unlessRefused Refused (readingOf Description 1 c) (unlessRefused Refused (readingOf Description 2 d)
+    (whereRoom room c (Refused 7 0 0) (holdingBy (length (slotsOf c)) (failingIn c d))))
 
 -- The paper's numbers for each case: whether all hold, and neither where an input is refused; the number of the first that fails; the
 -- number returned, the input and the place. 0 where a case has none.
@@ -38,5 +46,5 @@ pub record HoldingReturned : Type 0 where
 
 abbrev pub holdingReturned : Holding → HoldingReturned
 holdingReturned All = record { all = some true; entry = 0; number = 0; input = 0; place = 0 }
-holdingReturned (Fails n) = record { all = some false; entry = n; number = 0; input = 0; place = 0 }
+holdingReturned (Fails n used) = record { all = some false; entry = n; number = 0; input = 0; place = 0 }
 holdingReturned (Refused k i p) = record { all = none; entry = 0; number = k; input = i; place = p }

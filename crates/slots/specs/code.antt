@@ -4,5 +4,7 @@
 pub mod Tables
 -- Which entries hold, by the slots of a normal form.
 pub mod States
--- What filling tables with the slots of an input answers.
+-- What stands in the lent tables after each answer.
 pub mod Standing
+-- The places of the slots that stand in a table: what the comparison builds on.
+pub mod TablePlaces

@@ -1,43 +1,51 @@
 // The first pass: the entries of a description, first to last, entered into their slots. An 'every' entry leads to the place below its
 // slot, so that entries of one owner and link merge.
 ghost use mathlib.Core.Path.{_≡_};
-ghost use Prim.Native.Nat.{_≤_, _<_, max};
-ghost use lib.ListN.{length, replicate};
+ghost use mathlib.Core.List.{List};
+ghost use Prim.Native.Nat.{_+_, _≤_, _<_, max, ℕ};
+ghost use lib.ListN.{length};
 ghost use Rattle.blocks.specs.Entries.{entriesOf};
-ghost use Rattle.slots.specs.code.Tables.{lowKind, highKind, noBound, Built};
+ghost use Rattle.blocks.specs.code.Blockwise.{InBlock};
 ghost use Rattle.meaning.specs.Owned.{Owned};
-use crate::slots::NO_BOUND;
+ghost use Rattle.slots.specs.code.Tables.{Building, Built, Exact, Readable, Workspace, boundsBase, boundsTimes, highKind, highPart, lowKind, lowPart, noBound};
+use crate::entries::entry_from;
 use crate::slots::enter;
 use crate::slots::entry_key;
 use base::long;
 use base::wide;
+use blocks::next_count;
 
-// At least so many, by an entry of this kind and number.
-fn low_kind(kind: u8, number: u16) -> u64
-    ensures { λ r. ⌜ (r ≡ lowKind kind number) × (r < 65536) ⌝ }
+// What an entry's number counts for in its bounds, by its kind. Constants only, here and below, which compile to a table: entries come in
+// any order of kinds, and a jump by kind would be guessed wrong.
+fn bounds_times(kind: u8) -> u64
+    ensures { λ r. ⌜ (r ≡ boundsTimes kind) × (r ≤ 131072) ⌝ }
 {
     match kind {
-        1 => 1,
-        2 => 0,
-        3 => number as u64,
-        4 => 0,
-        5 => 0,
-        _ => 1,
+        3 => 131072,
+        4 => 1,
+        _ => 0,
     }
 }
 
-// At most so many; NO_BOUND where there is no such bound.
-fn high_kind(kind: u8, number: u16) -> u64
-    ensures { λ r. ⌜ (r ≡ highKind kind number) × (r ≤ noBound) ⌝ }
+// What stands in the bounds of an entry of this kind beside its number.
+fn bounds_base(kind: u8) -> u64
+    ensures { λ r. ⌜ (r ≡ boundsBase kind) × (r ≤ 196608) ⌝ }
 {
     match kind {
-        1 => NO_BOUND,
+        1 => 196608,
         2 => 0,
-        3 => NO_BOUND,
-        4 => number as u64,
-        5 => NO_BOUND,
-        _ => 0,
+        3 => 65536,
+        4 => 0,
+        5 => 65536,
+        _ => 131072,
     }
+}
+
+// Both bounds of an entry of this kind and number, as they stand in a slot.
+fn entry_bounds(kind: u8, number: u16) -> u64
+    ensures { λ r. ⌜ (lowPart r ≡ lowKind kind number) × (highPart r ≡ highKind kind number) × (highPart r ≤ noBound) × (r < 17179869184) ⌝ }
+{
+    bounds_times(kind) * long(number) + bounds_base(kind)
 }
 
 fn larger(a: usize, b: usize) -> usize
@@ -46,22 +54,28 @@ fn larger(a: usize, b: usize) -> usize
     if a < b { b } else { a }
 }
 
-// Builds the slots of a description with `total` entries, and returns their number.
-pub(crate) fn build(
+// Enters `count` entries of a description, those after the first `done`, whose bytes start at `from`, into the slots, of which there
+// were `had`; returns how many there are then. What the table and the chains' numbers held does not count: a slot is written before it is
+// read.
+fn build_block(
     d: &[u8],
-    total: usize,
-    table: &mut [u64; 1009],
-    next: &mut [u16; 1009],
-    head: &mut [u16; 1021],
-    node: &mut [u16; 1009],
+    from: usize,
+    count: usize,
+    done: usize,
+    had: usize,
+    table: &mut [u64],
+    next: &mut [u16],
+    head: &mut [u16],
+    node: &mut [u16],
 ) -> usize
-    requires { ⌜ (total ≡ length (entriesOf (now d))) × (total ≤ 1008) × Owned (entriesOf (now d)) × (now table ≡ replicate 1009 0) × (now next ≡ replicate 1009 0) × (now head ≡ replicate 1021 0) × (now node ≡ replicate 1009 0) ⌝ }
-    ensures { λ r. ⌜ Built (now (d .entry)) r (now (table .exit)) (now (next .exit)) (now (head .exit)) ⌝ }
+    requires { ⌜ Owned (entriesOf (now d)) × (length (entriesOf (now d)) ≤ 1008) × InBlock (now d) from count done × Building (now d) done had (now table) (now next) (now head) (now node) ⌝ }
+    ensures { λ r. ⌜ Building (now (d .entry)) (done + count) r (now (table .exit)) (now (next .exit)) (now (head .exit)) (now (node .exit))
+        × ((origin : List ℕ) → Exact origin (now (table .entry)) had → Exact origin (now (table .exit)) r) ⌝ }
 {
-    let mut used: usize = 0;
-    let mut n: usize = 1;
-    while n <= total {
-        let e = blocks::nth_entry(d, total, n);
+    let mut used = had;
+    let mut i: usize = 0;
+    while i < count {
+        let e = entry_from(d, from + 8 * i);
         let place = long(node[wide(e.owner)]);
         let s = enter(
             table,
@@ -69,12 +83,35 @@ pub(crate) fn build(
             head,
             used,
             entry_key(place, e),
-            low_kind(e.kind, e.number),
-            high_kind(e.kind, e.number),
+            entry_bounds(e.kind, e.number),
         );
-        node[n] = s as u16;
+        i += 1;
+        node[done + i] = s as u16;
         used = larger(used, s);
-        n += 1;
+    }
+    used
+}
+
+// Builds the slots of a description with `total` entries, block by block, and returns their number.
+pub(crate) fn build(
+    d: &[u8],
+    total: usize,
+    table: &mut [u64],
+    next: &mut [u16],
+    head: &mut [u16],
+    node: &mut [u16],
+) -> usize
+    requires { ⌜ Readable (now d) total × (total < length (now table)) × Workspace total (now next) (now head) (now node) ⌝ }
+    ensures { λ r. ⌜ Built (now (d .entry)) r (now (table .entry)) (now (table .exit)) (now (next .exit)) (now (head .exit)) ⌝ }
+{
+    let mut used: usize = 0;
+    let mut n: usize = 0;
+    let mut at: usize = 4;
+    while n < total {
+        let count = next_count(total - n);
+        used = build_block(d, at, count, n, used, table, next, head, node);
+        n += count;
+        at += 512;
     }
     used
 }

@@ -1,64 +1,148 @@
-// The first entry of a second description that the normal form of a first does not hold.
+// The first entry of a second description that the normal form of a first does not hold, in a table of slots that the caller lends.
 ghost use mathlib.Core.Path.{_≡_};
-ghost use Prim.Native.Nat.{_≤_};
+ghost use Prim.Native.Nat.{_<_, _≤_};
+ghost use lib.ListN.{length};
 ghost use Rattle.blocks.specs.Reading.{readingOf};
 ghost use Rattle.blocks.specs.declared.Reading.{Reading};
 ghost use Rattle.blocks.specs.declared.Schema.{Schema};
-ghost use Rattle.slots.specs.Holding.{holdingBy, holdingOf, failingIn};
+ghost use Rattle.slots.specs.Holding.{holdingBy, holdingOf};
+ghost use Rattle.slots.specs.code.Standing.{JudgedBy, Judges, tableJudged};
+ghost use Rattle.slots.specs.code.Tables.{Blank, Workspace};
 use crate::Holding;
 use crate::filling::chained_slots;
 use crate::states::first_failing_entry;
 use blocks::Reading;
 use blocks::Schema;
 
-// The number of that entry, where both are accepted, with n and m entries; 0 where all hold.
-fn failing_number(c: &[u8], n: usize, d: &[u8], m: usize) -> usize
-    requires { ⌜ (readingOf Schema.Description 1 (now c) ≡ Reading.Accepted n) × (readingOf Schema.Description 2 (now d) ≡ Reading.Accepted m) ⌝ }
-    ensures { λ r. ⌜ (r ≡ failingIn (now (c .entry)) (now (d .entry))) × (r ≤ 1008) ⌝ }
-{
-    let mut table = [0u64; 1009];
-    let mut next = [0u16; 1009];
-    let mut head = [0u16; 1021];
-    let mut bad = [0u8; 1009];
-    let mut full = [0u8; 1009];
-    let used = chained_slots(c, n, &mut table, &mut next, &mut head, &mut bad, &mut full);
-    if bad[0] != 0 {
-        return 0;
-    }
-    first_failing_entry(&table, &next, &head, used, d, m)
-}
-
-// The answer of that number.
-fn answer_of(n: usize) -> Holding
-    requires { ⌜ n ≤ 1008 ⌝ }
-    ensures { λ r. ⌜ r ≡ holdingBy n ⌝ }
+// The answer of an entry's number and the number of slots.
+fn answer_of(n: usize, used: usize) -> Holding
+    requires { ⌜ (n ≤ 1008) × (used ≤ 1008) ⌝ }
+    ensures { λ r. ⌜ r ≡ holdingBy used n ⌝ }
 {
     if n == 0 {
         return Holding::All;
     }
-    Holding::Fails(n as u16)
+    Holding::Fails(n as u16, used as u16)
+}
+
+// Slots and settles the first description and judges the second by its slots, where both are accepted, with n and m entries, and all
+// tables are long enough.
+fn judge(
+    c: &[u8],
+    n: usize,
+    d: &[u8],
+    m: usize,
+    table: &mut [u64],
+    next: &mut [u16],
+    head: &mut [u16],
+    node: &mut [u16],
+    bad: &mut [u8],
+    full: &mut [u8],
+    states: &mut [u16],
+) -> Holding
+    requires { ⌜ (readingOf Schema.Description 1 (now c) ≡ Reading.Accepted n) × (readingOf Schema.Description 2 (now d) ≡ Reading.Accepted m) × (n < length (now table))
+        × Workspace n (now next) (now head) (now node) × Blank n (now bad) × Blank n (now full) × (m < length (now states)) ⌝ }
+    ensures { λ r. ⌜ Judges (now (c .entry)) (now (d .entry)) (now (table .entry)) r (now (table .exit)) ⌝ }
+{
+    let used = chained_slots(c, n, table, next, head, node, bad, full);
+    if bad[0] != 0 {
+        return Holding::All;
+    }
+    let e = first_failing_entry(table, next, head, used, d, m, states);
+    answer_of(e, used)
+}
+
+// The same with tables of its own for all but the slots, where both have at most 63 entries.
+fn judge_few(c: &[u8], n: usize, d: &[u8], m: usize, table: &mut [u64]) -> Holding
+    requires { ⌜ (readingOf Schema.Description 1 (now c) ≡ Reading.Accepted n) × (readingOf Schema.Description 2 (now d) ≡ Reading.Accepted m) × (n < length (now table)) × (n < 64) × (m < 64) ⌝ }
+    ensures { λ r. ⌜ Judges (now (c .entry)) (now (d .entry)) (now (table .entry)) r (now (table .exit)) ⌝ }
+{
+    let mut next = [0u16; 64];
+    let mut head = [0u16; 61];
+    let mut node = [0u16; 64];
+    let mut bad = [0u8; 64];
+    let mut full = [0u8; 64];
+    let mut states = [0u16; 64];
+    judge(
+        c,
+        n,
+        d,
+        m,
+        table,
+        &mut next,
+        &mut head,
+        &mut node,
+        &mut bad,
+        &mut full,
+        &mut states,
+    )
+}
+
+// The same for any two.
+fn judge_many(c: &[u8], n: usize, d: &[u8], m: usize, table: &mut [u64]) -> Holding
+    requires { ⌜ (readingOf Schema.Description 1 (now c) ≡ Reading.Accepted n) × (readingOf Schema.Description 2 (now d) ≡ Reading.Accepted m) × (n < length (now table)) ⌝ }
+    ensures { λ r. ⌜ Judges (now (c .entry)) (now (d .entry)) (now (table .entry)) r (now (table .exit)) ⌝ }
+{
+    let mut next = [0u16; 1009];
+    let mut head = [0u16; 1021];
+    let mut node = [0u16; 1009];
+    let mut bad = [0u8; 1009];
+    let mut full = [0u8; 1009];
+    let mut states = [0u16; 1009];
+    judge(
+        c,
+        n,
+        d,
+        m,
+        table,
+        &mut next,
+        &mut head,
+        &mut node,
+        &mut bad,
+        &mut full,
+        &mut states,
+    )
+}
+
+// The answer for two accepted descriptions: 7 where the table is too short for the first. Few entries take small tables, which are sooner
+// cleared.
+fn judge_read(c: &[u8], n: usize, d: &[u8], m: usize, table: &mut [u64]) -> Holding
+    requires { ⌜ (readingOf Schema.Description 1 (now c) ≡ Reading.Accepted n) × (readingOf Schema.Description 2 (now d) ≡ Reading.Accepted m) ⌝ }
+    ensures { λ r. ⌜ Judges (now (c .entry)) (now (d .entry)) (now (table .entry)) r (now (table .exit)) ⌝ }
+{
+    if table.len() <= n {
+        return Holding::Refused(7, 0, 0);
+    }
+    if n < 64 && m < 64 {
+        return judge_few(c, n, d, m, table);
+    }
+    judge_many(c, n, d, m, table)
 }
 
 // Reads the second description, where the first is accepted, with n entries.
-fn second_failing(c: &[u8], n: usize, d: &[u8]) -> Holding
+fn second_failing(c: &[u8], n: usize, d: &[u8], table: &mut [u64]) -> Holding
     requires { ⌜ readingOf Schema.Description 1 (now c) ≡ Reading.Accepted n ⌝ }
-    ensures { λ r. ⌜ r ≡ holdingOf (now (c .entry)) (now (d .entry)) ⌝ }
+    ensures { λ r. ⌜ Judges (now (c .entry)) (now (d .entry)) (now (table .entry)) r (now (table .exit)) ⌝ }
 {
     let reading = reading::read(d, Schema::Description, 2);
     match reading {
         Reading::Refused(number, input, place) => Holding::Refused(number, input, place),
-        Reading::Accepted(m) => answer_of(failing_number(c, n, d, m as usize)),
+        Reading::Accepted(m) => judge_read(c, n, d, m as usize, table),
     }
 }
 
-// Looks for the first entry of the second description that the normal form of the first does not hold, and returns its number; or that all
-// hold; or the refusal, of input 1 or 2. Nothing is sorted and nothing is written.
-pub fn first_failing(c: &[u8], d: &[u8]) -> Holding
-    ensures { λ r. ⌜ r ≡ holdingOf (now (c .entry)) (now (d .entry)) ⌝ }
+// Looks for the first entry of the second description that the normal form of the first does not hold, and returns its number, with the
+// number of slots that then stand in the table, settled, from number 1 on; or that all hold; or the refusal, of input 1 or 2, or 7 where
+// the table has no number for each entry of the first after number 0. Where an input is refused or it is 7, the table stays. Nothing is
+// sorted.
+pub fn first_failing(c: &[u8], d: &[u8], table: &mut [u64]) -> Holding
+    ensures { λ r. ⌜ (r ≡ holdingOf (length (now (table .entry))) (now (c .entry)) (now (d .entry)))
+        × (now (table .exit) ≡ tableJudged (now (c .entry)) (now (d .entry)) (now (table .entry)))
+        × JudgedBy (now (c .entry)) (now (d .entry)) (now (table .exit)) r ⌝ }
 {
     let reading = reading::read(c, Schema::Description, 1);
     match reading {
         Reading::Refused(number, input, place) => Holding::Refused(number, input, place),
-        Reading::Accepted(n) => second_failing(c, n as usize, d),
+        Reading::Accepted(n) => second_failing(c, n as usize, d, table),
     }
 }

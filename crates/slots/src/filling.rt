@@ -1,12 +1,10 @@
 // The slots of a description, built and settled, in tables that the caller lends.
 ghost use mathlib.Core.Path.{_≡_};
-ghost use Prim.Native.Nat.{_≤_};
-ghost use lib.ListN.{length, replicate};
-ghost use Rattle.blocks.specs.Entries.{entriesOf};
+ghost use Prim.Native.Nat.{_<_, min, ℕ};
+ghost use lib.ListN.{getD, length};
 ghost use Rattle.blocks.specs.Reading.{readingOf};
-ghost use Rattle.meaning.specs.Owned.{Owned};
-ghost use Rattle.slots.specs.code.Tables.{Chained, Settled};
-ghost use Rattle.slots.specs.code.Standing.{FilledBy, badAfter, fullAfter, slottingOf, tableAfter};
+ghost use Rattle.slots.specs.code.Tables.{Blank, Chained, Exact, Readable, Settled, Workspace};
+ghost use Rattle.slots.specs.code.Standing.{FilledBy, Fills, badAfter, fullAfter, roomIn, slottingOf, tableAfter};
 use crate::Slotting;
 use crate::build::build;
 use crate::settle::settle;
@@ -17,70 +15,108 @@ use blocks::Schema;
 pub(crate) fn chained_slots(
     d: &[u8],
     total: usize,
-    table: &mut [u64; 1009],
-    next: &mut [u16; 1009],
-    head: &mut [u16; 1021],
-    bad: &mut [u8; 1009],
-    full: &mut [u8; 1009],
+    table: &mut [u64],
+    next: &mut [u16],
+    head: &mut [u16],
+    node: &mut [u16],
+    bad: &mut [u8],
+    full: &mut [u8],
 ) -> usize
-    requires { ⌜ (total ≡ length (entriesOf (now d))) × (total ≤ 1008) × Owned (entriesOf (now d)) × (now table ≡ replicate 1009 0) × (now next ≡ replicate 1009 0) × (now head ≡ replicate 1021 0) × (now bad ≡ replicate 1009 0) × (now full ≡ replicate 1009 0) ⌝ }
-    ensures { λ r. ⌜ Chained (now (d .entry)) r (now (table .exit)) (now (next .exit)) (now (head .exit)) (now (bad .exit)) (now (full .exit)) ⌝ }
+    requires { ⌜ Readable (now d) total × (total < length (now table)) × Workspace total (now next) (now head) (now node) × Blank total (now bad) × Blank total (now full) ⌝ }
+    ensures { λ r. ⌜ Chained (now (d .entry)) r (now (table .entry)) (now (table .exit)) (now (next .exit)) (now (head .exit)) (now (bad .exit)) (now (full .exit)) ⌝ }
 {
-    let mut node = [0u16; 1009];
-    let used = build(d, total, table, next, head, &mut node);
+    let used = build(d, total, table, next, head, node);
     settle(table, bad, full, used);
     used
 }
 
-// The slots of a description with `total` entries, settled; returns their number.
-fn settled_slots(
-    d: &[u8],
-    total: usize,
-    table: &mut [u64; 1009],
-    bad: &mut [u8; 1009],
-    full: &mut [u8; 1009],
-) -> usize
-    requires { ⌜ (total ≡ length (entriesOf (now d))) × (total ≤ 1008) × Owned (entriesOf (now d)) × (now table ≡ replicate 1009 0) × (now bad ≡ replicate 1009 0) × (now full ≡ replicate 1009 0) ⌝ }
-    ensures { λ r. ⌜ Settled (now (d .entry)) r (now (table .exit)) (now (bad .exit)) (now (full .exit)) ⌝ }
+// The slots of a description of at most 63 entries, settled, with tables of their own for what only the passes need.
+fn few_slots(d: &[u8], total: usize, table: &mut [u64], bad: &mut [u8], full: &mut [u8]) -> usize
+    requires { ⌜ Readable (now d) total × (total < 64) × (total < length (now table)) × Blank total (now bad) × Blank total (now full) ⌝ }
+    ensures { λ r. ⌜ Settled (now (d .entry)) r (now (table .exit)) (now (bad .exit)) (now (full .exit)) × Exact (now (table .entry)) (now (table .exit)) r ⌝ }
+{
+    let mut next = [0u16; 64];
+    let mut head = [0u16; 61];
+    let mut node = [0u16; 64];
+    chained_slots(d, total, table, &mut next, &mut head, &mut node, bad, full)
+}
+
+// The slots of any description, in the same way.
+fn many_slots(d: &[u8], total: usize, table: &mut [u64], bad: &mut [u8], full: &mut [u8]) -> usize
+    requires { ⌜ Readable (now d) total × (total < length (now table)) × Blank total (now bad) × Blank total (now full) ⌝ }
+    ensures { λ r. ⌜ Settled (now (d .entry)) r (now (table .exit)) (now (bad .exit)) (now (full .exit)) × Exact (now (table .entry)) (now (table .exit)) r ⌝ }
 {
     let mut next = [0u16; 1009];
     let mut head = [0u16; 1021];
-    chained_slots(d, total, table, &mut next, &mut head, bad, full)
+    let mut node = [0u16; 1009];
+    chained_slots(d, total, table, &mut next, &mut head, &mut node, bad, full)
 }
 
-// Fills the tables with the slots of an accepted description with `total` entries, whatever they held; returns their number.
+// The slots of a description with `total` entries, settled; returns their number. Few entries take small tables, which are sooner cleared.
+fn settled_slots(
+    d: &[u8],
+    total: usize,
+    table: &mut [u64],
+    bad: &mut [u8],
+    full: &mut [u8],
+) -> usize
+    requires { ⌜ Readable (now d) total × (total < length (now table)) × Blank total (now bad) × Blank total (now full) ⌝ }
+    ensures { λ r. ⌜ Settled (now (d .entry)) r (now (table .exit)) (now (bad .exit)) (now (full .exit)) × Exact (now (table .entry)) (now (table .exit)) r ⌝ }
+{
+    if total < 64 {
+        return few_slots(d, total, table, bad, full);
+    }
+    many_slots(d, total, table, bad, full)
+}
+
+// Clears a table of marks.
+fn clear(marks: &mut [u8])
+    ensures { λ _. ⌜ ((j : ℕ) → getD (now (marks .exit)) j 0 ≡ 0) ⌝ }
+{
+    let mut i: usize = 0;
+    while i < marks.len() {
+        marks[i] = 0;
+        i += 1;
+    }
+}
+
+fn smaller(a: usize, b: usize) -> usize
+    ensures { λ r. ⌜ r ≡ min a b ⌝ }
+{
+    if a < b { a } else { b }
+}
+
+// Fills the tables with the slots of an accepted description with `total` entries; or 7 where one of them is too short for it.
 fn fill_accepted(
     d: &[u8],
     total: usize,
-    table: &mut [u64; 1009],
-    bad: &mut [u8; 1009],
-    full: &mut [u8; 1009],
-) -> usize
+    table: &mut [u64],
+    bad: &mut [u8],
+    full: &mut [u8],
+) -> Slotting
     requires { ⌜ readingOf Schema.Description 1 (now d) ≡ Reading.Accepted total ⌝ }
-    ensures { λ r. ⌜ Settled (now (d .entry)) r (now (table .exit)) (now (bad .exit)) (now (full .exit)) ⌝ }
+    ensures { λ r. ⌜ Fills (now (d .entry)) (now (table .entry)) (now (bad .entry)) (now (full .entry)) r (now (table .exit)) (now (bad .exit)) (now (full .exit)) ⌝ }
 {
-    *table = [0u64; 1009];
-    *bad = [0u8; 1009];
-    *full = [0u8; 1009];
-    settled_slots(d, total, table, bad, full)
+    if smaller(table.len(), smaller(bad.len(), full.len())) <= total {
+        return Slotting::Refused(7, 0, 0);
+    }
+    clear(bad);
+    clear(full);
+    Slotting::Filled(settled_slots(d, total, table, bad, full) as u16)
 }
 
-// Reads a description and fills the tables with its slots, whatever they held; or returns the refusal, and the tables stay.
-pub fn fill(
-    d: &[u8],
-    table: &mut [u64; 1009],
-    bad: &mut [u8; 1009],
-    full: &mut [u8; 1009],
-) -> Slotting
-    ensures { λ r. ⌜ (r ≡ slottingOf (now (d .entry))) × (now (table .exit) ≡ tableAfter (now (d .entry)) (now (table .entry)))
-        × (now (bad .exit) ≡ badAfter (now (d .entry)) (now (bad .entry))) × (now (full .exit) ≡ fullAfter (now (d .entry)) (now (full .entry)))
-        × FilledBy (now (d .entry)) (now (table .exit)) (now (bad .exit)) (now (full .exit)) r ⌝ }
+// Reads a description and fills the tables: with its slots, from number 1 on, and with marks, whatever they held. Returns the number of
+// slots; or the refusal, which is 7 where a table has no number for each entry after number 0, and then the tables stay.
+pub fn fill(d: &[u8], table: &mut [u64], bad: &mut [u8], full: &mut [u8]) -> Slotting
+    ensures { λ r. ⌜ (r ≡ slottingOf (roomIn (now (table .entry)) (now (bad .entry)) (now (full .entry))) (now (d .entry)))
+        × (now (table .exit) ≡ tableAfter (roomIn (now (table .entry)) (now (bad .entry)) (now (full .entry))) (now (d .entry)) (now (table .entry)))
+        × (now (bad .exit) ≡ badAfter (roomIn (now (table .entry)) (now (bad .entry)) (now (full .entry))) (now (d .entry)) (now (bad .entry)))
+        × (now (full .exit) ≡ fullAfter (roomIn (now (table .entry)) (now (bad .entry)) (now (full .entry))) (now (d .entry)) (now (full .entry)))
+        × FilledBy (roomIn (now (table .entry)) (now (bad .entry)) (now (full .entry))) (now (d .entry)) (now (table .exit)) (now (bad .exit)) (now (full .exit)) r ⌝ }
 {
     let reading = reading::read(d, Schema::Description, 1);
     match reading {
         Reading::Refused(number, input, place) => Slotting::Refused(number, input, place),
-        Reading::Accepted(n) => Slotting::Filled(
-            fill_accepted(d, n as usize, table, bad, full) as u16,
-        ),
+        Reading::Accepted(n) => fill_accepted(d, n as usize, table, bad, full),
     }
 }

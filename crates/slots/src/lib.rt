@@ -2,8 +2,12 @@
 // entries, in the order in which they stand, and settled from the last to the first, so that what is below a place is known before the
 // place. A second call asks which entries of another description they hold; it orders nothing.
 //
+// The slots stand in a table that the caller lends, who can go on from them. All other tables are slices too, made in two sizes: small ones
+// serve for at most 63 entries, which is a block, so that a short call clears no large ones.
+//
 // The contracts cite specs/: Holding says what is answered; the others mirror the code. What slots are, on lists, is said in `passes`.
 mod build;
+mod entries;
 mod failing;
 mod filling;
 mod settle;
@@ -22,10 +26,10 @@ pub enum Slotting {
     Refused(u8, u16, u16),
 }
 
-// Which entries of a second description the normal form of a first holds: all; all before this one; or the refusal's number, the input
-// and the place.
+// Which entries of a second description the normal form of a first holds: all; all before this one, with the number of slots that stand in
+// the table; or the refusal's number, the input and the place.
 pub enum Holding {
     All,
-    Fails(u16),
+    Fails(u16, u16),
     Refused(u8, u16, u16),
 }

@@ -4,10 +4,10 @@ ghost use mathlib.Core.Path.{_≡_};
 ghost use mathlib.Core.Bool.{not, cond, _&&_, _||_};
 ghost use Prim.Native.Nat.{_/_, _%_, _≤_, _<_};
 ghost use lib.Dec.{eqb};
-ghost use lib.ListN.{length, getD, set, replicate};
+ghost use lib.ListN.{length, getD, set};
 ghost use Rattle.logic.specs.Normal.{found};
 ghost use Rattle.passes.specs.code.Slots.{broken};
-ghost use Rattle.slots.specs.code.Tables.{keyIn, highIn, Placed, Settling, Slotted};
+ghost use Rattle.slots.specs.code.Tables.{keyIn, highIn, Blank, Placed, Settling, Slotted};
 use crate::slots::NO_BOUND;
 use crate::slots::high_in;
 use crate::slots::key_in;
@@ -70,8 +70,8 @@ fn asks(link: bool, lo: u64, hi: u64, full: u8) -> bool
 }
 
 // Marks place v where the test holds.
-fn mark(marks: &mut [u8; 1009], v: usize, test: bool)
-    requires { ⌜ v < 1009 ⌝ }
+fn mark(marks: &mut [u8], v: usize, test: bool)
+    requires { ⌜ v < length (now marks) ⌝ }
     ensures { λ _. ⌜ now (marks .exit) ≡ cond test (set (now (marks .entry)) v 1) (now (marks .entry)) ⌝ }
 {
     if test {
@@ -80,8 +80,8 @@ fn mark(marks: &mut [u8; 1009], v: usize, test: bool)
 }
 
 // Settles slot s, where the slots above it are settled.
-fn settle_slot(table: &mut [u64; 1009], bad: &mut [u8; 1009], full: &mut [u8; 1009], s: usize)
-    requires { ⌜ (s < 1009) × (keyIn (getD (now table) s 0) / 131072 < s) ⌝ }
+fn settle_slot(table: &mut [u64], bad: &mut [u8], full: &mut [u8], s: usize)
+    requires { ⌜ (s < length (now table)) × (s < length (now bad)) × (s < length (now full)) × (keyIn (getD (now table) s 0) / 131072 < s) ⌝ }
     ensures { λ _. ⌜ Slotted (now (table .entry)) (now (bad .entry)) (now (full .entry)) s (now (table .exit)) (now (bad .exit)) (now (full .exit)) ⌝ }
 {
     let x = table[s];
@@ -97,13 +97,8 @@ fn settle_slot(table: &mut [u64; 1009], bad: &mut [u8; 1009], full: &mut [u8; 10
 }
 
 // Settles all slots.
-pub(crate) fn settle(
-    table: &mut [u64; 1009],
-    bad: &mut [u8; 1009],
-    full: &mut [u8; 1009],
-    used: usize,
-)
-    requires { ⌜ (used ≤ 1008) × (length (now table) ≡ 1009) × Placed (now table) used × (now bad ≡ replicate 1009 0) × (now full ≡ replicate 1009 0) ⌝ }
+pub(crate) fn settle(table: &mut [u64], bad: &mut [u8], full: &mut [u8], used: usize)
+    requires { ⌜ (used < length (now table)) × Placed (now table) used × Blank used (now bad) × Blank used (now full) ⌝ }
     ensures { λ _. ⌜ Settling (now (table .entry)) used 0 (now (table .exit)) (now (bad .exit)) (now (full .exit)) ⌝ }
 {
     let mut s = used;

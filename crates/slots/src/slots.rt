@@ -3,7 +3,7 @@
 ghost use mathlib.Core.Path.{_≡_};
 ghost use mathlib.Core.Bool.{Bool, false, true};
 ghost use Prim.Native.Nat.{_+_, _*_, _≤_, _<_, min, max, ℕ};
-ghost use lib.ListN.{getD, set};
+ghost use lib.ListN.{getD, length, set};
 ghost use Rattle.base.specs.Chain.{lastWhere};
 ghost use Rattle.passes.specs.code.Keys.{keyNumber};
 ghost use Rattle.slots.specs.code.Tables.{keyIn, lowPart, highPart, slotNumber, hashOf, Kept, Entered, linkKind, noBound};
@@ -19,7 +19,7 @@ pub(crate) const NO_BOUND: u64 = 65536;
 
 // The key of a slot.
 pub fn key_in(x: u64) -> u64
-    ensures { λ r. ⌜ r ≡ keyIn x ⌝ }
+    ensures { λ r. ⌜ (r ≡ keyIn x) × (r < 1073741824) ⌝ }
 {
     x / 17179869184
 }
@@ -52,28 +52,27 @@ fn smaller(a: u64, b: u64) -> u64
     if a < b { a } else { b }
 }
 
-// The bucket of a key.
-fn bucket(key: u64) -> usize
-    ensures { λ r. ⌜ (r ≡ hashOf key) × (r < 1021) ⌝ }
+// The bucket of a key, of so many. Tables come in two sizes; each divides by a prime that is a constant, which is sooner done than by a
+// number that is known only when the program runs.
+fn bucket(buckets: usize, key: u64) -> usize
+    requires { ⌜ 61 ≤ buckets ⌝ }
+    ensures { λ r. ⌜ (r ≡ hashOf buckets key) × (r < buckets) ⌝ }
 {
+    if buckets < 1021 {
+        return (key % 61) as usize;
+    }
     (key % 1021) as usize
 }
 
 // The slot of a key, or 0. A chain that holds all 1,008 slots costs some microseconds a look, which only keys chosen for it reach.
-pub(crate) fn search(
-    table: &[u64; 1009],
-    next: &[u16; 1009],
-    head: &[u16; 1021],
-    used: usize,
-    key: u64,
-) -> usize
-    requires { ⌜ Kept (now table) (now next) (now head) used × (used ≤ 1008) ⌝ }
+pub(crate) fn search(table: &[u64], next: &[u16], head: &[u16], used: usize, key: u64) -> usize
+    requires { ⌜ Kept (now table) (now next) (now head) used ⌝ }
     ensures { λ r. ⌜ r ≡ lastWhere (λ j. keyIn (getD (now (table .entry)) j 0)) key used ⌝ }
 {
     if used == 0 {
         return 0;
     }
-    let b = bucket(key);
+    let b = bucket(head.len(), key);
     let mut s = wide(head[b]);
     loop {
         if s == 0 {
@@ -86,33 +85,27 @@ pub(crate) fn search(
     }
 }
 
-// Tightens the bounds of slot s.
-fn tighten(table: &mut [u64; 1009], s: usize, lo: u64, hi: u64)
-    requires { ⌜ (s < 1009) × (lo < 131072) × (hi < 131072) × (keyIn (getD (now table) s 0) < 1073741824) ⌝ }
-    ensures { λ _. ⌜ now (table .exit) ≡ set (now (table .entry)) s (slotNumber (keyIn (getD (now (table .entry)) s 0)) (max (lowPart (getD (now (table .entry)) s 0)) lo) (min (highPart (getD (now (table .entry)) s 0)) hi)) ⌝ }
+// Tightens the bounds of slot s by those of an entry.
+fn tighten(table: &mut [u64], s: usize, bounds: u64)
+    requires { ⌜ s < length (now table) ⌝ }
+    ensures { λ _. ⌜ now (table .exit) ≡ set (now (table .entry)) s (slotNumber (keyIn (getD (now (table .entry)) s 0)) (max (lowPart (getD (now (table .entry)) s 0)) (lowPart bounds)) (min (highPart (getD (now (table .entry)) s 0)) (highPart bounds))) ⌝ }
 {
     let x = table[s];
+    let lo = low_in(bounds);
+    let hi = high_in(bounds);
     table[s] = make_slot(key_in(x), larger(low_in(x), lo), smaller(high_in(x), hi));
 }
 
 // Puts a new slot in front of its chain.
-fn append(
-    table: &mut [u64; 1009],
-    next: &mut [u16; 1009],
-    head: &mut [u16; 1021],
-    used: usize,
-    key: u64,
-    lo: u64,
-    hi: u64,
-)
-    requires { ⌜ (used < 1008) × (key < 1073741824) × (lo < 131072) × (hi < 131072) ⌝ }
-    ensures { λ _. ⌜ (now (table .exit) ≡ set (now (table .entry)) (used + 1) (slotNumber key lo hi))
-        × (now (next .exit) ≡ set (now (next .entry)) (used + 1) (getD (now (head .entry)) (hashOf key) 0))
-        × (now (head .exit) ≡ set (now (head .entry)) (hashOf key) (used + 1)) ⌝ }
+fn append(table: &mut [u64], next: &mut [u16], head: &mut [u16], used: usize, key: u64, bounds: u64)
+    requires { ⌜ (used < 1008) × (used + 1 < length (now table)) × (used + 1 < length (now next)) × (61 ≤ length (now head)) × (key < 1073741824) × (bounds < 17179869184) ⌝ }
+    ensures { λ _. ⌜ (now (table .exit) ≡ set (now (table .entry)) (used + 1) (slotNumber key (lowPart bounds) (highPart bounds)))
+        × (now (next .exit) ≡ set (now (next .entry)) (used + 1) (getD (now (head .entry)) (hashOf (length (now (head .entry))) key) 0))
+        × (now (head .exit) ≡ set (now (head .entry)) (hashOf (length (now (head .entry))) key) (used + 1)) ⌝ }
 {
     let new = used + 1;
-    let b = bucket(key);
-    table[new] = make_slot(key, lo, hi);
+    let b = bucket(head.len(), key);
+    table[new] = 17179869184 * key + bounds;
     next[new] = head[b];
     head[b] = new as u16;
 }
@@ -158,23 +151,22 @@ pub(crate) fn entry_key(place: u64, e: Entry) -> u64
 
 // Enters an entry: the slot of its key, found or made, gets the entry's bounds too. Returns the slot's number.
 pub(crate) fn enter(
-    table: &mut [u64; 1009],
-    next: &mut [u16; 1009],
-    head: &mut [u16; 1021],
+    table: &mut [u64],
+    next: &mut [u16],
+    head: &mut [u16],
     used: usize,
     key: u64,
-    lo: u64,
-    hi: u64,
+    bounds: u64,
 ) -> usize
-    requires { ⌜ Kept (now table) (now next) (now head) used × (used < 1008) × (key < 1073741824) × (lo < 131072) × (hi ≤ noBound) ⌝ }
+    requires { ⌜ Kept (now table) (now next) (now head) used × (used < 1008) × (used + 1 < length (now table)) × (used + 1 < length (now next)) × (key < 1073741824) × (bounds < 17179869184) × (highPart bounds ≤ noBound) ⌝ }
     ensures { λ r. ⌜ (r ≤ used + 1) × ((v : ℕ) → (b : Bool) → (n : ℕ) → n < 65536 → key ≡ keyNumber v b n
-        → Entered (now (table .entry)) (now (next .entry)) (now (head .entry)) used v b n lo hi r (now (table .exit)) (now (next .exit)) (now (head .exit))) ⌝ }
+        → Entered (now (table .entry)) (now (next .entry)) (now (head .entry)) used v b n (lowPart bounds) (highPart bounds) r (now (table .exit)) (now (next .exit)) (now (head .exit))) ⌝ }
 {
     let s = search(table, next, head, used, key);
     if s != 0 {
-        tighten(table, s, lo, hi);
+        tighten(table, s, bounds);
         return s;
     }
-    append(table, next, head, used, key, lo, hi);
+    append(table, next, head, used, key, bounds);
     used + 1
 }

@@ -3,15 +3,17 @@
 ghost use mathlib.Core.Path.{_≡_};
 ghost use mathlib.Core.Bool.{cond, false, true};
 ghost use mathlib.Core.List.{List};
-ghost use Prim.Native.Nat.{_≤_, _<_};
+ghost use Prim.Native.Nat.{_+_, _≤_, _<_};
 ghost use lib.Dec.{eqb};
 ghost use lib.ListN.{getD, length};
 ghost use Rattle.blocks.specs.Entries.{entriesOf};
+ghost use Rattle.blocks.specs.code.Blockwise.{InBlock};
 ghost use Rattle.base.specs.Search.{firstFrom};
-ghost use Rattle.passes.specs.code.Slots.{Slot};
-ghost use Rattle.slots.specs.code.States.{Indexed, entrySlot, holdsInState, holdsBySlots, slotFor, passed, stateBelow, supportedBy};
-ghost use Rattle.slots.specs.code.Tables.{Kept, highIn, noBound};
 ghost use Rattle.meaning.specs.Owned.{Owned};
+ghost use Rattle.passes.specs.code.Slots.{Slot};
+ghost use Rattle.slots.specs.code.States.{Indexed, Searched, Stated, entrySlot, holdsInState, holdsBySlots, slotFor, passed, stateBelow, supportedBy};
+ghost use Rattle.slots.specs.code.Tables.{Kept, Readable, highIn, noBound};
+use crate::entries::entry_from;
 use crate::slots::NO_BOUND;
 use crate::slots::high_in;
 use crate::slots::link_key;
@@ -23,6 +25,7 @@ use base::wide;
 use blocks::Entry;
 use blocks::Link;
 use blocks::Property;
+use blocks::next_count;
 
 // Two states that are no place of the normal form: below NOWHERE nothing stands, and after PASSED, an at most 0, all holds. A slot has
 // neither number.
@@ -32,9 +35,9 @@ const PASSED: u64 = 1024;
 
 // The slot of a property at a place, or 0.
 fn property_slot(
-    table: &[u64; 1009],
-    next: &[u16; 1009],
-    head: &[u16; 1021],
+    table: &[u64],
+    next: &[u16],
+    head: &[u16],
     used: usize,
     place: u64,
     p: Property,
@@ -46,14 +49,7 @@ fn property_slot(
 }
 
 // The slot of a link at a place, or 0.
-fn link_slot(
-    table: &[u64; 1009],
-    next: &[u16; 1009],
-    head: &[u16; 1021],
-    used: usize,
-    place: u64,
-    l: Link,
-) -> usize
+fn link_slot(table: &[u64], next: &[u16], head: &[u16], used: usize, place: u64, l: Link) -> usize
     requires { ⌜ Kept (now table) (now next) (now head) used × (used ≤ 1008) × (place < 1024) ⌝ }
     ensures { λ r. ⌜ (r ≤ used) × ((ss : List Slot) → Indexed ss (now (table .entry)) (now (next .entry)) (now (head .entry)) used → r ≡ slotFor ss place true (l .0)) ⌝ }
 {
@@ -61,14 +57,7 @@ fn link_slot(
 }
 
 // The slot of an entry at a place, or 0. One way for each kind, so that the kind is known when its bounds are judged.
-fn entry_slot(
-    table: &[u64; 1009],
-    next: &[u16; 1009],
-    head: &[u16; 1021],
-    used: usize,
-    place: u64,
-    e: Entry,
-) -> usize
+fn entry_slot(table: &[u64], next: &[u16], head: &[u16], used: usize, place: u64, e: Entry) -> usize
     requires { ⌜ Kept (now table) (now next) (now head) used × (used ≤ 1008) × (place < 1024) ⌝ }
     ensures { λ r. ⌜ (r ≤ used) × ((ss : List Slot) → Indexed ss (now (table .entry)) (now (next .entry)) (now (head .entry)) used → r ≡ entrySlot ss place e) ⌝ }
 {
@@ -82,8 +71,8 @@ fn entry_slot(
 }
 
 // The bounds of a slot, as a slot; none where there is no slot.
-fn bounds(table: &[u64; 1009], s: usize) -> u64
-    requires { ⌜ s < 1009 ⌝ }
+fn bounds(table: &[u64], s: usize) -> u64
+    requires { ⌜ s < length (now table) ⌝ }
     ensures { λ r. ⌜ r ≡ cond (eqb s 0) noBound (getD (now (table .entry)) s 0) ⌝ }
 {
     if s == 0 {
@@ -109,14 +98,7 @@ fn supported(kind: u8, number: u16, lo: u64, hi: u64) -> bool
 }
 
 // Whether an entry holds in a place of this state. An 'every' is not looked up: it holds in any case.
-fn holds(
-    table: &[u64; 1009],
-    next: &[u16; 1009],
-    head: &[u16; 1021],
-    used: usize,
-    state: u64,
-    e: Entry,
-) -> bool
+fn holds(table: &[u64], next: &[u16], head: &[u16], used: usize, state: u64, e: Entry) -> bool
     requires { ⌜ Kept (now table) (now next) (now head) used × (used ≤ 1008) × (state ≤ passed) ⌝ }
     ensures { λ r. ⌜ ((ss : List Slot) → Indexed ss (now (table .entry)) (now (next .entry)) (now (head .entry)) used → r ≡ holdsInState ss state e) ⌝ }
 {
@@ -131,14 +113,7 @@ fn holds(
 }
 
 // The state that a link leads to from a place of this state.
-fn state_below(
-    table: &[u64; 1009],
-    next: &[u16; 1009],
-    head: &[u16; 1021],
-    used: usize,
-    state: u64,
-    l: Link,
-) -> u64
+fn state_below(table: &[u64], next: &[u16], head: &[u16], used: usize, state: u64, l: Link) -> u64
     requires { ⌜ Kept (now table) (now next) (now head) used × (used ≤ 1008) × (state ≤ passed) ⌝ }
     ensures { λ r. ⌜ (r ≤ passed) × ((ss : List Slot) → Indexed ss (now (table .entry)) (now (next .entry)) (now (head .entry)) used → r ≡ stateBelow ss state (l .0)) ⌝ }
 {
@@ -156,14 +131,7 @@ fn state_below(
 }
 
 // The state that an 'every' leads to; 0 for any other entry.
-fn leads_to(
-    table: &[u64; 1009],
-    next: &[u16; 1009],
-    head: &[u16; 1021],
-    used: usize,
-    state: u64,
-    e: Entry,
-) -> u64
+fn leads_to(table: &[u64], next: &[u16], head: &[u16], used: usize, state: u64, e: Entry) -> u64
     requires { ⌜ Kept (now table) (now next) (now head) used × (used ≤ 1008) × (state ≤ passed) ⌝ }
     ensures { λ r. ⌜ (r ≤ passed) × (e .kind ≡ 5 → (ss : List Slot) → Indexed ss (now (table .entry)) (now (next .entry)) (now (head .entry)) used → r ≡ stateBelow ss state (e .name)) ⌝ }
 {
@@ -173,30 +141,64 @@ fn leads_to(
     state_below(table, next, head, used, state, e.link())
 }
 
-// The number of the first entry of a description with `total` entries that fails; 0 where all hold.
+// The number of the first that fails of `count` entries, those after the first `done`, whose bytes start at `from`; 0 where all hold.
+fn failing_in_block(
+    table: &[u64],
+    next: &[u16],
+    head: &[u16],
+    used: usize,
+    d: &[u8],
+    from: usize,
+    count: usize,
+    done: usize,
+    states: &mut [u16],
+) -> usize
+    requires { ⌜ Kept (now table) (now next) (now head) used × (used ≤ 1008) × Owned (entriesOf (now d)) × (length (entriesOf (now d)) ≤ 1008)
+        × InBlock (now d) from count done × Stated (now d) (now table) (now next) (now head) used done (now states) ⌝ }
+    ensures { λ r. ⌜ Searched (now (d .entry)) (now (table .entry)) (now (next .entry)) (now (head .entry)) used done count (now (states .exit)) r ⌝ }
+{
+    let mut i: usize = 0;
+    loop {
+        if count <= i {
+            break 0;
+        }
+        let e = entry_from(d, from + 8 * i);
+        let s = long(states[wide(e.owner)]);
+        i += 1;
+        if !holds(table, next, head, used, s, e) {
+            break done + i;
+        }
+        states[done + i] = leads_to(table, next, head, used, s, e) as u16;
+    }
+}
+
+// The number of the first entry of a description with `total` entries that fails; 0 where all hold. Block by block. What the lent states
+// held does not count, so that one table of them serves for many descriptions.
 pub(crate) fn first_failing_entry(
-    table: &[u64; 1009],
-    next: &[u16; 1009],
-    head: &[u16; 1021],
+    table: &[u64],
+    next: &[u16],
+    head: &[u16],
     used: usize,
     d: &[u8],
     total: usize,
+    states: &mut [u16],
 ) -> usize
-    requires { ⌜ Kept (now table) (now next) (now head) used × (used ≤ 1008) × (total ≡ length (entriesOf (now d))) × (total ≤ 1008) × Owned (entriesOf (now d)) ⌝ }
+    requires { ⌜ Kept (now table) (now next) (now head) used × (used ≤ 1008) × Readable (now d) total × (total < length (now states)) ⌝ }
     ensures { λ r. ⌜ (r ≤ total) × ((ss : List Slot) → Indexed ss (now (table .entry)) (now (next .entry)) (now (head .entry)) used → r ≡ firstFrom (holdsBySlots ss (entriesOf (now (d .entry)))) 1 total) ⌝ }
 {
-    let mut states = [0u16; 1009];
-    let mut n: usize = 1;
+    states[0] = 0;
+    let mut n: usize = 0;
+    let mut at: usize = 4;
     loop {
-        if total < n {
+        if total <= n {
             break 0;
         }
-        let e = blocks::nth_entry(d, total, n);
-        let s = long(states[wide(e.owner)]);
-        if !holds(table, next, head, used, s, e) {
-            break n;
+        let count = next_count(total - n);
+        let e = failing_in_block(table, next, head, used, d, at, count, n, states);
+        if e != 0 {
+            break e;
         }
-        states[n] = leads_to(table, next, head, used, s, e) as u16;
-        n += 1;
+        n += count;
+        at += 512;
     }
 }

@@ -4,5 +4,4 @@
 // is proved in `blocks`.
 mod writer;
 
-pub use writer::blocks_for;
 pub use writer::write_entries;

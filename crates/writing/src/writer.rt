@@ -78,7 +78,7 @@ fn put_block(out: &mut [u8], i: usize, rows: &[u64], used: usize)
 }
 
 // The blocks that so many entries take: 63 to a block, and one block where there is no entry.
-pub fn blocks_for(count: usize) -> usize
+fn blocks_for(count: usize) -> usize
     ensures { λ r. ⌜ r ≡ blocksFor plain count ⌝ }
 {
     if count == 0 {

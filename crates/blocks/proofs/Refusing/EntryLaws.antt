@@ -1,8 +1,8 @@
 -- Laws of entries read by number.
 -- Assumes nothing.
-use Prim.Native.Nat.{_%_, _*_, _+_, _/_, _<_, _≤_, suc, zero, ℕ}
+use Prim.Native.Nat.{_*_, _+_, _/_, _<_, _≤_, suc, zero, ℕ}
 use lib.Dec.{ltb}
-use lib.ListN.{List·getD-eq-default, length}
+use lib.ListN.{List·getD-eq-default, getD, length}
 use mathlib.Core.Bool.{true}
 use mathlib.Core.List.{List}
 use mathlib.Core.Logic.{_≢_}
@@ -12,9 +12,21 @@ use Rattle.base.proofs.Lists.{getD-listed}
 use Rattle.base.proofs.Tests.{and-zero, gt-leb, le-leb, lt-cases, tests}
 use Rattle.blocks.proofs.Format.EntryBytes.{entries-listed, length-entries}
 use Rattle.blocks.proofs.words.WordLaws.{word-past}
-use Rattle.blocks.specs.Entries.{entriesOf, entryAt, entryFrom, entryOf, entryWhole, nth, zeroEntry}
+use Rattle.blocks.specs.Entries.{entriesOf, entryAt, entryFrom, entryOf, entryOfBytes, nth, zeroEntry}
 use Rattle.blocks.specs.Frame.{entryPos, plain, totalIn}
+use Rattle.blocks.specs.Words.{wordAt}
 use Rattle.blocks.specs.declared.Entry.{Entry}
+
+-- an entry by its 8 bytes
+pub from-bytes : (s : List ℕ) (at : ℕ) {r : Entry}
+    → r ≡ entryOfBytes (getD s at 0) (getD s (at + 1) 0) (getD s (at + 2) 0) (getD s (at + 3) 0) (getD s (at + 4) 0) (getD s (at + 5) 0) (getD s (at + 6) 0) (getD s (at + 7) 0)
+    → r ≡ entryFrom s at
+unfolding entryFrom entryOfBytes wordAt
+from-bytes s at e =
+    let o : at + 3 ≡ at + 2 + 1 = omega arith in
+    let m : at + 5 ≡ at + 4 + 1 = omega arith in
+    let n : at + 7 ≡ at + 6 + 1 = omega arith in
+    rw (o, m, n) at e
 
 -- an entry that starts past the end is the zero entry
 pub entry-past : (s : List ℕ) (at : ℕ) → length s ≤ at → entryFrom s at ≡ zeroEntry
@@ -32,11 +44,6 @@ entry-past s at h =
 pos-bound : (n : ℕ) → 1 ≤ n → 8 * n ≤ entryPos plain n + 4
 unfolding entryPos
 pos-bound n h = omega arith
-
--- and ends in its block
-pub pos-block : (n : ℕ) → 1 ≤ n → entryPos plain n + 12 ≤ 512 * ((n + 62) / 63)
-unfolding entryPos
-pos-block n h = omega arith
 
 -- ---- the entries of an input
 
@@ -68,36 +75,6 @@ pub of-found : (s : List ℕ) (total n : ℕ) {at : ℕ} {r : Entry} → n ≢ 0
 unfolding entryAt
 of-found s total n z h p e = (rw p at e) ∙ sym (of-within s total n z h)
 
--- an entry whose bytes are all there, and one of which some are not
-pub whole-found : (s : List ℕ) (at : ℕ) {r : Entry} → at + 8 ≤ length s → r ≡ entryFrom s at → r ≡ entryWhole s at
-unfolding entryWhole
-whole-found s at h e = simp (entryWhole, le-leb h, e)
-
-pub whole-none : (s : List ℕ) (at : ℕ) {r : Entry} → length s < at + 8 → r ≡ zeroEntry → r ≡ entryWhole s at
-unfolding entryWhole
-whole-none s at h e = simp (entryWhole, gt-leb h, e)
-
--- the entry at its place is that of the list, where the list's blocks are all there
-pub nth-whole : (s : List ℕ) (n : ℕ) {at : ℕ} {e : Entry} → 1 ≤ n → n ≤ length (entriesOf s) → 512 * ((length (entriesOf s) + 62) / 63) ≤ length s
-    → at ≡ entryPos plain n → e ≡ entryWhole s at → e ≡ nth (entriesOf s) n
-unfolding entryWhole entryAt
-nth-whole s n h le whole p e =
-    let q : entryPos plain n + 8 ≤ length s = omega (arith, pos-block n (omega arith)) in
-    (rw (p, entryWhole, le-leb q) at e) ∙ sym (nth-entries s n (omega arith) (omega (arith, length-entries s)))
-
--- the place of the next entry: 8 bytes on, and 16 from the last of a block
-pub pos-first : 4 ≡ entryPos plain 1
-unfolding entryPos
-pos-first = omega arith
-
-pub pos-next : (n : ℕ) {at : ℕ} → 1 ≤ n → at ≡ entryPos plain n → at % 512 ≢ 500 → at + 8 ≡ entryPos plain (n + 1)
-unfolding entryPos
-pos-next n h e z = omega arith
-
-pub pos-over : (n : ℕ) {at : ℕ} → 1 ≤ n → at ≡ entryPos plain n → at % 512 ≡ 500 → at + 16 ≡ entryPos plain (n + 1)
-unfolding entryPos
-pos-over n h e z = omega arith
-
 -- by number from the blocks, and by number from the list
 pub of-nth : (s : List ℕ) (total n : ℕ) → total ≡ length (entriesOf s) → entryOf s total n ≡ nth (entriesOf s) n
 unfolding entryOf nth
@@ -106,3 +83,10 @@ of-nth s total (suc k) e =
     lt-cases total (suc k)
     (λ h. sym (of-above s total (suc k) h refl) ∙ sym (List·getD-eq-default (entriesOf s) zeroEntry (omega arith)))
     (λ h. of-within s total (suc k) (λ z. omega arith) h ∙ sym (nth-entries s (suc k) (omega arith) (omega (arith, length-entries s))))
+
+-- among the first n of the list, from a total of n
+pub of-front : (s : List ℕ) (n k : ℕ) → n ≤ length (entriesOf s) → k ≤ n → entryOf s n k ≡ nth (entriesOf s) k
+unfolding entryOf nth
+of-front s n zero h le = refl
+of-front s n (suc k) h le =
+    of-within s n (suc k) (λ z. omega arith) le ∙ sym (nth-entries s (suc k) (omega arith) (omega (arith, length-entries s)))

@@ -3,10 +3,10 @@
 use Prim.Native.Nat.{_+_, _-_, _<_, _≤_, suc, zero, ℕ}
 use borrow.Author.Count.{below-more}
 use lib.Dec.{eqb, leb}
-use lib.ListN.{getD, length, length-replicate, length-set, replicate, set}
+use lib.ListN.{getD, length, length-set, set}
 use lib.Seq.{getD-set-other, getD-set-same}
 use mathlib.Core.Bool.{cond, false, true}
-use mathlib.Core.List.{List}
+use mathlib.Core.List.{List, _++_}
 use mathlib.Core.Logic.{_≢_}
 use mathlib.Core.Path.{_∙_, _≡_, ap, refl, sym}
 use native.Mathlib.Nat.{ne-of-lt}
@@ -14,12 +14,13 @@ use native.Mathlib.Numerals.{add-one}
 use native.Mathlib.Omega.{arith}
 use Rattle.base.proofs.RangeLaws.{none-left, one-left}
 use Rattle.base.proofs.Tests.{bool-cases, eq-cases, eq-eqb, ge-ltb, lt-cases, lt-ltb, ne-eqb, tests}
-use Rattle.blocks.proofs.Refusing.FirstFault.{step, step-found, step-more}
+use Rattle.blocks.proofs.Refusing.FirstFault.{first-append, orElse, step, step-found, step-more}
 use Rattle.blocks.specs.Entries.{formOk, nth, owningKind}
 use Rattle.blocks.specs.Faults.{entryFaults, first}
 use Rattle.blocks.specs.Owners.{chain, depthOf, depthOk, levelOf, ownerOf, ownerOk}
-use Rattle.blocks.specs.code.ReadingSteps.{entryRefusal, levelBy, levelUnder}
+use Rattle.blocks.specs.code.ReadingSteps.{Levels, entryRefusal, levelBy, levelUnder}
 use Rattle.blocks.specs.declared.Entry.{Entry}
+use Rattle.blocks.specs.declared.Finding.{Finding}
 use Rattle.blocks.specs.declared.Finding.the-variants.{Clean, Faulty}
 use Rattle.blocks.specs.declared.Schema.{Schema}
 
@@ -53,20 +54,12 @@ depth-under es (suc m) early l z =
 
 -- ---- the table of levels
 
--- the table holds the level of each entry before n, and their owners stand earlier
-pub record Levels (σ : Schema) (es : List Entry) (t : List ℕ) (n : ℕ) : Type 0 where
-  pub size : length t ≡ 2017
-  pub right : (k : ℕ) → k < n → getD t k 0 ≡ levelOf σ es k
-  pub early : (k : ℕ) → 1 ≤ k → k < n → ownerOf es k < k
-
-pub levels-start : (σ : Schema) (es : List Entry) → Levels σ es (set (replicate 2017 0) 0 1) 1
+pub levels-start : (σ : Schema) (es : List Entry) (t : List ℕ) → length es < length t → Levels σ es (set t 0 1) 1
 unfolding levelOf
-levels-start σ es =
-    let zeros : List ℕ = replicate 2017 0 in
-    let size : length zeros ≡ 2017 = length-replicate {A = ℕ} 2017 0 in
+levels-start σ es t h =
     record {
-      size = length-set zeros 0 1 ∙ size;
-      right = λ k l. let z : k ≡ 0 = omega arith in rw z (getD-set-same zeros 0 1 0 (omega arith));
+      room = rw (length-set t 0 1) h;
+      right = λ k l. let z : k ≡ 0 = omega arith in rw z (getD-set-same t 0 1 0 (omega arith));
       early = λ k h l. absurd (omega arith);
     }
 
@@ -144,10 +137,10 @@ module _ (σ : Schema) (es : List Entry) (t : List ℕ) (n : ℕ) {e : Entry} {l
   entries-found total h z =
       rw (one-left n (total + 1) (omega arith)) (entry-step (total + 1 - (n + 1)) ∙ step-found _ _ _ z)
 
-  pub levels-more : {v : ℕ} → number ≡ 0 → n < 2017 → v ≡ levelUnder σ (e .kind) l → Levels σ es (set t n v) (n + 1)
+  pub levels-more : {v : ℕ} → number ≡ 0 → n ≤ length es → v ≡ levelUnder σ (e .kind) l → Levels σ es (set t n v) (n + 1)
   unfolding levelUnder
   levels-more {v} z h u =
-      let same = getD-set-same t n v 0 (omega (arith, T .size)) in
+      let same = getD-set-same t n v 0 (omega (arith, T .room)) in
       level-cases σ es t n T one owner-level
       (λ y o. absurd (unrefused σ e l (sym r ∙ z) .1 .0 y))
       (λ y o lt d.
@@ -155,7 +148,7 @@ module _ (σ : Schema) (es : List Entry) (t : List ℕ) (n : ℕ) {e : Entry} {l
       (λ q. rw (at, levelUnder, q, level-of-owner σ es n (λ k. omega arith), q) (omega arith))
       (λ q. rw (at, levelUnder, q, level-of-owner σ es n (λ k. omega arith), q)) in
       record {
-        size = length-set t n v ∙ T .size;
+        room = rw (length-set t n v) (T .room);
         right = below-more (λ k. getD (set t n v) k 0 ≡ levelOf σ es k) n
             (λ k k<. getD-set-other t n k v 0 (ne-of-lt k<) ∙ T .right k k<) (same ∙ w);
         early = λ k k≥ k<. below-more (λ j. 1 ≤ j → ownerOf es j < j) n (λ j j< j≥. T .early j j≥ j<) (λ g. lt) k k< k≥;
@@ -164,3 +157,31 @@ module _ (σ : Schema) (es : List Entry) (t : List ℕ) (n : ℕ) {e : Entry} {l
 pub entries-end : (σ : Schema) (es : List Entry) (n total : ℕ) → total < n → first (entryFaults σ es n (total + 1 - n)) ≡ Clean
 unfolding entryFaults first
 entries-end σ es n total h = rw (none-left n (total + 1) (omega arith))
+
+-- ---- `count` entries at a time
+
+module _ (σ : Schema) (es : List Entry) where
+  faults-split : (n a b : ℕ) → entryFaults σ es n (a + b) ≡ entryFaults σ es n a ++ entryFaults σ es (n + a) b
+  unfolding entryFaults
+  faults-split n zero b =
+      let e : n + 0 ≡ n = omega arith in
+      let z : 0 + b ≡ b = omega arith in
+      rw (e, z)
+  faults-split n (suc a) b =
+      let e : n + suc a ≡ suc n + a = omega arith in
+      let s : suc a + b ≡ suc (a + b) = omega arith in
+      rw (e, s, faults-split (suc n) a b)
+
+  first-split : (n count e : ℕ) → n + count ≤ e
+      → first (entryFaults σ es n (e - n)) ≡ orElse (first (entryFaults σ es n count)) (first (entryFaults σ es (n + count) (e - (n + count))))
+  first-split n count e h =
+      let s : e - n ≡ count + (e - (n + count)) = omega arith in
+      rw (s, faults-split n count (e - (n + count))) (first-append _ _)
+
+  pub entries-later : (n count e : ℕ) {r : Finding} → n + count ≤ e → r ≡ first (entryFaults σ es n count) → r ≡ Clean
+      → first (entryFaults σ es n (e - n)) ≡ first (entryFaults σ es (n + count) (e - (n + count)))
+  entries-later n count e h q z = first-split n count e h ∙ rw (← q, z)
+
+  pub entries-sooner : (n count e : ℕ) {r : Finding} {k p : ℕ} → n + count ≤ e → r ≡ first (entryFaults σ es n count) → r ≡ Faulty k p
+      → first (entryFaults σ es n (e - n)) ≡ Faulty k p
+  entries-sooner n count e h q z = first-split n count e h ∙ rw (← q, z)

@@ -22,6 +22,7 @@ use Rattle.blocks.proofs.RoundTrip.Unbroken.{Unbroken, Passing, passing
 use Rattle.blocks.specs.Encoding.{blocksFor, encodeRows, encode}
 use Rattle.blocks.specs.Entries.{entryBytes, entryAt, entriesOf, limitOf}
 use Rattle.blocks.specs.Frame.{Frame, plain, blocksIn, usedIn, zeroAt, usedOk, restZero, secondOk, totalIn, entryPos}
+use Rattle.blocks.specs.code.Blockwise.{Whole}
 use Rattle.blocks.specs.declared.Schema.{Schema}
 
 -- the bytes of row n of an input
@@ -152,3 +153,8 @@ total-bound unbroken = total-rows-bound plain plain-lawful unbroken
 pub entries-limit : {σ : Schema} {s : List ℕ} → Unbroken plain σ s → length (entriesOf s) ≤ 63 * limitOf σ
 entries-limit {σ} {s} unbroken =
     omega (arith, length-entries s, total-bound unbroken, few-blocks σ s (unbroken .length))
+
+-- and all their blocks are there
+pub entries-whole : {σ : Schema} {s : List ℕ} → Unbroken plain σ s → Whole s (length (entriesOf s))
+unfolding blocksIn
+entries-whole {σ} {s} unbroken = omega (arith, length-entries s, total-bound unbroken)

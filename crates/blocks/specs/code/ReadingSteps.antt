@@ -1,14 +1,16 @@
 -- The steps of the passes over blocks and entries, as the code takes them. No public promise names them: proofs/ ties them to
 -- the table of refusals and to the encoding.
 -- Assumes nothing.
-use Prim.Native.Nat.{_+_, _/_, ℕ}
+use Prim.Native.Nat.{_+_, _/_, _<_, _≤_, ℕ}
 use lib.Dec.{eqb, ltb}
 use lib.ListN.{getD, length}
 use mathlib.Core.Bool.{cond}
 use mathlib.Core.List.{List}
+use mathlib.Core.Path.{_≡_}
 use Rattle.blocks.specs.Entries.{formOk, owningKind}
 use Rattle.blocks.specs.Faults.{lengthWrong}
 use Rattle.blocks.specs.Frame.{checkWrong, frameWrong, plain}
+use Rattle.blocks.specs.Owners.{levelOf, ownerOf}
 use Rattle.blocks.specs.declared.Entry.{Entry}
 use Rattle.blocks.specs.declared.Schema.{Schema}
 
@@ -23,6 +25,12 @@ blocksRead σ s = cond (lengthWrong σ s) 0 (length s / 512)
 -- the level of owner o of entry n, from a table of the levels of the entries before n
 unfoldable pub levelBy : List ℕ → ℕ → ℕ → ℕ
 levelBy t n o = cond (ltb o n) (getD t o 0) 0
+
+-- a table that has a number for each entry holds the level of each before entry n, and their owners stand earlier
+pub record Levels (σ : Schema) (es : List Entry) (t : List ℕ) (n : ℕ) : Type 0 where
+  pub room : length es < length t
+  pub right : (k : ℕ) → k < n → getD t k 0 ≡ levelOf σ es k
+  pub early : (k : ℕ) → 1 ≤ k → k < n → ownerOf es k < k
 
 -- the number that an entry is refused by whose owner has level l, 4 before 5 before 6, or 0
 unfoldable pub entryRefusal : Schema → Entry → ℕ → ℕ

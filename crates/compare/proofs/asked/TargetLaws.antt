@@ -1,9 +1,10 @@
 -- What the target of a number asks for, on the path and at its end.
 -- Assumes nothing.
-use Prim.Native.Nat.{_+_, _-_, _<_, _≤_, suc, zero, ℕ}
+use Prim.Native.Nat.{_*_, _+_, _-_, _<_, _≤_, suc, zero, ℕ}
 use lib.Dec.{eqb}
 use lib.ListN.{drop, getD, length}
 use lib.Seq.{drop-cons}
+use mathlib.Core.Bool.{cond}
 use mathlib.Core.List.{List, [], _∷_}
 use mathlib.Core.Logic.{_≢_}
 use mathlib.Core.Path.{_≡_, ap, refl}
@@ -12,9 +13,12 @@ use native.Mathlib.Numerals.{add-one}
 use native.Mathlib.Omega.{arith}
 use Rattle.base.proofs.Tests.{bool-cases, eq-cases, eq-eqb, ge-ltb, lt-ltb, ne-eqb}
 use Rattle.blocks.specs.declared.Entry.{Entry}
-use Rattle.compare.proofs.path.PathLaws.{length-up}
-use Rattle.compare.specs.code.Asked.{Small}
+use Rattle.compare.proofs.path.PathLaws.{length-up, up-at}
+use Rattle.blocks.specs.declared.Link.{Link}
+use Rattle.compare.specs.code.Asked.{One, codeAsked, leastAsked, linkIn}
 use Rattle.compare.specs.code.Codes.{targetAt, targetBelow, upFrom}
+use Rattle.compare.specs.declared.asked.AskedLink.{AskedLink}
+use Rattle.compare.specs.declared.asked.AskedLink.the-variants.{Items, Nothing}
 use Rattle.logic.specs.Place.{Atom, Kind, atom, has, kindOf, lacks, least, most, nothing}
 use Rattle.logic.specs.Witness.{linksAt, on, propertiesAt, targetLinks, targetProperties, want, wantAt}
 use Rattle.meaning.specs.Description.{atomOf}
@@ -71,21 +75,13 @@ no-link k n x z =
     (λ p. rw p)
     (λ p. rw p (bool-cases (eqb k 2) (λ q. rw q) (λ q. rw (q, ne-eqb z) (bool-cases (eqb k 3) (λ r. rw r) (λ r. rw r)))))
 
--- the items that a 'most' asks for: one more than its number
-want-most : (a : Kind) (n x l : ℕ) → linksAt (atom a n x) ≡ l ∷ [] → wantAt (atom a n x) l ≡ suc x
-want-most has n x l e = cc
-want-most lacks n x l e = cc
-want-most least n x l e = cc
-want-most most n x l e = let q : l ≡ n = cc in rw (eq-eqb q)
-want-most nothing n x l e = cc
-
--- ---- names of two bytes
-
-pub none-small : Small []
-none-small x e = omega (arith, ap length e)
-
-pub one-small : {x : ℕ} → x < 65536 → Small (x ∷ [])
-one-small {x} h y e = let q : y ≡ x = cc in omega (arith, q)
+-- nor items of any link
+no-want : (k n x l : ℕ) → k ≢ 4 → wantAt (atom (kindOf k) n x) l ≡ 0
+unfolding kindOf
+no-want k n x l z =
+    bool-cases (eqb k 1)
+    (λ p. rw p)
+    (λ p. rw p (bool-cases (eqb k 2) (λ q. rw q) (λ q. rw (q, ne-eqb z) (bool-cases (eqb k 3) (λ r. rw r) (λ r. rw r)))))
 
 -- ---- the property that is asked for
 
@@ -103,60 +99,65 @@ pub property-lacked : (links : List ℕ) (e : Entry) {target m r : ℕ} → m < 
     → targetProperties (targetAt (upFrom links m) (atomOf e) target) ≡ r ∷ []
 property-lacked links e lo hi k n = rw (target-end links (atomOf e) lo hi, kind-lacks k, n)
 
--- ---- the link of which items are asked for
+-- ---- the items that are asked for
 
--- none where nothing is asked
-pub link-none : (w : List ℕ) (a : Atom) {target : ℕ} → target ≡ 0 → targetLinks (targetAt w a target) ≡ []
-unfolding targetAt
-link-none w a e = rw (e, targetAt)
+-- what is asked of the links of a target, as the code has it
+abbrev pub Asks : List ℕ → ℕ → Atom → ℕ → AskedLink → Type 0
+Asks links m a target r =
+    One (linkIn r) × (targetLinks (targetAt (upFrom links m) a target) ≡ linkIn r) × ((x : ℕ) → want (targetAt (upFrom links m) a target) x ≡ leastAsked r x)
+    × ((x : ℕ) → 1024 * targetBelow (upFrom links m) target x ≡ codeAsked r x) × ((x : ℕ) → leastAsked r x ≤ 65536) × ((x : ℕ) → codeAsked r x ≤ 33792)
 
--- on the path the next link
-pub link-next : (links : List ℕ) (a : Atom) {target m r : ℕ} → target ≢ 0 → target ≤ m → r ≡ getD links (m - target) 0
-    → targetLinks (targetAt (upFrom links m) a target) ≡ r ∷ []
-link-next links a z h e = rw (target-before links a z h, e)
-
--- none at its end, if the entry is no 'most'
-pub link-other : (links : List ℕ) (e : Entry) {target m : ℕ} → m < target → target ≤ m + 1 → e .kind ≢ 4 → targetLinks (targetAt (upFrom links m) (atomOf e) target) ≡ []
-link-other links e lo hi z = rw (target-end links (atomOf e) lo hi) (no-link (e .kind) (e .name) (e .number) z)
-
--- that of a 'most'
-pub link-most : (links : List ℕ) (e : Entry) {target m r : ℕ} → m < target → target ≤ m + 1 → e .kind ≡ 4 → r ≡ e .name
-    → targetLinks (targetAt (upFrom links m) (atomOf e) target) ≡ r ∷ []
-link-most links e lo hi k n = rw (target-end links (atomOf e) lo hi, kind-most k, n)
-
--- ---- how many items are asked for by that link
-
--- one on the path
-pub count-before : (links : List ℕ) (a : Atom) {target m l : ℕ} → target ≤ m → targetLinks (targetAt (upFrom links m) a target) ≡ l ∷ [] → want (targetAt (upFrom links m) a target) l ≡ 1
-unfolding targetAt
-count-before links a {target} {m} {l} h e =
-    eq-cases target 0
-    (λ z. let f : [] ≡ l ∷ [] = rw (z, targetAt) at e in cc)
-    (λ z.
-    let f : getD links (m - target) 0 ∷ [] ≡ l ∷ [] = rw (target-before links a z h) at e in
-    let q : l ≡ getD links (m - target) 0 = cc in
-    rw (target-before links a z h, eq-eqb q))
-
--- at its end one more than the entry's number
-pub count-end : (links : List ℕ) (e : Entry) {target m l r : ℕ} → m < target → target ≤ m + 1 → r ≡ e .number → targetLinks (targetAt (upFrom links m) (atomOf e) target) ≡ l ∷ []
-    → want (targetAt (upFrom links m) (atomOf e) target) l ≡ r + 1
-count-end links e {l = l} lo hi n f =
-    rw (target-end links (atomOf e) lo hi, n, add-one) (want-most (kindOf (e .kind)) (e .name) (e .number) l (rw (target-end links (atomOf e) lo hi) at f))
-
--- ---- the target of the place that it leads to
-
--- nothing is asked past the end of the path
-pub below-end : (links : List ℕ) (l : ℕ) {target m : ℕ} → m < target → targetBelow (upFrom links m) target l ≡ 0
+-- nothing past the end of the path
+below-end : (links : List ℕ) (l : ℕ) {target m : ℕ} → m < target → targetBelow (upFrom links m) target l ≡ 0
 unfolding targetBelow
 below-end links l {target = zero} {m} h = refl
 below-end links l {target = suc i} {m} h = rw (length-up, ge-ltb {m = i} {n = m} (omega arith))
 
--- on the path the target is one link further down
-pub below-before : (links : List ℕ) (a : Atom) {target m l : ℕ} → target ≤ m → targetLinks (targetAt (upFrom links m) a target) ≡ l ∷ [] → targetBelow (upFrom links m) target l ≡ target + 1
+-- on the path the target of the next link is one link further down
+below-next : (links : List ℕ) (x : ℕ) {target m : ℕ} → target ≢ 0 → target ≤ m
+    → targetBelow (upFrom links m) target x ≡ cond (eqb x (getD links (m - target) 0)) (target + 1) 0
+unfolding targetBelow
+below-next links x {target = zero} {m} z h = absurd (z refl)
+below-next links x {target = suc i} {m} z h =
+    let b : i < m = omega arith in
+    rw (length-up, lt-ltb b, up-at links i m b) (bool-cases (eqb x (getD links (m - suc i) 0)) (λ q. rw q (omega arith)) (λ q. rw q))
+
+-- where nothing is asked
+pub nothing-asked : (links : List ℕ) (m : ℕ) (a : Atom) {target : ℕ} → target ≡ 0 → Asks links m a target Nothing
 unfolding targetAt targetBelow
-below-before links a {target = zero} {m} {l} h e = cc
-below-before links a {target = suc i} {m} {l} h e =
-    let b : i < length (upFrom links m) = omega (arith, length-up links m) in
-    let f : getD (upFrom links m) i 0 ∷ [] ≡ l ∷ [] = rw (drop-cons (upFrom links m) i 0 b) at e in
-    let q : l ≡ getD (upFrom links m) i 0 = cc in
-    rw (lt-ltb b, eq-eqb q) (omega arith)
+nothing-asked links m a e = rw (e, targetAt) (tt, refl, λ x. refl, λ x. refl, λ x. omega arith, λ x. omega arith)
+
+-- on the path an item by the next link
+pub next-asked : (links : List ℕ) (a : Atom) {target m c : ℕ} {l : Link} → target ≢ 0 → target ≤ m → m ≤ 32 → l .0 ≡ getD links (m - target) 0 → l .0 < 65536
+    → c ≡ 1024 * (target + 1) → Asks links m a target (Items l 1 c)
+next-asked links a {target} {m} {c} {l} z h k e small q = (
+  small,
+  rw (target-before links a z h, e),
+  λ x. rw (target-before links a z h, e),
+  λ x. rw (below-next links x z h, e, q) (bool-cases (eqb x (getD links (m - target) 0)) (λ y. rw y) (λ y. rw y)),
+  λ x. bool-cases (eqb x (l .0)) (λ y. rw y (omega arith)) (λ y. rw y (omega arith)),
+  λ x. bool-cases (eqb x (l .0)) (λ y. rw y (omega (arith, q))) (λ y. rw y (omega arith)),
+)
+
+-- at its end nothing, if the entry is no 'most'
+pub nothing-other : (links : List ℕ) (e : Entry) {target m : ℕ} → m < target → target ≤ m + 1 → e .kind ≢ 4 → Asks links m (atomOf e) target Nothing
+nothing-other links e lo hi z = (
+  tt,
+  rw (target-end links (atomOf e) lo hi) (no-link (e .kind) (e .name) (e .number) z),
+  λ x. rw (target-end links (atomOf e) lo hi) (no-want (e .kind) (e .name) (e .number) x z),
+  λ x. rw (below-end links x lo),
+  λ x. omega arith,
+  λ x. omega arith,
+)
+
+-- and one more than a 'most' allows
+pub most-asked : (links : List ℕ) (e : Entry) {target m n : ℕ} {l : Link} → m < target → target ≤ m + 1 → e .kind ≡ 4 → l .0 ≡ e .name → l .0 < 65536
+    → n ≡ e .number → n < 65536 → Asks links m (atomOf e) target (Items l (n + 1) 0)
+most-asked links e {l = l} lo hi k name small number bound = (
+  small,
+  rw (target-end links (atomOf e) lo hi, kind-most k, name),
+  λ x. rw (target-end links (atomOf e) lo hi, kind-most k, name, number, add-one),
+  λ x. rw (below-end links x lo) (bool-cases (eqb x (l .0)) (λ y. rw y) (λ y. rw y)),
+  λ x. bool-cases (eqb x (l .0)) (λ y. rw y (omega (arith, bound))) (λ y. rw y (omega arith)),
+  λ x. bool-cases (eqb x (l .0)) (λ y. rw y (omega arith)) (λ y. rw y (omega arith)),
+)

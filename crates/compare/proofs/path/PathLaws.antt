@@ -1,6 +1,6 @@
 -- The links to an entry, gathered from the entry up: those into the place of an owner, then those that are kept.
 -- Assumes nothing.
-use Prim.Native.Nat.{_+_, _<_, _≤_, suc, zero, ℕ}
+use Prim.Native.Nat.{_+_, _-_, _<_, _≤_, suc, zero, ℕ}
 use lib.ListN.{getD, length, length-append, replicate, set}
 use lib.Seq.{getD-set-other, getD-set-same}
 use mathlib.Core.List.{List, [], _++_, _∷_, append-assoc, append-nil}
@@ -25,6 +25,13 @@ pub length-up : (links : List ℕ) (m : ℕ) → length (upFrom links m) ≡ m
 unfolding upFrom
 length-up links zero = refl
 length-up links (suc m) = ap suc (length-up links m)
+
+-- the one at index i is link m - (i + 1), counted from the entry up
+pub up-at : (links : List ℕ) (i m : ℕ) → i < m → getD (upFrom links m) i 0 ≡ getD links (m - suc i) 0
+unfolding upFrom
+up-at links i zero h = absurd (omega arith)
+up-at links zero (suc m) h = ap (λ (j : ℕ). getD links j 0) (omega arith)
+up-at links (suc i) (suc m) h = up-at links i m (omega arith) ∙ ap (λ (j : ℕ). getD links j 0) (omega arith)
 
 -- what is stored from index m on does not change the first m
 up-other : (links : List ℕ) (i x m : ℕ) → m ≤ i → upFrom (set links i x) m ≡ upFrom links m

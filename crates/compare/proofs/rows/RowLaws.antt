@@ -1,51 +1,70 @@
--- The words of a span, one after another, and the groups that they push.
+-- The rows of tags, pushed one after another.
 -- Assumes nothing.
-use Prim.Native.Nat.{_+_, _-_, _<_, _≤_, pred, ℕ}
-use lib.ListN.{getD}
-use mathlib.Core.List.{List, [], _∷_, map}
-use mathlib.Core.Path.{_≡_}
+use Prim.Native.Nat.{_+_, _<_, max, pred, suc, zero, ℕ}
+use lib.ListN.{getD, length, length-map, take}
+use mathlib.Core.List.{List, [], _++_, _∷_, map, map-append}
+use mathlib.Core.Path.{_∙_, _≡_, ap, refl}
 use native.Mathlib.Numerals.{add-one}
 use native.Mathlib.Omega.{arith}
-use Rattle.base.proofs.RangeLaws.{none-left, one-left}
-use Rattle.blocks.specs.declared.Entry.{Entry}
-use Rattle.compare.specs.code.Codes.{groupsFrom, specimenNumber}
-use Rattle.compare.specs.code.Laying.{Joint, Placed, codes, joint, jointRows}
-use Rattle.compare.specs.code.Table.{nameIn, namesFrom, numberIn, placeBelow}
-use Rattle.logic.proofs.TreeRows.FillLaws.{joined-more}
+use Rattle.compare.proofs.specimen.LaidLaws.{codes-length, joint-length}
+use Rattle.compare.specs.code.Codes.{specimenNumber}
+use Rattle.compare.specs.code.Laying.{Joint, codes, joint, jointRows, leafRows}
+use Rattle.compare.specs.code.Asked.{codeAsked, leastAsked}
+use Rattle.compare.specs.code.Tags.{groupOf, tagName, tagSlot}
+use Rattle.compare.specs.declared.asked.AskedLink.{AskedLink}
+use Rattle.logic.proofs.TreeRows.FillLaws.{filled-more, joined-more}
+use Rattle.logic.specs.Filling.{Filled, Joined}
 use Rattle.logic.specs.SpecimenTree.{Group, group}
-use Rattle.logic.specs.Tree.{nodeRow}
+use Rattle.logic.specs.Tree.{leafRow, nodeRow}
+use Rattle.slots.specs.code.TablePlaces.{belowIn, leastIn}
 
--- ---- the words of a span
+-- ---- lists
 
--- the first name of a span, and the others
-pub names-first : (form : List ℕ) (i to : ℕ) → i < to → namesFrom form i (to - i) ≡ nameIn (getD form i 0) ∷ namesFrom form (i + 1) (to - (i + 1))
-unfolding namesFrom
-names-first form i to l = rw (one-left i to l, namesFrom) (rw add-one)
+-- one number more of a list
+take-more : (l : List ℕ) (i : ℕ) → i < length l → take (suc i) l ≡ take i l ++ (getD l i 0 ∷ [])
+take-more [] i h = absurd (omega arith)
+take-more (x ∷ l) zero h = refl
+take-more (x ∷ l) (suc i) h = ap (λ (r : List ℕ). x ∷ r) (take-more l i (omega arith))
 
-pub names-end : (form : List ℕ) (i to : ℕ) → to ≤ i → namesFrom form i (to - i) ≡ []
-unfolding namesFrom
-names-end form i to l = rw (none-left i to l)
+leaf-append : (o : ℕ) (xs ys : List ℕ) → leafRows {A = ℕ} {B = Group} o (xs ++ ys) ≡ leafRows o xs ++ leafRows o ys
+unfolding leafRows
+leaf-append o [] ys = refl
+leaf-append o (x ∷ xs) ys = rw (leaf-append o xs ys)
 
--- the group of a word at place v
-abbrev pub groupIn : List Entry → ℕ → ℕ → Joint Group
-groupIn es v x = joint (group (nameIn x) (pred (numberIn x))) (placeBelow es v (nameIn x))
+joint-append : (o : ℕ) (xs ys : List (Joint Group)) → jointRows {A = ℕ} o (xs ++ ys) ≡ jointRows o xs ++ jointRows o ys
+unfolding jointRows
+joint-append o [] ys = refl
+joint-append o (joint b c ∷ xs) ys = rw (joint-append o xs ys)
 
-pub groups-first : (es : List Entry) (form : List ℕ) (v i to : ℕ) → i < to
-    → groupsFrom es form v i (to - i) ≡ groupIn es v (getD form i 0) ∷ groupsFrom es form v (i + 1) (to - (i + 1))
-unfolding groupsFrom
-groups-first es form v i to l = rw (one-left i to l, groupsFrom) (rw add-one)
+codes-append : (xs ys : List (Joint Group)) → codes (xs ++ ys) ≡ codes xs ++ codes ys
+unfolding codes
+codes-append [] ys = refl
+codes-append (joint b c ∷ xs) ys = rw (codes-append xs ys)
 
-pub groups-end : (es : List Entry) (form : List ℕ) (v i to : ℕ) → to ≤ i → groupsFrom es form v i (to - i) ≡ []
-unfolding groupsFrom
-groups-end es form v i to l = rw (none-left i to l)
+-- ---- rows
 
--- a group, and then those from the next index on
-pub groups-next : (es : List Entry) (form : List ℕ) (v to o i : ℕ) {l m code : ℕ} {rows rows₁ rows′ below below₁ below′ : List ℕ} {n n₁ r : ℕ} → i < to
-    → l ≡ nameIn (getD form i 0) → m ≡ pred (numberIn (getD form i 0)) → code ≡ placeBelow es v l
-    → Placed rows n (specimenNumber (nodeRow o (group l m)) ∷ []) below (n + 1) (code ∷ []) rows₁ n₁ below₁
-    → Placed rows₁ n₁ (map specimenNumber (jointRows o (groupsFrom es form v (i + 1) (to - (i + 1))))) below₁ (n₁ + 1) (codes (groupsFrom es form v (i + 1) (to - (i + 1)))) rows′ r below′
-    → Placed rows n (map specimenNumber (jointRows o (groupsFrom es form v i (to - i)))) below (n + 1) (codes (groupsFrom es form v i (to - i))) rows′ r below′
+-- the property of one tag more
+pub properties-more : (order : List ℕ) (o i : ℕ) {w count k k₁ x : ℕ} {rows₀ rows rows₁ : List ℕ} → i < length order → x ≡ tagName (getD order i 0)
+    → Filled w rows₀ count (map specimenNumber (leafRows o (map tagName (take i order)))) rows k → Filled w rows k (specimenNumber (leafRow o x) ∷ []) rows₁ k₁
+    → Filled w rows₀ count (map specimenNumber (leafRows o (map tagName (take (i + 1) order)))) rows₁ k₁
+unfolding leafRows
+properties-more order o i h e p q =
+    rw (add-one, take-more order i h, map-append, leaf-append, map-append, ← e) (filled-more p q)
+
+-- the group of a tag
+pub group-is : (t : List ℕ) (asked : AskedLink) (x o : ℕ) {w n at l m code r : ℕ} {rows rows′ below below′ : List ℕ} → l ≡ tagName x
+    → m ≡ pred (max (leastIn t (tagSlot x)) (leastAsked asked (tagName x))) → code ≡ codeAsked asked (tagName x) + belowIn t (tagSlot x)
+    → Joined w rows n (specimenNumber (nodeRow o (group l m)) ∷ []) below at (code ∷ []) rows′ r below′
+    → Joined w rows n (map specimenNumber (jointRows o (groupOf t asked x ∷ []))) below at (codes (groupOf t asked x ∷ [])) rows′ r below′
 unfolding jointRows codes
-groups-next es form v to o i {l} {m} {code} {n = n} {n₁ = n₁} t el em ec p q =
-    let at : n₁ + 1 ≡ n + 1 + 1 = omega (arith, p .pushed .total) in
-    rw (groups-first es form v i to t, ← el, ← em, ← ec) (joined-more p q at)
+group-is t asked x o a b c p = rw (a, b, c) at p
+
+-- the group of one tag more
+pub groups-more : (order : List ℕ) (G : ℕ → Joint Group) (o i : ℕ) {w count k k₁ : ℕ} {rows₀ rows rows₁ below₀ below below₁ : List ℕ} → i < length order
+    → Joined w rows₀ count (map specimenNumber (jointRows o (map G (take i order)))) below₀ (count + 1) (codes (map G (take i order))) rows k below
+    → Joined w rows k (map specimenNumber (jointRows o (G (getD order i 0) ∷ []))) below (k + 1) (codes (G (getD order i 0) ∷ [])) rows₁ k₁ below₁
+    → Joined w rows₀ count (map specimenNumber (jointRows o (map G (take (i + 1) order)))) below₀ (count + 1) (codes (map G (take (i + 1) order))) rows₁ k₁ below₁
+groups-more order G o i {count = count} {k = k} h p q =
+    let at : k + 1 ≡ count + 1 + length (codes (map G (take i order)))
+    = omega (arith, p .pushed .total, codes-length (map G (take i order)), length-map (jointRows {A = ℕ} o (map G (take i order))) specimenNumber, joint-length ℕ o (map G (take i order))) in
+    rw (add-one, take-more order i h, map-append, joint-append, codes-append, map-append) (joined-more p q at)

@@ -9,10 +9,10 @@ use mathlib.Core.Path.{_∙_, _≡_, ap, refl, sym}
 use native.Mathlib.Omega.{arith}
 use Rattle.base.proofs.Lists.{zeros-read}
 use Rattle.compare.proofs.specimen.LaidLaws.{codes-length, done-laid, joint-length, leaf-length, place-laid, place-load}
-use Rattle.compare.specs.code.Laying.{Joint, Placed, codes, joints, leaves, placeNumbers}
+use Rattle.compare.specs.code.Laying.{Joint, codes, joints, leaves, placeNumbers}
 use Rattle.logic.proofs.TreeRows.FillLaws.{Codes, noted-after, noted-good, noted-length, queue-each, queue-next, queue-none, queue-past}
 use Rattle.logic.proofs.TreeRows.LayoutLaws.{load}
-use Rattle.logic.specs.Filling.{laterEach, queueFrom}
+use Rattle.logic.specs.Filling.{Joined, laterEach, queueFrom}
 use Rattle.logic.specs.Layout.{Queue, done, job, lay, weight, write}
 use Rattle.logic.specs.Tree.{Row, Tree}
 
@@ -31,20 +31,20 @@ place-numbers T num ls ns f g k o Q e = ap (map num) (place-laid T ls ns f g k o
 
 -- ---- the walk, some done
 
--- Of the numbers `whole`, those of the rows up to row count are in the table; the places of the rows from row k on are still to do.
-pub record Walking {A B : Type 0} (T : ℕ → Tree A B) (num : Row A B → ℕ) (Good : ℕ → Type 0) (whole : List ℕ) (k : ℕ) (rows : List ℕ) (count : ℕ) (below : List ℕ) : Type 0 where
-  pub size : length rows ≡ 2016
+-- Of the numbers `whole`, those of the rows up to row count are in the table, which has room for cap; the places of the rows from row k on are still to do.
+pub record Walking {A B : Type 0} (cap : ℕ) (T : ℕ → Tree A B) (num : Row A B → ℕ) (Good : ℕ → Type 0) (whole : List ℕ) (k : ℕ) (rows : List ℕ) (count : ℕ) (below : List ℕ) : Type 0 where
+  pub size : length rows ≡ cap
   pub from : 1 ≤ k
   pub to : k ≤ count + 1
   pub fuel : ℕ
   pub enough : load (queueFrom T below k (count + 1 - k)) ≤ fuel
-  pub few : count ≤ 2016
+  pub few : count ≤ cap
   pub parts : whole ≡ take count rows ++ map num (lay fuel (count + 1) (queueFrom T below k (count + 1 - k)))
-  pub width : length below ≡ 2017
+  pub width : length below ≡ cap + 1
   pub zeros : (j : ℕ) → count < j → getD below j 0 ≡ 0
   pub goods : (j : ℕ) → getD below j 0 ≢ 0 → Good (getD below j 0)
 
-module _ {A B : Type 0} (T : ℕ → Tree A B) (L : ℕ → List A) (N : ℕ → List (Joint B)) (Good : ℕ → Type 0)
+module _ {A B : Type 0} (cap : ℕ) (T : ℕ → Tree A B) (L : ℕ → List A) (N : ℕ → List (Joint B)) (Good : ℕ → Type 0)
     (unfolds : (c : ℕ) → Good c → T c ≡ leaves (L c) (joints T (N c)))
     (good : (c : ℕ) → Good c → Codes Good (codes (N c)))
     (num : Row A B → ℕ) where
@@ -61,8 +61,8 @@ module _ {A B : Type 0} (T : ℕ → Tree A B) (L : ℕ → List A) (N : ℕ →
 
   -- a place has room if the whole has
   place-room : (c fuel k o : ℕ) (Q : Queue (Tree A B)) {whole : List ℕ} (front : List ℕ) {count : ℕ} → Good c → load (job o (T c) Q) ≤ fuel
-      → whole ≡ front ++ map num (lay fuel k (job o (T c) Q)) → length front ≡ count → length whole ≤ 2016
-      → count + length (placeNumbers num o (L c) (N c)) ≤ 2016
+      → whole ≡ front ++ map num (lay fuel k (job o (T c) Q)) → length front ≡ count → length whole ≤ cap
+      → count + length (placeNumbers num o (L c) (N c)) ≤ cap
   place-room c fuel k o Q {whole} front {count} g en e l few =
       let P = placeNumbers num o (L c) (N c) in
       let f : ℕ = fuel - (length (L c) + suc (length (N c))) in
@@ -76,10 +76,10 @@ module _ {A B : Type 0} (T : ℕ → Tree A B) (L : ℕ → List A) (N : ℕ →
   place-step : (c fuel k o : ℕ) {whole rows rows′ below below′ : List ℕ} {count count′ : ℕ} → Good c → 1 ≤ k → k ≤ count + 1
       → load (job o (T c) (queueFrom T below k (count + 1 - k))) ≤ fuel
       → whole ≡ take count rows ++ map num (lay fuel (count + 1) (job o (T c) (queueFrom T below k (count + 1 - k))))
-      → length (take count rows) ≡ count → length whole ≤ 2016
-      → length below ≡ 2017 → ((j : ℕ) → count < j → getD below j 0 ≡ 0) → ((j : ℕ) → getD below j 0 ≢ 0 → Good (getD below j 0))
-      → Placed rows count (placeNumbers num o (L c) (N c)) below (count + length (L c) + 1) (codes (N c)) rows′ count′ below′
-      → Walking T num Good whole k rows′ count′ below′
+      → length (take count rows) ≡ count → length whole ≤ cap
+      → length below ≡ cap + 1 → ((j : ℕ) → count < j → getD below j 0 ≡ 0) → ((j : ℕ) → getD below j 0 ≢ 0 → Good (getD below j 0))
+      → Joined cap rows count (placeNumbers num o (L c) (N c)) below (count + length (L c) + 1) (codes (N c)) rows′ count′ below′
+      → Walking cap T num Good whole k rows′ count′ below′
   place-step c fuel k o {whole} {rows} {rows′} {below} {below′} {count} {count′} g fr to en e l few wi ze go p =
       let la = length (L c) in
       let lb = length (N c) in
@@ -92,7 +92,7 @@ module _ {A B : Type 0} (T : ℕ → Tree A B) (L : ℕ → List A) (N : ℕ →
       let h : fuel ≡ la + (suc lb + f) = omega (arith, steps) in
       let lc : length cs ≡ lb = codes-length (N c) in
       let lp : length P ≡ la + lb = numbers-length num o (L c) (N c) in
-      let room : count + length P ≤ 2016 = place-room c fuel (count + 1) o Q (take count rows) g en e l few in
+      let room : count + length P ≤ cap = place-room c fuel (count + 1) o Q (take count rows) g en e l few in
       let total : count′ ≡ count + la + length cs = omega (arith, p .pushed .total, lc, lp) in
       let at : k + (n + la) ≡ count + la + 1 = omega (arith, fr, to) in
       let at′ : count + 1 + la ≡ count + la + 1 = omega arith in
@@ -122,24 +122,24 @@ module _ {A B : Type 0} (T : ℕ → Tree A B) (L : ℕ → List A) (N : ℕ →
   top-load c = omega arith
 
   -- the top's place has room
-  pub top-room : (c : ℕ) → Good c → length (write (T c)) ≤ 2016 → 0 + length (placeNumbers num 0 (L c) (N c)) ≤ 2016
+  pub top-room : (c : ℕ) → Good c → length (write (T c)) ≤ cap → 0 + length (placeNumbers num 0 (L c) (N c)) ≤ cap
   unfolding write
   top-room c g few = place-room c (weight (T c)) 1 0 done [] g (top-load c) refl refl (rw (length-map (write (T c)) num) few)
 
   -- the top's place is done
-  pub walking-start : (c : ℕ) {rows rows′ : List ℕ} {count : ℕ} {below below′ : List ℕ} → Good c → below ≡ replicate 2017 0 → length (write (T c)) ≤ 2016
-      → Placed rows 0 (placeNumbers num 0 (L c) (N c)) below (0 + length (L c) + 1) (codes (N c)) rows′ count below′
-      → Walking T num Good (map num (write (T c))) 1 rows′ count below′
+  pub walking-start : (c : ℕ) {rows rows′ : List ℕ} {count : ℕ} {below below′ : List ℕ} → Good c → below ≡ replicate (cap + 1) 0 → length (write (T c)) ≤ cap
+      → Joined cap rows 0 (placeNumbers num 0 (L c) (N c)) below (0 + length (L c) + 1) (codes (N c)) rows′ count below′
+      → Walking cap T num Good (map num (write (T c))) 1 rows′ count below′
   unfolding write queueFrom
   walking-start c g e few p =
       place-step c (weight (T c)) 1 0 g (omega arith) (omega arith) (top-load c) refl refl (rw (length-map (write (T c)) num) few)
-      (ap length e ∙ length-replicate {A = ℕ} 2017 0) (λ j b. zeros-read 2017 e j) (λ j z. absurd (z (zeros-read 2017 e j))) p
+      (ap length e ∙ length-replicate {A = ℕ} (cap + 1) 0) (λ j b. zeros-read (cap + 1) e j) (λ j z. absurd (z (zeros-read (cap + 1) e j))) p
 
   -- ---- row k
 
   -- a row that leads nowhere is passed
   pub walking-next : {whole : List ℕ} {k : ℕ} {rows : List ℕ} {count : ℕ} {below : List ℕ}
-      → Walking T num Good whole k rows count below → k ≤ count → getD below k 0 ≡ 0 → Walking T num Good whole (k + 1) rows count below
+      → Walking cap T num Good whole k rows count below → k ≤ count → getD below k 0 ≡ 0 → Walking cap T num Good whole (k + 1) rows count below
   walking-next {k = k} {count = count} {below = below} w l z =
       let q = queue-past T below k count l z in
       record {
@@ -157,8 +157,8 @@ module _ {A B : Type 0} (T : ℕ → Tree A B) (L : ℕ → List A) (N : ℕ →
 
   -- the place that row k leads to has room
   pub walking-room : {whole : List ℕ} {k : ℕ} {rows : List ℕ} {count : ℕ} {below : List ℕ}
-      → Walking T num Good whole k rows count below → k ≤ count → getD below k 0 ≢ 0 → length whole ≤ 2016
-      → count + length (placeNumbers num k (L (getD below k 0)) (N (getD below k 0))) ≤ 2016
+      → Walking cap T num Good whole k rows count below → k ≤ count → getD below k 0 ≢ 0 → length whole ≤ cap
+      → count + length (placeNumbers num k (L (getD below k 0)) (N (getD below k 0))) ≤ cap
   walking-room {k = k} {rows} {count} {below} w l z few =
       let q = queue-next T below k count l z in
       let Q = queueFrom T below (k + 1) (count + 1 - (k + 1)) in
@@ -167,9 +167,9 @@ module _ {A B : Type 0} (T : ℕ → Tree A B) (L : ℕ → List A) (N : ℕ →
 
   -- the place that row k leads to is done
   pub walking-place : {whole : List ℕ} {k : ℕ} {rows : List ℕ} {count : ℕ} {below rows′ : List ℕ} {count′ : ℕ} {below′ : List ℕ}
-      → Walking T num Good whole k rows count below → k ≤ count → getD below k 0 ≢ 0 → length whole ≤ 2016
-      → Placed rows count (placeNumbers num k (L (getD below k 0)) (N (getD below k 0))) below (count + length (L (getD below k 0)) + 1) (codes (N (getD below k 0))) rows′ count′ below′
-      → Walking T num Good whole (k + 1) rows′ count′ below′
+      → Walking cap T num Good whole k rows count below → k ≤ count → getD below k 0 ≢ 0 → length whole ≤ cap
+      → Joined cap rows count (placeNumbers num k (L (getD below k 0)) (N (getD below k 0))) below (count + length (L (getD below k 0)) + 1) (codes (N (getD below k 0))) rows′ count′ below′
+      → Walking cap T num Good whole (k + 1) rows′ count′ below′
   walking-place {k = k} {rows} {count} {below} w l z few p =
       let q = queue-next T below k count l z in
       place-step (getD below k 0) (w .fuel) (k + 1) k (w .goods k z) (omega arith) (omega arith) (rw (← q) (w .enough)) (w .parts ∙ rw q)
@@ -177,7 +177,7 @@ module _ {A B : Type 0} (T : ℕ → Tree A B) (L : ℕ → List A) (N : ℕ →
 
   -- all rows are done
   pub walking-done : {whole : List ℕ} {k : ℕ} {rows : List ℕ} {count : ℕ} {below : List ℕ}
-      → Walking T num Good whole k rows count below → count < k → take count rows ≡ whole
+      → Walking cap T num Good whole k rows count below → count < k → take count rows ≡ whole
   unfolding queueFrom
   walking-done {k = k} {rows} {count} {below} w l =
       let e : count + 1 - k ≡ 0 = omega arith in

@@ -1,38 +1,34 @@
 -- The specimen below each code: it is laid from the properties and the groups that the code gives, and their codes are codes.
 -- Assumes nothing.
-use Prim.Native.Nat.{_%_, _/_, _<_, _≤_, max, pred, suc, zero, ℕ}
+use Prim.Native.Nat.{_%_, _*_, _+_, _/_, _<_, _≤_, max, pred, suc, zero, ℕ}
 use lib.Dec.{eqb, ltb}
 use lib.ListN.{drop, getD, length}
 use lib.Seq.{drop-cons}
-use mathlib.Core.Bool.{_&&_, false, false≢true, true}
+use mathlib.Core.Bool.{Bool, _&&_, false, false≢true, not, true}
 use mathlib.Core.List.{List, [], _∷_, map}
 use mathlib.Core.Logic.{_≢_}
-use mathlib.Core.Option.{some}
-use mathlib.Core.Path.{_∙_, _≡_, ap, refl}
+use mathlib.Core.Path.{_∙_, _≡_, ap, fun-ext, refl, sym}
 use native.Mathlib.Omega.{arith}
-use Rattle.base.proofs.Missing.{opt-cases}
 use Rattle.base.proofs.Split.{place-of, row-of}
-use Rattle.base.proofs.Tests.{and-left, bool-cases, eq-cases, eq-eqb, eqb-ne, eqb-self, false-of-not, ge-ltb, lt-cases, lt-ltb, ne-eqb, or-cases, or-left, or-right, tests}
-use Rattle.blocks.specs.Promise.{Legal}
+use Rattle.base.proofs.Tests.{and-left, bool-cases, eq-cases, eq-eqb, eqb-self, ge-ltb, lt-cases, lt-ltb, ne-eqb, or-cases, or-left, or-right, tests}
 use Rattle.blocks.specs.declared.Entry.{Entry}
-use Rattle.blocks.specs.declared.Schema.the-variants.{Description}
-use Rattle.compare.proofs.table.PlaceBelow.{sub-place}
-use Rattle.compare.proofs.table.TablePlaces.{places-normal}
-use Rattle.compare.specs.code.Codes.{codeBelow, groupsAt, propertiesAt, targetAt, targetBelow, treeAt}
+use Rattle.compare.proofs.path.PathLaws.{length-up}
+use Rattle.compare.specs.code.Codes.{OnPath, codeBy, countBy, groupBy, jointsBy, propertiesBy, targetAt, targetBelow, targetBy, treeBy, upFrom}
 use Rattle.compare.specs.code.Laying.{codes, joint, joints, leaves}
-use Rattle.compare.specs.code.Table.{Table, placeBelow}
 use Rattle.logic.proofs.SpecimenTrees.Names.{member-names}
 use Rattle.logic.proofs.SpecimenTrees.WitnessTree.{below-witness}
 use Rattle.logic.proofs.TreeRows.FillLaws.{Codes}
-use Rattle.logic.specs.Background.{unrestricted}
-use Rattle.logic.specs.Canonical.{Canonical, canonical}
 use Rattle.logic.specs.Normal.{find, found}
 use Rattle.logic.specs.Place.{Atom, Place, atom, has, lacks, least, most, nothing}
 use Rattle.logic.specs.SpecimenTree.{Group, SpecimenTree, group}
-use Rattle.logic.specs.Witness.{Target, below, build, countFor, groupsBy, member, names, next, off, on, targetLinks, want, withProperties, witness}
-use Rattle.meaning.proofs.Descriptions.Lookups.{match-within}
-use Rattle.meaning.specs.Description.{placeOf}
-use Rattle.meaning.specs.Lookup.{entryFor}
+use Rattle.logic.specs.Witness.{Target, below, build, countFor, groupsBy, member, names, next, off, on, orZero, targetLinks, want, withProperties, witness}
+use Rattle.meaning.specs.Description.{atomOf}
+use Rattle.passes.specs.code.Slots.{value}
+use Rattle.slots.proofs.HoldingLaws.{slot-small}
+use Rattle.slots.proofs.TableSearch.{slots-many}
+use Rattle.slots.specs.code.States.{nowhere}
+use Rattle.slots.specs.code.TablePlaces.{Stood, allSlots, belowIn, leastIn, mostIn, placeIn, slotBy, usedIn}
+use Rattle.slots.specs.code.Tables.{highPart}
 
 -- ---- the target, by its number
 
@@ -88,84 +84,106 @@ groups-joints f s T c [] e z = refl
 groups-joints f s T c (l ∷ ls) e z =
     rw (ne-eqb (z l (or-left (member l ls) (eqb-self l))), groups-joints f s T c ls e (λ i h. z i (or-right (eqb i l) h)), e l)
 
--- a normal place lists no 'at least 0'
-least-counts : (t : Place) → Canonical unrestricted t → (l m : ℕ) → find least l t ≡ some m → m ≢ 0
-least-counts t (canonical a c d s) l m e = eqb-ne (false-of-not (eqb m 0) (c least l m e .1))
+-- ---- the slots of a place
 
--- the links of a normal place and of its target all have items
-names-count : (t : Place) → Canonical unrestricted t → (g : Target) (l : ℕ) → member l (names least t (targetLinks g)) ≡ true → countFor t g l ≢ 0
-names-count t normal g l h z =
-    or-cases (found (find least l t)) (member l (targetLinks g)) (rw member-names at h)
-    (λ q. opt-cases (find least l t)
-    (λ e. false≢true (rw e at q))
-    (λ m e. least-counts t normal l m e (let y : max m (want g l) ≡ 0 = rw e at z in omega arith)))
-    (λ q. omega (arith, want-some g l q))
+module _ {t : List ℕ} (s : Stood t) where
+  -- a slot that is found is one of the table
+  pub slot-within : (v : ℕ) (b : Bool) (n : ℕ) → slotBy t v b n ≤ usedIn t
+  slot-within v b n = omega (arith, slot-small (allSlots t) v b n, slots-many t 1 (usedIn t))
 
--- ---- the codes below a place
+  -- "N's at least there (0 if none)"
+  pub least-in : (v l : ℕ) → orZero (find least l (placeIn t v)) ≡ leastIn t (slotBy t v true l)
+  least-in v l =
+      let lo : ℕ = leastIn t (slotBy t v true l) in
+      rw (s .lists v least l) (eq-cases lo 0 (λ z. rw (eq-eqb z, z)) (λ z. rw (ne-eqb z)))
 
-module _ (es : List Entry) (few : length es ≤ 1008) where
-  -- the place below a link has a number, and one that fits a code
-  pub place-some : (v l : ℕ) → 1 ≤ placeBelow es v l
-  unfolding placeBelow
-  place-some v l = eq-cases (entryFor es v 5 l) 0 (λ z. rw (eq-eqb z) (omega arith)) (λ z. rw (ne-eqb z) (omega arith))
+  -- an 'at least' is listed where the slot has one
+  pub least-listed : (v l : ℕ) → found (find least l (placeIn t v)) ≡ not (eqb (leastIn t (slotBy t v true l)) 0)
+  least-listed v l =
+      let lo : ℕ = leastIn t (slotBy t v true l) in
+      rw (s .lists v least l) (bool-cases (eqb lo 0) (λ z. rw z) (λ z. rw z))
 
-  pub place-small : (v l : ℕ) → placeBelow es v l < 1024
-  unfolding placeBelow
-  place-small v l =
-      eq-cases (entryFor es v 5 l) 0 (λ z. rw (eq-eqb z) (omega arith)) (λ z. rw (ne-eqb z) (omega (arith, match-within es v 5 l)))
+  -- the place below a slot has a number, and one that fits a code
+  pub below-some : (j : ℕ) → 1 ≤ belowIn t j
+  unfolding belowIn
+  below-some j =
+      eq-cases j 0
+      (λ z. rw (eq-eqb z) (omega arith))
+      (λ z. rw (ne-eqb z) (bool-cases (eqb (highPart (getD t j 0)) 0) (λ q. rw q (omega arith)) (λ q. rw q (omega arith))))
 
-  module _ (w : List ℕ) (c l : ℕ) where
+  pub below-small : (j : ℕ) → j ≤ usedIn t → belowIn t j < 1024
+  unfolding belowIn
+  below-small j h =
+      bool-cases (eqb j 0)
+      (λ z. rw z (omega arith))
+      (λ z. rw z (bool-cases (eqb (highPart (getD t j 0)) 0) (λ q. rw q (omega arith)) (λ q. rw q (omega (arith, s .few)))))
+
+  module _ (links : List ℕ) (m c l : ℕ) where
+    -- the number of the slot of a link of the place
+    abbrev under : ℕ
+    under = belowIn t (slotBy t (c % 1024) true l)
+
+    under-small : under < 1024
+    under-small = below-small (slotBy t (c % 1024) true l) (slot-within (c % 1024) true l)
+
     -- the place and the target of the code that a link leads to
-    pub code-place : codeBelow es w c l % 1024 ≡ placeBelow es (c % 1024) l
-    unfolding codeBelow
-    code-place = place-of {r = 1024} (targetBelow w (c / 1024) l) (placeBelow es (c % 1024) l) (place-small (c % 1024) l)
+    code-place : codeBy t links m c l % 1024 ≡ belowIn t (slotBy t (c % 1024) true l)
+    code-place = place-of {r = 1024} (targetBelow (upFrom links m) (c / 1024) l) under under-small
 
-    pub code-target : codeBelow es w c l / 1024 ≡ targetBelow w (c / 1024) l
-    unfolding codeBelow
-    code-target = row-of {r = 1024} (targetBelow w (c / 1024) l) (placeBelow es (c % 1024) l) (place-small (c % 1024) l)
+    code-target : codeBy t links m c l / 1024 ≡ targetBelow (upFrom links m) (c / 1024) l
+    code-target = row-of {r = 1024} (targetBelow (upFrom links m) (c / 1024) l) under under-small
 
-    -- a code is not 0, and fits 2 bytes
-    pub code-some : 1 ≤ codeBelow es w c l
-    unfolding codeBelow
-    code-some = omega (arith, place-some (c % 1024) l)
+    -- a code is not 0
+    code-some : 1 ≤ codeBy t links m c l
+    code-some = omega (arith, below-some (slotBy t (c % 1024) true l))
 
--- codes that are all good
-codes-each : (Good : ℕ → Type 0) (b : ℕ → Group) (d : ℕ → ℕ) (ls : List ℕ) → ((l : ℕ) → (d l ≢ 0) × Good (d l))
-    → Codes Good (codes (map (λ l. joint (b l) (d l)) ls))
-unfolding codes
-codes-each Good b d [] h = tt
-codes-each Good b d (l ∷ ls) h = (h l .0, h l .1, codes-each Good b d ls h)
+    code-path : OnPath m (codeBy t links m c l)
+    code-path = omega (arith, code-target, target-most (upFrom links m) (c / 1024) l, length-up links m)
 
--- the codes of the groups below a code lead to places, and to targets on the path
-pub codes-good : (es : List Entry) → length es ≤ 1008 → (w : List ℕ) (a : Atom) (c : ℕ)
-    → Codes (λ d. d / 1024 ≤ suc (length w)) (codes (groupsAt es w a c))
-unfolding groupsAt
-codes-good es few w a c =
-    let t : Place = placeOf es (c % 1024) in
-    let g : Target = targetAt w a (c / 1024) in
-    codes-each (λ d. d / 1024 ≤ suc (length w)) (λ l. group l (pred (countFor t g l))) (codeBelow es w c) (names least t (targetLinks g))
-    (λ l. (λ z. omega (arith, code-some es few w c l), omega (arith, code-target es few w c l, target-most w (c / 1024) l)))
+  -- ---- the specimen below a code
 
--- ---- the specimen below a code
+  module _ (links : List ℕ) (m : ℕ) (e : Entry) (c : ℕ) where
+    abbrev here : Place
+    here = placeIn t (c % 1024)
 
-module _ (es : List Entry) (legal : Legal Description es) (normal : Canonical unrestricted (placeOf es 0)) (form : List ℕ) (k : ℕ)
-    (table : Table es form k) where
-  module _ (w : List ℕ) (a : Atom) (c : ℕ) where
+    abbrev aim : Target
+    aim = targetBy links m e c
+
+    -- the counts of its groups
+    counts : countFor here aim ≡ countBy t links m e c
+    counts = fun-ext (λ l. ap (λ (x : ℕ). max x (want aim l)) (least-in (c % 1024) l))
+
+    -- the links of a place and of its target all have items
+    counted : (l : ℕ) → member l (names least here (targetLinks aim)) ≡ true → countBy t links m e c l ≢ 0
+    counted l h z =
+        or-cases (found (find least l here)) (member l (targetLinks aim)) (rw member-names at h)
+        (λ q.
+        let lo : ℕ = leastIn t (slotBy t (c % 1024) true l) in
+        let some : not (eqb lo 0) ≡ true = sym (least-listed (c % 1024) l) ∙ q in
+        eq-cases lo 0 (λ y. false≢true (rw (eq-eqb y) at some)) (λ y. omega arith))
+        (λ q. omega (arith, want-some aim l q))
+
     -- what stands below the code that a link leads to
-    tree-below : (l : ℕ) → below (placeOf es (c % 1024)) l (next (targetAt w a (c / 1024)) l) ≡ treeAt es w a (codeBelow es w c l)
-    unfolding treeAt
+    tree-below : (l : ℕ) → below here l (next aim l) ≡ treeBy t links m e (codeBy t links m c l)
     tree-below l =
-        let few : length es ≤ 1008 = omega (arith, table .few, table .total) in
-        below-witness (placeOf es (c % 1024)) l (next (targetAt w a (c / 1024)) l)
-        ∙ rw (code-place es few w c l, code-target es few w c l, sub-place es legal few (c % 1024) l, next-target w a (c / 1024) l)
+        below-witness here l (next aim l)
+        ∙ rw (code-place links m c l, code-target links m c l, s .owns (c % 1024) l, next-target (upFrom links m) (atomOf e) (c / 1024) l)
 
     -- what stands below a code: its properties, and its groups with what stands below theirs
-    pub tree-places : treeAt es w a c ≡ leaves (propertiesAt es w a c) (joints (treeAt es w a) (groupsAt es w a c))
-    unfolding treeAt witness build propertiesAt groupsAt
+    pub tree-places : treeBy t links m e c ≡ leaves (propertiesBy t links m e c) (joints (treeBy t links m e) (jointsBy t links m e c))
+    unfolding witness build
     tree-places =
-        let t : Place = placeOf es (c % 1024) in
-        let g : Target = targetAt w a (c / 1024) in
         properties-leaves _ _
-        ∙ ap (λ (s : SpecimenTree). leaves (propertiesAt es w a c) s)
-        (groups-joints (countFor t g) (λ l. below t l (next g l)) (treeAt es w a) (codeBelow es w c) (names least t (targetLinks g)) tree-below
-        (names-count t (places-normal es legal normal form k table (c % 1024)) g))
+        ∙ ap (λ (x : SpecimenTree). leaves (propertiesBy t links m e c) x)
+        (rw counts
+        (groups-joints (countBy t links m e c) (λ l. below here l (next aim l)) (treeBy t links m e) (codeBy t links m c)
+        (names least here (targetLinks aim)) tree-below counted))
+
+    codes-each : (ls : List ℕ) → Codes (OnPath m) (codes (map (groupBy t links m e c) ls))
+    unfolding codes
+    codes-each [] = tt
+    codes-each (l ∷ ls) = ((λ z. omega (arith, code-some links m c l)), code-path links m c l, codes-each ls)
+
+    -- the codes of its groups lead to places, and to targets on the path
+    pub codes-good : Codes (OnPath m) (codes (jointsBy t links m e c))
+    codes-good = codes-each (names least here (targetLinks aim))

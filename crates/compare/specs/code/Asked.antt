@@ -1,9 +1,9 @@
--- What a place is asked for, as names: the enums of src/asked.rt. No public promise names these.
+-- What a place is asked for, as names and numbers: the enums of src/asked.rt. No public promise names these.
 -- Assumes nothing.
 use Prim.Native.Nat.{_<_, ℕ}
+use lib.Dec.{eqb}
+use mathlib.Core.Bool.{cond}
 use mathlib.Core.List.{List, [], _∷_}
-use mathlib.Core.Path.{_≡_}
-use Rattle.compare.specs.code.Table.{namesAround, namesIn}
 use Rattle.compare.specs.declared.asked.AskedLink.{AskedLink}
 use Rattle.compare.specs.declared.asked.AskedLink.the-variants as link
 use Rattle.compare.specs.declared.asked.AskedProperty.{AskedProperty}
@@ -16,13 +16,20 @@ propertyIn (property.Property p) = p .0 ∷ []
 
 abbrev pub linkIn : AskedLink → List ℕ
 linkIn link.Nothing = []
-linkIn (link.Link l) = l .0 ∷ []
+linkIn (link.Items l n c) = l .0 ∷ []
 
--- a name, if there is one, is of two bytes
-abbrev pub Small : List ℕ → Type 0
-Small xs = (x : ℕ) → xs ≡ x ∷ [] → x < 65536
+-- how many items of link x are asked for
+abbrev pub leastAsked : AskedLink → ℕ → ℕ
+leastAsked link.Nothing x = 0
+leastAsked (link.Items l n c) x = cond (eqb x (l .0)) n 0
 
--- the properties of place v, and once the one that is asked for
-abbrev pub namesWith : List ℕ → ℕ → ℕ → AskedProperty → List ℕ
-namesWith form k v property.Nothing = namesIn form k v 1
-namesWith form k v (property.Property p) = namesAround form k v 1 (p .0)
+-- the code of the target that they lead to
+abbrev pub codeAsked : AskedLink → ℕ → ℕ
+codeAsked link.Nothing x = 0
+codeAsked (link.Items l n c) x = cond (eqb x (l .0)) c 0
+
+-- at most one name, of two bytes
+abbrev pub One : List ℕ → Type 0
+One [] = Unit {0}
+One (x ∷ []) = x < 65536
+One (x ∷ y ∷ xs) = ⊥

@@ -3,7 +3,6 @@
 -- Assumes nothing.
 use Prim.Native.Nat.{ℕ}
 use mathlib.Core.List.{List, [], _++_, _∷_, map}
-use Rattle.logic.specs.Filling.{Filled, Joined}
 use Rattle.logic.specs.Tree.{Row, Tree, end, leaf, leafRow, node, nodeRow}
 
 -- a node, and the code of the place below it
@@ -34,14 +33,6 @@ module _ {A B : Type 0} where
 unfoldable pub codes : {B : Type 0} → List (Joint B) → List ℕ
 codes [] = []
 codes (joint b c ∷ js) = c ∷ codes js
-
--- numbers are pushed onto a table of 2,016, which has `from` of them, and then has r
-abbrev pub Pushed : List ℕ → ℕ → List ℕ → List ℕ → ℕ → Type 0
-Pushed rows from L rows′ r = Filled 2016 rows from L rows′ r
-
--- numbers are pushed, and codes noted from row `at` on
-abbrev pub Placed : List ℕ → ℕ → List ℕ → List ℕ → ℕ → List ℕ → List ℕ → ℕ → List ℕ → Type 0
-Placed rows from L below at cs rows′ r below′ = Joined 2016 rows from L below at cs rows′ r below′
 
 -- the numbers of the rows of a place, of owner o, from its leaves and nodes
 abbrev pub placeNumbers : {A B : Type 0} → (Row A B → ℕ) → ℕ → List A → List (Joint B) → List ℕ

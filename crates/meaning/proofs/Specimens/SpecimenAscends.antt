@@ -10,7 +10,7 @@ use native.Mathlib.Omega.{arith}
 use Rattle.base.proofs.Tests.{and-both, bool-cases, eqb-self, lt-ltb, neither-left, neither-right, or-left, or-right, tests}
 use Rattle.base.specs.Ascending.{Sorted}
 use Rattle.blocks.specs.declared.Entry.{Entry}
-use Rattle.logic.proofs.SpecimenTrees.IncreasingNames.{Increasing}
+use Rattle.logic.proofs.SpecimenTrees.IncreasingNames.{Increasing, links-increasing, names-increasing, properties-increasing}
 use Rattle.logic.specs.Normal.{before, rank}
 use Rattle.logic.specs.Place.{Kind, Place, atom, has, lacks, least, most, nothing}
 use Rattle.logic.specs.SpecimenTree.{Group, SpecimenTree, group}
@@ -20,46 +20,6 @@ use Rattle.meaning.proofs.Descriptions.LaidAscends.{After, Deep, Keyed,
 use Rattle.meaning.specs.Description.{linksTo}
 use Rattle.meaning.specs.RowEntries.{entryBefore}
 use Rattle.meaning.specs.SpecimenFor.{rowEntry, specimenEntries, specimenFor}
-
--- ---- names put into a list ascend
-
-put-increasing : (b x : ℕ) (ys : List ℕ) → b ≤ x → member x ys ≡ false → Increasing b ys → Increasing b (putAscending x ys)
-unfolding putAscending member
-put-increasing b x [] l m h = (l, tt)
-put-increasing b x (y ∷ ys) l m h =
-    let n : eqb x y ≡ false = neither-left (eqb x y) (member x ys) m in
-    bool-cases (ltb x y)
-    (λ q. rw q (l, (omega tests, h .1)))
-    (λ q. rw q (h .0, put-increasing (suc y) x ys (omega tests) (neither-right (eqb x y) (member x ys) m) (h .1)))
-
-once-increasing : (x : ℕ) (ys : List ℕ) → Increasing 0 ys → Increasing 0 (once x ys)
-unfolding once
-once-increasing x ys h = bool-cases (member x ys) (λ q. rw q h) (λ q. rw q (put-increasing 0 x ys (omega arith) q h))
-
-names-increasing : (k : Kind) (t : Place) (ys : List ℕ) → Increasing 0 ys → Increasing 0 (names k t ys)
-unfolding names
-names-increasing k end ys h = h
-names-increasing k (leaf (atom k′ n m) r) ys h =
-    bool-cases (eqb (rank k) (rank k′)) (λ q. rw q (once-increasing n (names k r ys) (names-increasing k r ys h))) (λ q. rw q (names-increasing k r ys h))
-names-increasing k (node l s r) ys h = names-increasing k r ys h
-
-links-increasing : (g : Target) → Increasing 0 (targetLinks g)
-links-increasing off = tt
-links-increasing (on [] (atom has n m)) = tt
-links-increasing (on [] (atom lacks n m)) = tt
-links-increasing (on [] (atom least n m)) = tt
-links-increasing (on [] (atom most n m)) = (omega arith, tt)
-links-increasing (on [] (atom nothing n m)) = tt
-links-increasing (on (l ∷ w) a) = (omega arith, tt)
-
-properties-increasing : (g : Target) → Increasing 0 (targetProperties g)
-properties-increasing off = tt
-properties-increasing (on [] (atom has n m)) = tt
-properties-increasing (on [] (atom lacks n m)) = (omega arith, tt)
-properties-increasing (on [] (atom least n m)) = tt
-properties-increasing (on [] (atom most n m)) = tt
-properties-increasing (on [] (atom nothing n m)) = tt
-properties-increasing (on (l ∷ w) a) = tt
 
 -- ---- places
 

@@ -95,6 +95,25 @@ module _ (f : ℕ → Bool) where
   unfolding firstFrom
   first-stops n e h q = rw (one-left n e h, firstFrom, q)
 
+  -- ---- a loop that takes `count` at a time
+
+  pub first-later : (n count e : ℕ) → 1 ≤ n → n + count ≤ e → firstFrom f n count ≡ 0 → firstFrom f n (e - n) ≡ firstFrom f (n + count) (e - (n + count))
+  unfolding firstFrom
+  first-later n zero e pos le z = let s : n + 0 ≡ n = omega arith in rw s
+  first-later n (suc count) e pos le z =
+      let s : n + suc count ≡ suc n + count = omega arith in
+      bool-cases (f n)
+      (λ q. rw (one-left n e (omega arith), firstFrom, q, s, add-one n) (first-later (suc n) count e (omega arith) (omega arith) (rw q at z)))
+      (λ q. let y : n ≡ 0 = rw q at z in absurd (omega arith))
+
+  pub first-sooner : (n count e : ℕ) {k : ℕ} → n + count ≤ e → k ≡ firstFrom f n count → k ≢ 0 → firstFrom f n (e - n) ≡ k
+  unfolding firstFrom
+  first-sooner n zero e le z y = absurd (y z)
+  first-sooner n (suc count) e le z y =
+      bool-cases (f n)
+      (λ q. rw (one-left n e (omega arith), firstFrom, q, add-one n) (first-sooner (suc n) count e (omega arith) (rw q at z) y))
+      (λ q. rw (one-left n e (omega arith), firstFrom, q) (sym (rw q at z)))
+
 -- tests that agree find the same number
 pub first-same : (f g : ℕ → Bool) (n left : ℕ) → ((j : ℕ) → n ≤ j → j < n + left → f j ≡ g j) → firstFrom f n left ≡ firstFrom g n left
 unfolding firstFrom

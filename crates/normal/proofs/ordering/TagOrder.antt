@@ -11,7 +11,7 @@ use native.Mathlib.Omega.{arith}
 use Rattle.base.proofs.AscendingLaws.{Within, sort-within, within-sort}
 use Rattle.base.proofs.Tests.{bool-cases, both-ways, ltb-lt, tests}
 use Rattle.base.specs.Ascending.{Sorted}
-use Rattle.normal.proofs.ordering.Rising.{Different, sorted-map, sorted-rising, within-map}
+use Rattle.sorting.proofs.Rising.{Different, sorted-map, sorted-rising, within-map}
 use Rattle.normal.proofs.ordering.TagLaws.{length-numbers, number-key, number-slot}
 use Rattle.normal.specs.code.Ordered.{tagCell, tagIn, tagNumber, tagNumbers, tagPlace, tagSlot}
 use Rattle.passes.proofs.SlotLists.KeyLaws.{key-below, key-parts}

@@ -2,7 +2,7 @@
 -- Assumes nothing.
 use Prim.Native.Nat.{_+_, _-_, _/_, _<_, _≤_, suc, zero, ℕ}
 use lib.Dec.{eqb, leb}
-use lib.ListN.{List·getD-eq-default, getD, length, length-map, length-replicate, replicate, take}
+use lib.ListN.{getD, length, length-map, length-replicate, replicate, take}
 use lib.Seq.{getD-take}
 use mathlib.Core.Bool.{Bool, false, not, true}
 use mathlib.Core.List.{List, [], _∷_, map}
@@ -12,7 +12,7 @@ use native.Mathlib.Omega.{arith}
 use Rattle.base.proofs.AscendingLaws.{sort-within}
 use Rattle.base.proofs.Elements.{member-at}
 use Rattle.base.proofs.Parts.{length-low, length-put-low, lowOf, putLow, take-low}
-use Rattle.base.proofs.Tests.{bool-cases, eq-cases, eq-eqb, lt-cases, ne-eqb}
+use Rattle.base.proofs.Tests.{bool-cases, eq-cases, eq-eqb, ne-eqb}
 use Rattle.base.specs.Range.{bit}
 use Rattle.blocks.specs.Entries.{entriesOf}
 use Rattle.logic.specs.Background.{unrestricted}
@@ -30,12 +30,10 @@ use Rattle.normal.specs.code.Emitted.{Orderable, Walkable, allRows, keep
 use Rattle.normal.specs.code.Ordered.{firstOfPlace, otherPlace, runFrom, runOf, tagNumbers, tagPlace, tagSlot}
 use Rattle.passes.proofs.Emission.Exact.{normal-exact, normal-length}
 use Rattle.passes.proofs.Emission.WalkRows.{places}
-use Rattle.passes.proofs.SlotLists.KeyLaws.{slots-small}
-use Rattle.passes.proofs.SlotLists.SlotLaws.{slots-early, slots-length}
 use Rattle.passes.specs.code.Pipeline.{enoughFor, keeping, normalRows, rowsFrom}
 use Rattle.passes.specs.code.Slots.{inconsistent, low, nonempty, settled, slot, slots}
-use Rattle.slots.proofs.PassLaws.{all-bounded, low-at, nonempty-far, rows-small, small-settled}
-use Rattle.slots.specs.code.Tables.{Settled, keyIn, lowPart}
+use Rattle.slots.proofs.PassLaws.{settled-low}
+use Rattle.slots.specs.code.Tables.{Settled, Tabled, keyIn}
 use Rattle.sorting.specs.Sorted.{sorted}
 
 -- ---- the ordered slots
@@ -47,22 +45,16 @@ number-at t z used e l i h =
     let n : i < length (sorted (tagNumbers t 1 used)) = omega (arith, numbers-many t used, h) in
     rw m (numbers-slot t 1 used _ (sort-within leb (tagNumbers t 1 used) _ (member-at 0 (sorted (tagNumbers t 1 used)) i n)))
 
-pub settled-low : {d : List ℕ} {used : ℕ} {t bad full : List ℕ} → Settled d used t bad full → (j : ℕ) → 1 ≤ j → j ≤ used → lowPart (getD t j 0) < 65536
-settled-low {d} {used} {t} s j lo hi =
-    let rs = map rowOf (entriesOf d) in
-    let small = small-settled 1 (slots rs) (slots-small rs (rows-small (entriesOf d) (all-bounded d (s .bounded) .each))) in
-    low-at t 1 used (rw (← s .slotted) at small) j lo (omega arith)
-
-place-small : {d : List ℕ} {used : ℕ} {t bad full : List ℕ} {x : ℕ} → Settled d used t bad full → Numbers t 1 used x → tagPlace x < 1009
+place-small : {d : List ℕ} {used : ℕ} {t : List ℕ} {x : ℕ} → Tabled d used t → Numbers t 1 used x → tagPlace x < 1009
 unfolding tagPlace
 place-small {t = t} s n =
     let k = ap (λ (y : ℕ). y / 1024) (n .is) ∙ number-key (keyIn (getD t (n .at) 0)) (n .at) (omega (arith, n .to, s .few)) in
     rw k (omega (arith, s .lower (n .at) (n .from) (omega (arith, n .to)), n .to, s .few))
 
-slot-number : {d : List ℕ} {used : ℕ} {t bad full : List ℕ} {x : ℕ} → Settled d used t bad full → (n : Numbers t 1 used x) → tagSlot x ≡ n .at
+slot-number : {d : List ℕ} {used : ℕ} {t : List ℕ} {x : ℕ} → Tabled d used t → (n : Numbers t 1 used x) → tagSlot x ≡ n .at
 slot-number {t = t} s n = ap tagSlot (n .is) ∙ number-slot (keyIn (getD t (n .at) 0)) (n .at) (omega (arith, n .to, s .few))
 
-settled-walkable : {d : List ℕ} {used : ℕ} {t bad full z : List ℕ} → Settled d used t bad full → length z ≡ 1008 → take used z ≡ sorted (tagNumbers t 1 used) → Walkable t z used
+settled-walkable : {d : List ℕ} {used : ℕ} {t z : List ℕ} → Tabled d used t → length z ≡ 1008 → take used z ≡ sorted (tagNumbers t 1 used) → Walkable t z used
 settled-walkable {d} {used} {t} {z = z} s l e =
     let room : used ≤ length z = omega (arith, l, s .few) in
     let num : (i : ℕ) → i < used → Numbers t 1 used (getD z i 0) = λ i h. number-at t z used e room i h in
@@ -75,7 +67,7 @@ settled-walkable {d} {used} {t} {z = z} s l e =
     }
 
 -- settled slots can be ordered
-pub settled-orderable : {d : List ℕ} {used : ℕ} {t bad full : List ℕ} → Settled d used t bad full → Orderable t used
+pub settled-orderable : {d : List ℕ} {used : ℕ} {t : List ℕ} → Tabled d used t → Orderable t used
 settled-orderable s = record { few = s .few; walkable = λ z l e. settled-walkable s l e }
 
 -- the table before any number stands in it
@@ -113,14 +105,11 @@ mark-test : (b : Bool) → not (eqb (bit b) 0) ≡ b
 mark-test true = refl
 mark-test false = refl
 
-pub keeps-same : {d : List ℕ} {used : ℕ} {t bad full : List ℕ} → Settled d used t bad full → length (entriesOf d) ≤ 1008 → keepIn full ≡ keeping (slots (map rowOf (entriesOf d)))
-keeps-same {d} {full = full} s few =
+pub keeps-same : {d : List ℕ} {used : ℕ} {t bad full : List ℕ} → Settled d used t bad full → keepIn full ≡ keeping (slots (map rowOf (entriesOf d)))
+keeps-same {d} {full = full} s =
     let rs = map rowOf (entriesOf d) in
-    let far : length (slots rs) ≤ 1008 = omega (arith, slots-length rs, length-map (entriesOf d) rowOf, few) in
     let mark : (j : ℕ) → not (eqb (getD full j 0) 0) ≡ nonempty 1 (settled 1 (slots rs)) j = λ j.
-    lt-cases j 1009
-    (λ l. rw (s .fulls j l) (mark-test (nonempty 1 (settled 1 (slots rs)) j)))
-    (λ l. rw (List·getD-eq-default full 0 {n = j} (omega (arith, s .full-size)), nonempty-far 1 (slots rs) j (slots-early rs) (omega (arith, far)))) in
+    rw (s .fulls j) (mark-test (nonempty 1 (settled 1 (slots rs)) j)) in
     fun-ext (λ j. fun-ext (λ b. fun-ext (λ hi. rw (mark j))))
 
 -- ---- all passes
@@ -132,15 +121,15 @@ unfolding allRows rowsFrom placeOf
 rows-alive {d} {used} {t} s few z =
     let rs = map rowOf (entriesOf d) in
     let places : enoughFor rs ≤ 2018 = omega (arith, length-map (entriesOf d) rowOf, few) in
-    let lives : inconsistent 1 (slots rs) 0 ≡ false = bool-cases (inconsistent 1 (slots rs) 0) (λ e. absurd (omega (arith, z, s .bads 0 (omega arith) ∙ ap bit e))) (λ e. e) in
-    rw (keeps-same s few) (rw (rowsFrom, lives) at (normal-ordered rs t used (s .few) (s .slotted) (s .apart) 2018 places))
+    let lives : inconsistent 1 (slots rs) 0 ≡ false = bool-cases (inconsistent 1 (slots rs) 0) (λ e. absurd (omega (arith, z, s .bads 0 ∙ ap bit e))) (λ e. e) in
+    rw (keeps-same s) (rw (rowsFrom, lives) at (normal-ordered rs t used (s .tabled .few) (s .tabled .slotted) (s .tabled .apart) 2018 places))
 
 rows-bottom : {d : List ℕ} {used : ℕ} {t bad full : List ℕ} → Settled d used t bad full → getD bad 0 0 ≢ 0
     → write (nf unrestricted (placeOf (entriesOf d) 0)) ≡ leafRow 0 (atom nothing 0 0) ∷ []
 unfolding normalRows rowsFrom placeOf
 rows-bottom {d} s z =
     let rs = map rowOf (entriesOf d) in
-    let falls : inconsistent 1 (slots rs) 0 ≡ true = bool-cases (inconsistent 1 (slots rs) 0) (λ e. e) (λ e. absurd (z (s .bads 0 (omega arith) ∙ ap bit e))) in
+    let falls : inconsistent 1 (slots rs) 0 ≡ true = bool-cases (inconsistent 1 (slots rs) 0) (λ e. e) (λ e. absurd (z (s .bads 0 ∙ ap bit e))) in
     sym (normal-exact rs) ∙ rw (normalRows, rowsFrom, falls)
 
 -- the rows by the tables are those of the normal form

@@ -20,15 +20,15 @@ use Rattle.logic.specs.Place.{Atom, Kind, Place}
 use Rattle.logic.specs.Record.{Record, fits}
 use Rattle.logic.specs.Tree.{Row, tree}
 use Rattle.passes.proofs.CellPlaces.FormMeaning.{cellWhole, cells-mean, cells-say, inconsistent-cells, inconsistent-empty}
-use Rattle.passes.proofs.CellPlaces.Forms.{Formed, form, form-written, formed-here, formed-next}
+use Rattle.passes.proofs.CellPlaces.Forms.{Formed, form-written, formed-here, formed-next}
 use Rattle.passes.proofs.Cells.CellLaws.{all-sort, cells-distinct, cells-sorted, lookup-sort}
-use Rattle.passes.proofs.Cells.CellsWritten.{kept, written}
 use Rattle.passes.proofs.Cells.WrittenLists.{below, listed, written-find, written-sub}
 use Rattle.passes.proofs.Cells.WrittenMeaning.{cellFits, cellSays, written-end, written-fits}
 use Rattle.passes.proofs.Cells.WrittenNormal.{written-normal}
 use Rattle.passes.proofs.Cells.WrittenPasses.{allCells}
 use Rattle.passes.proofs.SlotLists.BuildSound.{slots-sound}
 use Rattle.passes.proofs.SlotLists.SlotLaws.{slots-distinct, slots-early}
+use Rattle.passes.specs.code.Forms.{form, kept, written}
 use Rattle.passes.specs.code.Pipeline.{beforeCell, sortedCells}
 use Rattle.passes.specs.code.Slots.{Cell, DistinctSlots, EarlySlots, Slot, cell, cells, closed, inconsistent, isLink, lookup, nonempty, settled, slot, slots}
 

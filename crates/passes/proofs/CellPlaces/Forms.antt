@@ -12,18 +12,10 @@ use Rattle.base.specs.Ascending.{sort}
 use Rattle.logic.specs.Place.{Place}
 use Rattle.logic.specs.Tree.{end}
 use Rattle.passes.proofs.Cells.CellLaws.{cells-from, cells-skip}
-use Rattle.passes.proofs.Cells.CellsWritten.{ofEvery, ofKind, written, written-agree}
+use Rattle.passes.proofs.Cells.CellsWritten.{written-agree}
+use Rattle.passes.specs.code.Forms.{form, formed, ofEvery, ofKind, written}
 use Rattle.passes.specs.code.Pipeline.{beforeCell, sortedCells}
 use Rattle.passes.specs.code.Slots.{EarlySlots, Slot, cell, cells}
-
--- the place below slot j, for the slots that count from k
-unfoldable pub formed : ℕ → List Slot → ℕ → Place
-formed k [] j = end
-formed k (s ∷ ss) j = cond (eqb j k) (written (λ i. formed (suc k) ss i) (sort beforeCell (cells (suc k) ss k))) (formed (suc k) ss j)
-
--- the place of number v: the top, or the place below slot v
-unfoldable pub form : List Slot → ℕ → Place
-form ss v = cond (eqb v 0) (written (λ i. formed 1 ss i) (sortedCells ss 0)) (formed 1 ss v)
 
 -- each place from number k on is written from its cells
 abbrev pub Formed : (ℕ → Place) → ℕ → List Slot → Type 0

@@ -15,32 +15,9 @@ use Rattle.logic.specs.Normal.{atMost, before, isEnd, rank}
 use Rattle.logic.specs.Place.{Kind, Place, atom, has, lacks, least, most}
 use Rattle.logic.specs.Tree.{end, leaf, node}
 use Rattle.passes.proofs.SlotLists.SlotLaws.{class-eq}
+use Rattle.passes.specs.code.Forms.{kept, leafIf, ofEvery, ofKind, written}
 use Rattle.passes.specs.code.Pipeline.{beforeCell}
 use Rattle.passes.specs.code.Slots.{Cell, cell, isLink, sameClass, value}
-
--- ---- the place
-
-abbrev pub leafIf : Kind → ℕ → Option ℕ → Place → Place
-leafIf a n none r = r
-leafIf a n (some m) r = leaf (atom a n m) r
-
--- the entries of one kind, then r
-unfoldable pub ofKind : Kind → List Cell → Place → Place
-ofKind a [] r = r
-ofKind a (cell j b n lo hi ∷ q) r = cond (sameClass b (isLink a)) (leafIf a n (value a lo hi) (ofKind a q r)) (ofKind a q r)
-
--- an 'every' is written if its place, which T gives, has entries and its link is not at most 0
-abbrev pub kept : (ℕ → Place) → ℕ → Bool → Option ℕ → Bool
-kept T j b hi = b && (not (isEnd (T j)) && not (atMost 0 hi))
-
--- the 'every' entries
-unfoldable pub ofEvery : (ℕ → Place) → List Cell → Place
-ofEvery T [] = end
-ofEvery T (cell j b n lo hi ∷ q) = cond (kept T j b hi) (node n (T j) (ofEvery T q)) (ofEvery T q)
-
--- all entries
-unfoldable pub written : (ℕ → Place) → List Cell → Place
-written T q = ofKind has q (ofKind lacks q (ofKind least q (ofKind most q (ofEvery T q))))
 
 -- only the places below the cells matter
 every-agree : (T T′ : ℕ → Place) (q : List Cell) → ((j : ℕ) (b : Bool) (n lo : ℕ) (hi : Option ℕ) → List·Memᴰ (cell j b n lo hi) q → T j ≡ T′ j)

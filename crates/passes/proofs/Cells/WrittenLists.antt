@@ -15,8 +15,8 @@ use Rattle.logic.proofs.PlaceTrees.Order.{before-cases}
 use Rattle.logic.specs.Normal.{atMost, before, find, isEnd, rank, same, sub}
 use Rattle.logic.specs.Place.{Kind, Place, has, lacks, least, most, nothing}
 use Rattle.logic.specs.Tree.{end}
-use Rattle.passes.proofs.Cells.CellsWritten.{kept, leafIf, ofEvery, ofKind, written}
 use Rattle.passes.proofs.SlotLists.SlotLaws.{class-eq}
+use Rattle.passes.specs.code.Forms.{kept, leafIf, ofEvery, ofKind, written}
 use Rattle.passes.specs.code.Pipeline.{beforeCell}
 use Rattle.passes.specs.code.Slots.{Cell, cell, highOf, isLink, lookup, lowOf, sameClass, sameName, value}
 

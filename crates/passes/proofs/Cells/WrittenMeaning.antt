@@ -13,9 +13,9 @@ use Rattle.logic.specs.Normal.{atMost, found, isEnd}
 use Rattle.logic.specs.Place.{Place, has, lacks, least, most}
 use Rattle.logic.specs.Record.{Record, eachLinked, fits, meets, successors}
 use Rattle.logic.specs.Tree.{end, leaf, node}
-use Rattle.passes.proofs.Cells.CellsWritten.{kept, written}
 use Rattle.passes.proofs.Cells.WrittenPasses.{allCells, cellPasses, cells-ext, ifListed, passes, written-passes}
 use Rattle.passes.proofs.SlotLists.SlotBounds.{below-true, capped, eachBelow, inside}
+use Rattle.passes.specs.code.Forms.{kept, written}
 use Rattle.passes.specs.code.Slots.{Cell, cell, value}
 
 -- ---- when it is empty

@@ -17,9 +17,10 @@ use Rattle.logic.specs.Normal.{atMost, found, isEnd, over, sub, supports, under
 use Rattle.logic.specs.Place.{Place, atom, has, lacks, least, most, nothing}
 use Rattle.passes.proofs.CellPlaces.FormMeaning.{cellWhole}
 use Rattle.passes.proofs.Cells.CellLaws.{lookup-cases}
-use Rattle.passes.proofs.Cells.CellsWritten.{kept, written, written-ascending}
+use Rattle.passes.proofs.Cells.CellsWritten.{written-ascending}
 use Rattle.passes.proofs.Cells.WrittenLists.{below, written-find, written-sub}
 use Rattle.passes.proofs.Cells.WrittenPasses.{allCells}
+use Rattle.passes.specs.code.Forms.{kept, written}
 use Rattle.passes.specs.code.Pipeline.{beforeCell}
 use Rattle.passes.specs.code.Slots.{Cell, broken, cell, highOf, lookup, lowOf, value}
 

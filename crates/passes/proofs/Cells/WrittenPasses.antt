@@ -8,7 +8,7 @@ use mathlib.Core.Path.{_∙_, _≡_, refl, sym}
 use Rattle.base.proofs.Tests.{and-swap, bool-cases}
 use Rattle.logic.specs.Place.{Atom, Kind, Place, atom, has, lacks, least, most}
 use Rattle.logic.specs.Tree.{end, leaf, node}
-use Rattle.passes.proofs.Cells.CellsWritten.{kept, leafIf, ofEvery, ofKind, written}
+use Rattle.passes.specs.code.Forms.{kept, leafIf, ofEvery, ofKind, written}
 use Rattle.passes.specs.code.Slots.{Cell, cell, isLink, sameClass, value}
 
 -- each cell passes

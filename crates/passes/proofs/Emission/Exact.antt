@@ -18,11 +18,11 @@ use Rattle.logic.specs.Normal.{atMost, nf}
 use Rattle.logic.specs.Place.{Atom}
 use Rattle.logic.specs.Tree.{Row, tree}
 use Rattle.passes.proofs.CellPlaces.FormNormal.{form-nonempty, form-top, top-nothing}
-use Rattle.passes.proofs.CellPlaces.Forms.{form, form-written}
+use Rattle.passes.proofs.CellPlaces.Forms.{form-written}
 use Rattle.passes.proofs.Cells.CellLaws.{cell-irreflexive, cell-trans, cells-sorted}
-use Rattle.passes.proofs.Cells.CellsWritten.{kept}
 use Rattle.passes.proofs.Emission.WalkRows.{walk-writes}
 use Rattle.passes.proofs.SlotLists.SlotLaws.{slots-distinct, slots-early}
+use Rattle.passes.specs.code.Forms.{form, kept}
 use Rattle.passes.specs.code.Pipeline.{beforeCell, enoughFor, keeping, normalRows, rowsFrom, sortedCells}
 use Rattle.passes.specs.code.Slots.{Cell, Slot, cells, inconsistent, slots}
 

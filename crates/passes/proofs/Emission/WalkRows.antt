@@ -12,7 +12,7 @@ use Rattle.logic.proofs.TreeRows.LayoutLaws.{load, load-later, weight-pos}
 use Rattle.logic.specs.Layout.{Queue, done, job, later, lay, weight, write}
 use Rattle.logic.specs.Place.{Atom, Kind, Place, atom, has, lacks, least, most}
 use Rattle.logic.specs.Tree.{Row, leaf, leafRow, node, nodeRow}
-use Rattle.passes.proofs.Cells.CellsWritten.{kept, leafIf, ofEvery, ofKind, written}
+use Rattle.passes.specs.code.Forms.{kept, leafIf, ofEvery, ofKind, written}
 use Rattle.passes.specs.code.Pipeline.{outEvery, outKind, walk}
 use Rattle.passes.specs.code.Slots.{Cell, cell, isLink, sameClass, value}
 

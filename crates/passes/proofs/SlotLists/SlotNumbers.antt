@@ -13,9 +13,9 @@ use Rattle.logic.specs.Normal.{atMost, find, sub}
 use Rattle.logic.specs.Place.{Atom, Kind}
 use Rattle.logic.specs.Tree.{Row, end}
 use Rattle.passes.proofs.CellPlaces.FormNormal.{form-find, form-sub}
-use Rattle.passes.proofs.CellPlaces.Forms.{form}
 use Rattle.passes.proofs.Cells.WrittenLists.{value-none}
 use Rattle.passes.proofs.SlotLists.SlotLaws.{key-name, key-place, name-class, name-eq, position-from}
+use Rattle.passes.specs.code.Forms.{form}
 use Rattle.passes.specs.code.Slots.{Cell, Slot, cell, cells, closed, inconsistent, isLink, lookup, position, sameKey, sameName, settled, slot, slotAt, slotHigh, slotLow, slots, taken, value}
 
 -- the slots of one key are among them

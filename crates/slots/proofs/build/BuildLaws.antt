@@ -2,26 +2,24 @@
 -- Assumes nothing.
 use Prim.Native.Nat.{_+_, _-_, _<_, _≤_, max, suc, zero, ℕ}
 use lib.Dec.{eqb, ltb}
-use lib.ListN.{drop, drop-of-length-le, getD, getD-replicate, length, length-map, length-replicate, length-set, replicate, set}
+use lib.ListN.{drop, drop-of-length-le, getD, length, length-map, length-set, set}
 use lib.Seq.{getD-set-other, getD-set-same}
 use mathlib.Core.Bool.{false, true}
 use mathlib.Core.List.{List, [], _∷_, map}
 use mathlib.Core.Logic.{_≢_}
 use mathlib.Core.Option.{none, some}
 use mathlib.Core.Path.{_∙_, _≡_, ap, fun-ext, refl, sym}
-use native.Mathlib.Numerals.{add-one}
 use native.Mathlib.Omega.{arith}
 use Rattle.base.proofs.ChainLaws.{chains-start}
-use Rattle.base.proofs.Lists.{zeros-read}
 use Rattle.base.proofs.Tests.{and-zero, bool-cases, eq-cases, eq-eqb, eqb-eq, iff-eq, lt-ltb, ne-eqb, tests}
-use Rattle.blocks.specs.Entries.{nth, zeroEntry}
+use Rattle.blocks.specs.Entries.{Bounded, entriesOf, nth, zeroEntry}
 use Rattle.blocks.specs.Owners.{ownerOf}
 use Rattle.blocks.specs.declared.Entry.{Entry}
 use Rattle.logic.specs.Place.{kindOf}
 use Rattle.meaning.specs.Description.{rowOf}
 use Rattle.meaning.specs.Owned.{Owned}
-use Rattle.passes.specs.code.Slots.{Slot, atTop, build, high, isLink, leading, low, position, slots, tighten}
-use Rattle.slots.specs.code.Tables.{Entered, Exact, Kept, Nodes, hashOf, highIn, highKind, highPart, keyIn, leadsTo, linkKind, lowKind, slotsFrom, slotsIn}
+use Rattle.passes.specs.code.Slots.{atTop, build, high, isLink, leading, low, position, slots, tighten}
+use Rattle.slots.specs.code.Tables.{Blank, Building, Built, Entered, Exact, Kept, Nodes, Workspace, hashOf, highIn, highKind, keyIn, leadsTo, linkKind, lowKind, slotsFrom, slotsIn}
 
 -- ---- kinds by number
 
@@ -50,7 +48,7 @@ rows-left [] k h = absurd (omega arith)
 rows-left (e ∷ es) zero h = refl
 rows-left (e ∷ es) (suc k) h = rows-left es k (omega arith)
 
-pub rows-none : (es : List Entry) (k : ℕ) → length es ≤ k → drop k (map rowOf es) ≡ []
+rows-none : (es : List Entry) (k : ℕ) → length es ≤ k → drop k (map rowOf es) ≡ []
 rows-none es k h = drop-of-length-le (map rowOf es) {i = k} (omega (arith, length-map es rowOf))
 
 -- ---- where entries lead
@@ -95,7 +93,7 @@ leads-on es node n s one l k = fun-ext (λ j.
 
 -- ---- the pass
 
-pub build-starts : (es : List Entry) (t node : List ℕ) → getD node 0 0 ≡ 0 → slots (map rowOf es) ≡ build (leadsTo es node 1) (slotsIn t 0) 1 (drop 0 (map rowOf es))
+build-starts : (es : List Entry) (t node : List ℕ) → getD node 0 0 ≡ 0 → slots (map rowOf es) ≡ build (leadsTo es node 1) (slotsIn t 0) 1 (drop 0 (map rowOf es))
 unfolding slots slotsFrom leadsTo
 build-starts es t node e =
     let same : leadsTo es node 1 ≡ atTop = fun-ext (λ j.
@@ -104,77 +102,103 @@ build-starts es t node e =
     (λ q. let a : ltb j 1 ≡ false = omega tests in let y : eqb 0 j ≡ false = omega tests in rw (leadsTo, ne-eqb q, a, y))) in
     rw same
 
-pub build-ends : (es : List Entry) (node : List ℕ) (ss : List Slot) (n : ℕ) → length es < n → build (leadsTo es node n) ss n (drop (n - 1) (map rowOf es)) ≡ ss
-unfolding build
-build-ends es node ss n h = rw (rows-none es (n - 1) (omega arith))
-
 module _ {es : List Entry} (O : Owned es) {t next head : List ℕ} {used : ℕ} {node : List ℕ} (N : Nodes node used) (n : ℕ) {e : Entry} {s : ℕ} {t′ next′ head′ : List ℕ}
-    (one : 1 ≤ n) (le : n ≤ length es) (few : length es ≤ 1008) (is′ : e ≡ nth es n) (small : e .number < 65536)
+    (le : n < length es) (there : suc n < length node) (is′ : e ≡ nth es (suc n)) (small : e .number < 65536)
     (E : Entered t next head used (getD node (e .owner) 0) (linkKind (e .kind)) (e .name) (lowKind (e .kind) (e .number)) (highKind (e .kind) (e .number)) s t′ next′ head′) where
-  owner-leads : leadsTo es node n (e .owner) ≡ some (getD node (e .owner) 0)
+  owner-leads : leadsTo es node (suc n) (e .owner) ≡ some (getD node (e .owner) 0)
   owner-leads =
-      let o : ownerOf es n ≡ e .owner = unfold ownerOf in ap (λ (x : Entry). x .owner) (sym is′) in
-      leads-owner es node n (e .owner) (omega (arith, O .earlier n one le)) (λ z. rw (← o) (O .every n one le (λ q. z (sym o ∙ q))))
+      let o : ownerOf es (suc n) ≡ e .owner = unfold ownerOf in ap (λ (x : Entry). x .owner) (sym is′) in
+      leads-owner es node (suc n) (e .owner) (omega (arith, O .earlier (suc n) (omega arith) (omega arith)))
+      (λ z. rw (← o) (O .every (suc n) (omega arith) (omega arith) (λ q. z (sym o ∙ q))))
 
-  row-here : drop (n - 1) (map rowOf es) ≡ rowOf e ∷ drop n (map rowOf es)
+  row-here : drop n (map rowOf es) ≡ rowOf e ∷ drop (suc n) (map rowOf es)
   unfolding nth
-  row-here =
-      let k : n ≡ suc (n - 1) = omega arith in
-      let at : nth es n ≡ getD es (n - 1) zeroEntry = ap (nth es) k in
-      rows-left es (n - 1) (omega arith) ∙ rw (is′, at) (ap (λ (i : ℕ). rowOf (getD es (n - 1) zeroEntry) ∷ drop i (map rowOf es)) (sym k))
+  row-here = rows-left es n le ∙ rw is′
 
-  pub build-goes : build (leadsTo es node n) (slotsIn t used) n (drop (n - 1) (map rowOf es))
-      ≡ build (leadsTo es (set node n s) (n + 1)) (slotsIn t′ (max used s)) (n + 1) (drop (n + 1 - 1) (map rowOf es))
+  build-goes : build (leadsTo es node (suc n)) (slotsIn t used) (suc n) (drop n (map rowOf es))
+      ≡ build (leadsTo es (set node (suc n) s) (suc (suc n))) (slotsIn t′ (max used s)) (suc (suc n)) (drop (suc n) (map rowOf es))
   unfolding build rowOf linkKind lowKind highKind
   build-goes =
-      let back : n + 1 - 1 ≡ n = omega arith in
-      let kind : nth es n .kind ≡ e .kind = ap (λ (x : Entry). x .kind) (sym is′) in
-      rw (back, row-here, add-one n)
+      let kind : nth es (suc n) .kind ≡ e .kind = ap (λ (x : Entry). x .kind) (sym is′) in
+      rw row-here
       (bool-cases (eqb (e .kind) 5)
       (λ q.
       let five : e .kind ≡ 5 = eqb-eq q in
       let put : slotsIn t′ (max used s) ≡ tighten (slotsIn t used) (getD node (e .owner) 0) true (e .name) 0 none = E .tightened ∙ rw five in
       let at : s ≡ position 1 (slotsIn t used) (getD node (e .owner) 0) true (e .name) = E .at ∙ rw five in
-      rw (rowOf, q, build, owner-leads, put, leads-on es node n s one (omega (arith, N .size)) (kind ∙ five), ← at))
+      rw (rowOf, q, build, owner-leads, put, leads-on es node (suc n) s (omega arith) there (kind ∙ five), ← at))
       (λ q.
       let put : slotsIn t′ (max used s) ≡ tighten (slotsIn t used) (getD node (e .owner) 0) (isLink (kindOf (e .kind))) (e .name) (low (kindOf (e .kind)) (e .number)) (high (kindOf (e .kind)) (e .number))
       = E .tightened ∙ rw (link-kind (e .kind) q, low-kind (e .kind) (e .number) q, high-kind (e .kind) (e .number) small q) in
-      let other : eqb (nth es n .kind) 5 ≡ false = rw kind q in
-      rw (rowOf, q, build, owner-leads, put, leads-same es node n s one other)))
+      let other : eqb (nth es (suc n) .kind) 5 ≡ false = rw kind q in
+      rw (rowOf, q, build, owner-leads, put, leads-same es node (suc n) s (omega arith) other)))
 
-  pub nodes-more : Nodes (set node n s) (max used s)
+  nodes-more : Nodes (set node (suc n) s) (max used s)
   nodes-more = record {
-    size = length-set node n s ∙ N .size;
-    top = getD-set-other node n 0 s 0 (λ q. omega arith) ∙ N .top;
-    small = λ j. eq-cases j n
-        (λ q. rw q (omega (arith, getD-set-same node n s 0 (omega (arith, N .size)))))
-        (λ q. omega (arith, getD-set-other node n j s 0 q, N .small j));
+    top = getD-set-other node (suc n) 0 s 0 (λ q. omega arith) ∙ N .top;
+    small = λ j. eq-cases j (suc n)
+        (λ q. rw q (omega (arith, getD-set-same node (suc n) s 0 there)))
+        (λ q. omega (arith, getD-set-other node (suc n) j s 0 q, N .small j));
   }
+
+-- one entry more
+module _ {d : List ℕ} (O : Owned (entriesOf d)) {n used : ℕ} {t next head node : List ℕ} (B : Building d n used t next head node) (le : n < length (entriesOf d))
+    {e : Entry} (is′ : e ≡ nth (entriesOf d) (suc n)) where
+  pub building-more : Bounded e → {s m : ℕ} {t′ next′ head′ : List ℕ} → s ≤ used + 1 → m ≡ suc n → length t′ ≡ length t → length next′ ≡ length next
+      → Entered t next head used (getD node (e .owner) 0) (linkKind (e .kind)) (e .name) (lowKind (e .kind) (e .number)) (highKind (e .kind) (e .number)) s t′ next′ head′
+      → Building d m (max used s) t′ next′ head′ (set node m s)
+  building-more b {s} small q size sizes E =
+      let there : suc n < length node = omega (arith, B .places) in
+      rw q (record {
+        few = omega (arith, B .few);
+        kept = E .kept;
+        nodes = nodes-more O (B .nodes) n le there is′ (b .number) E;
+        slotted = B .slotted ∙ build-goes O (B .nodes) n le there is′ (b .number) E;
+        bounded = λ j lo hi. eq-cases j (suc n) (λ z. rw (z, ← is′) b) (λ z. B .bounded j lo (omega arith));
+        room = rw size (B .room);
+        nexts = rw sizes (B .nexts);
+        places = rw (length-set node (suc n) s) (B .places);
+      })
+
+-- all entered
+pub building-ends : {d : List ℕ} {n used : ℕ} {origin t next head node : List ℕ} → length (entriesOf d) ≤ n → Building d n used t next head node → Exact origin t used
+    → used ≤ length (entriesOf d) → Built d used origin t next head
+unfolding build
+building-ends {d} {n} l B x f = record {
+  slotted = B .slotted ∙ rw (rows-none (entriesOf d) n l);
+  exact = x;
+  kept = B .kept;
+  few = f;
+  bounded = λ j lo hi. B .bounded j lo (omega arith);
+}
 
 -- ---- the tables at the start
 
-exact-starts : {t : List ℕ} → t ≡ replicate 1009 0 → Exact t 0
-unfolding highPart
-exact-starts e = record {
-  size = ap length e ∙ length-replicate {A = ℕ} 1009 0;
-  high = λ j. omega (arith, zeros-read 1009 e j);
-  top = zeros-read 1009 e 0;
-  rest = λ j l. zeros-read 1009 e j;
-}
+pub exact-starts : (t : List ℕ) → Exact t t 0
+exact-starts t = record { size = refl; high = λ j a b. absurd (omega arith); top = refl; rest = λ j l. refl }
 
-pub kept-starts : {t next head : List ℕ} → t ≡ replicate 1009 0 → next ≡ replicate 1009 0 → head ≡ replicate 1021 0 → Kept t next head 0
+kept-starts : {t next head : List ℕ} → 0 < length t → 0 < length next → Blank 60 head → Kept t next head 0
 kept-starts {t} {next} {head} e f g =
     record {
-      exact = exact-starts e;
-      nexts = ap length f ∙ length-replicate {A = ℕ} 1009 0;
-      heads = ap length g ∙ length-replicate {A = ℕ} 1021 0;
-      chains = chains-start (λ j. hashOf (keyIn (getD t j 0))) (λ j. getD next j 0) (λ b h. zeros-read 1021 g b);
+      room = e;
+      nexts = f;
+      heads = omega (arith, g .room);
+      chains = chains-start (λ j. hashOf (length head) (keyIn (getD t j 0))) (λ j. getD next j 0) (λ b h. g .zero′ b);
       apart = λ i j a b c. absurd (omega arith);
     }
 
-pub nodes-start : {node : List ℕ} → node ≡ replicate 1009 0 → Nodes node 0
-nodes-start {node} e = record {
-  size = ap length e ∙ length-replicate {A = ℕ} 1009 0;
-  top = rw e (getD-replicate {A = ℕ} 1009 0 0 0 (omega arith));
-  small = λ j. omega (arith, zeros-read 1009 e j);
-}
+nodes-start : {k : ℕ} {node : List ℕ} → Blank k node → Nodes node 0
+nodes-start b = record { top = b .zero′ 0; small = λ j. omega (arith, b .zero′ j) }
+
+pub building-starts : {d t next head node : List ℕ} {total : ℕ} → total ≡ length (entriesOf d) → total < length t → Workspace total next head node → Building d 0 0 t next head node
+building-starts {d} {t} {next} {head} {node} e r w =
+    record {
+      few = omega arith;
+      kept = kept-starts (omega arith) (omega (arith, w .nexts)) (w .heads);
+      nodes = nodes-start (w .nodes);
+      slotted = build-starts (entriesOf d) t node (w .nodes .zero′ 0);
+      bounded = λ j lo hi. absurd (omega arith);
+      room = omega arith;
+      nexts = omega (arith, w .nexts);
+      places = omega (arith, w .nodes .room);
+    }

@@ -1,25 +1,41 @@
 -- Laws of filled tables: every number that stands in them is known by the slots.
 -- Assumes nothing.
 use Prim.Native.Nat.{_+_, _-_, _<_, _≤_, suc, zero, ℕ}
-use lib.ListN.{getD, length, length-append, length-replicate, replicate}
-use mathlib.Core.Bool.{Bool}
-use mathlib.Core.List.{List, [], _++_, _∷_, map}
+use lib.Dec.{ltb}
+use lib.ListN.{getD, length, length-replicate, replicate, set}
+use lib.Seq.{ext-getD, getD-set-other, sets}
+use mathlib.Core.Bool.{Bool, false, true}
+use mathlib.Core.List.{List, [], _∷_, map}
+use mathlib.Core.Logic.{_⊎_, inl, inr, ⊎-elim}
 use mathlib.Core.Path.{_∙_, _≡_, ap, refl, sym}
 use native.Mathlib.Nat.{zero-add}
 use native.Mathlib.Omega.{arith}
-use Rattle.base.proofs.Lists.{Holds, holds-both, holds-eq, holds-zeros, length-listed, listed, listed-eq, part-held}
-use Rattle.base.proofs.Tests.{ge-ltb, lt-cases, lt-ltb}
+use Rattle.base.proofs.Lists.{getD-listed, length-listed, listed, listed-eq, zeros-read}
+use Rattle.base.proofs.StoresLaws.{getD-stored, length-stored}
+use Rattle.base.proofs.Tests.{eq-cases, ge-ltb, lt-cases, lt-ltb}
 use Rattle.base.specs.Range.{bit}
+use Rattle.base.specs.Stores.{stored}
+use Rattle.blocks.specs.Entries.{entriesOf}
 use Rattle.blocks.specs.Reading.{readingOf}
 use Rattle.blocks.specs.declared.Reading.the-variants as reading
 use Rattle.blocks.specs.declared.Schema.the-variants.{Description}
 use Rattle.passes.proofs.SlotLists.KeyLaws.{key-parts}
 use Rattle.passes.specs.code.Slots.{inconsistent, nonempty, settled}
-use Rattle.slots.proofs.PassLaws.{slots-counted}
-use Rattle.slots.proofs.slots.TableLaws.{length-slots}
-use Rattle.slots.specs.code.Standing.{badAfter, fullAfter, slottingOf, tableAfter}
-use Rattle.slots.specs.code.Tables.{Exact, Settled, highIn, highNumber, highPart, keyIn, lowPart, marks, marksFrom, noBound, slotIn, slotNumber, slotWord, slotsFrom, slotsOf, tableOf}
+use Rattle.slots.proofs.FailingLaws.{accepted-few}
+use Rattle.slots.specs.code.Standing.{Fills, badAfter, fullAfter, roomIn, slotsStored, slottingOf, tableAfter}
+use Rattle.slots.specs.code.Tables.{Blank, Exact, Settled, Tabled, Workspace, highIn, highNumber, highPart, keyIn, lowPart, marksFrom, noBound, slotIn, slotNumber, slotWord, slotsFrom, slotsOf}
 use Rattle.slots.specs.declared.Slotting.the-variants.{Filled, Refused}
+
+-- ---- cleared tables
+
+pub blank-zeros : (k n : ℕ) → k < n → Blank k (replicate n 0)
+blank-zeros k n h = record { room = rw (length-replicate {A = ℕ} n 0) h; zero′ = zeros-read n refl }
+
+pub workspace-zeros : (n k m : ℕ) → n < k → 61 ≤ m → Workspace n (replicate k 0) (replicate m 0) (replicate k 0)
+workspace-zeros n k m h l = record { nexts = rw (length-replicate {A = ℕ} k 0) h; heads = blank-zeros 60 m (omega arith); nodes = blank-zeros n k h }
+
+pub blank-less : {j k : ℕ} {l : List ℕ} → j ≤ k → Blank k l → Blank j l
+blank-less h b = record { room = omega (arith, h, b .room); zero′ = b .zero′ }
 
 -- ---- a table of slots
 
@@ -35,29 +51,39 @@ slot-back : (x : ℕ) → highPart x ≤ noBound → slotWord (slotIn x) ≡ x
 unfolding slotIn
 slot-back x h = rw (slotIn, key-parts (keyIn x), high-back (highPart x) h) (number-parts x)
 
-slots-back : (t : List ℕ) → ((j : ℕ) → highPart (getD t j 0) ≤ noBound) → (i n : ℕ) → map slotWord (slotsFrom t i n) ≡ listed (λ k. getD t k 0) i n
+slots-back : (t : List ℕ) (i n : ℕ) → ((j : ℕ) → i ≤ j → j < i + n → highPart (getD t j 0) ≤ noBound) → map slotWord (slotsFrom t i n) ≡ listed (λ k. getD t k 0) i n
 unfolding slotsFrom listed
-slots-back t h i zero = refl
-slots-back t h i (suc n) = rw (slot-back (getD t i 0) (h i), slots-back t h (suc i) n)
+slots-back t i zero h = refl
+slots-back t i (suc n) h = rw (slot-back (getD t i 0) (h i (omega arith) (omega arith)), slots-back t (suc i) n (λ j lo hi. h j (omega arith) (omega arith)))
 
--- number 0 of a table
-held-top : {t : List ℕ} → getD t 0 0 ≡ 0 → Holds t 0 (0 ∷ [])
-held-top {t} e = record { each = each }
-  where
-    each : (k : ℕ) → k < 1 → getD t (0 + k) 0 ≡ getD (0 ∷ []) k 0
-    each zero h = e
-    each (suc k) h = absurd (omega arith)
+-- a number outside stores in a row stays
+sets-other : (xs l : List ℕ) (i j : ℕ) → (j < i) ⊎ (i + length xs ≤ j) → getD (sets l i xs) j 0 ≡ getD l j 0
+sets-other [] l i j h = refl
+sets-other (x ∷ xs) l i j h =
+    sets-other xs (set l i x) (suc i) j (⊎-elim (λ (a : j < i). inl (omega arith)) (λ (a : i + suc (length xs) ≤ j). inr (omega arith)) h)
+    ∙ getD-set-other l i j x 0 (λ q. ⊎-elim (λ (a : j < i). omega arith) (λ (a : i + suc (length xs) ≤ j). omega arith) h)
 
--- a table is that of the slots that stand in it
-pub table-exact : {t : List ℕ} {used : ℕ} → Exact t used → used ≤ 1008 → t ≡ tableOf (slotsFrom t 1 used)
-unfolding tableOf
-table-exact {t} {used} x few =
+stored-other : (xs l : List ℕ) (i j : ℕ) → (j < i) ⊎ (i + length xs ≤ j) → getD (stored l i xs) j 0 ≡ getD l j 0
+unfolding stored
+stored-other xs l i j h = sets-other xs l i j h
+
+-- a table is the one before with the slots that stand in it
+pub table-exact : {o t d : List ℕ} {used : ℕ} → Exact o t used → Tabled d used t → t ≡ slotsStored d o
+unfolding slotsStored
+table-exact {o} {t} {d} {used} x s =
     let ws = listed (λ k. getD t k 0) 1 used in
-    let zs : List ℕ = replicate (1008 - used) 0 in
     let n = length-listed (λ k. getD t k 0) 1 used in
-    let size : length (0 ∷ (ws ++ zs)) ≡ 1009 = omega (arith, length-append ws zs, n, length-replicate {A = ℕ} (1008 - used) 0) in
-    let after : Holds t 1 (ws ++ zs) = holds-both ws zs n (part-held t 1 used) (holds-zeros (1008 - used) (λ k lo hi. x .rest k (omega arith))) in
-    rw (length-slots t 1 used, slots-back t (x .high) 1 used) (holds-eq (x .size ∙ sym size) (holds-both (0 ∷ []) (ws ++ zs) refl (held-top (x .top)) after))
+    let back : map slotWord (settled 1 (slotsOf d)) ≡ ws = rw (← s .slotted) (slots-back t 1 used (λ j lo hi. x .high j lo (omega arith))) in
+    let l = length-stored o ws 1 in
+    rw (slotsStored, back) (ext-getD 0 t (stored o 1 ws) (x .size ∙ sym l) (λ k b.
+    eq-cases k 0
+    (λ z. rw z (x .top ∙ sym (stored-other ws o 1 0 (inl (omega arith)))))
+    (λ z. lt-cases used k
+    (λ a. x .rest k a ∙ sym (stored-other ws o 1 k (inr (omega arith))))
+    (λ a.
+    let e : k ≡ 1 + (k - 1) = omega arith in
+    ap (λ (i : ℕ). getD t i 0) e ∙ sym (getD-listed (λ i. getD t i 0) 1 used 0 (k - 1) (omega arith))
+    ∙ sym (ap (λ (i : ℕ). getD (stored o 1 ws) i 0) e ∙ getD-stored o ws 1 (k - 1) (omega arith) (omega (arith, s .room, x .size)))))))
 
 -- ---- a table of marks
 
@@ -66,25 +92,34 @@ unfolding marksFrom listed
 marks-listed f v zero = refl
 marks-listed f v (suc n) = rw (marks-listed f (suc v) n)
 
-pub marks-exact : {m : List ℕ} (f : ℕ → Bool) → length m ≡ 1009 → ((v : ℕ) → v < 1009 → getD m v 0 ≡ bit (f v)) → m ≡ marks f
-marks-exact {m} f e h =
-    sym (marks-listed f 0 1009 ∙ rw (← e) (listed-eq (λ u. bit (f u)) 0 0 m (λ k l. rw zero-add (sym (h k (omega arith))))))
+pub marks-exact : {m : List ℕ} (f : ℕ → Bool) (n : ℕ) → length m ≡ n → ((v : ℕ) → getD m v 0 ≡ bit (f v)) → m ≡ marksFrom f 0 n
+marks-exact {m} f n e h = sym (marks-listed f 0 n ∙ rw (← e) (listed-eq (λ u. bit (f u)) 0 0 m (λ k l. rw zero-add (sym (h k)))))
 
 -- ---- the ways through filling
 
 -- refused: nothing changes
-pub filling-refused : (d : List ℕ) {k i p : ℕ} → readingOf Description 1 d ≡ reading.Refused k i p → (t bad full : List ℕ)
-    → (Refused k i p ≡ slottingOf d) × (t ≡ tableAfter d t) × (bad ≡ badAfter d bad) × (full ≡ fullAfter d full)
+pub filling-refused : (d : List ℕ) {k i p : ℕ} → readingOf Description 1 d ≡ reading.Refused k i p → (t bad full : List ℕ) → Fills d t bad full (Refused k i p) t bad full
 unfolding slottingOf tableAfter badAfter fullAfter
-filling-refused d e t bad full = (rw (slottingOf, e), rw (tableAfter, e), rw (badAfter, e), rw (fullAfter, e))
+filling-refused d e t bad full = (rw (slottingOf, e), rw (tableAfter, e), rw (badAfter, e), rw (fullAfter, e), λ room. e)
 
--- accepted: the tables are those of the slots, whatever they held
-pub filling-accepted : {d t bad full : List ℕ} {n used : ℕ} → readingOf Description 1 d ≡ reading.Accepted n → Settled d used t bad full → (t₀ bad₀ full₀ : List ℕ)
-    → (Filled used ≡ slottingOf d) × (t ≡ tableAfter d t₀) × (bad ≡ badAfter d bad₀) × (full ≡ fullAfter d full₀)
-unfolding slottingOf tableAfter badAfter fullAfter
-filling-accepted {d} e s t₀ bad₀ full₀ = (
-  rw (slottingOf, e) (ap Filled (slots-counted s)),
-  rw (tableAfter, e) (table-exact (s .exact) (s .few) ∙ ap tableOf (s .slotted)),
-  rw (badAfter, e) (marks-exact (inconsistent 1 (slotsOf d)) (s .bad-size) (s .bads)),
-  rw (fullAfter, e) (marks-exact (nonempty 1 (settled 1 (slotsOf d))) (s .full-size) (s .fulls)),
-)
+module _ (d : List ℕ) {n : ℕ} (e : readingOf Description 1 d ≡ reading.Accepted n) (t bad full : List ℕ) where
+  -- a table is too short: nothing changes
+  pub filling-short : roomIn t bad full ≤ n → Fills d t bad full (Refused 7 0 0) t bad full
+  unfolding slottingOf tableAfter badAfter fullAfter
+  filling-short h =
+      let few = accepted-few 1 d e in
+      let no : ltb (length (entriesOf d)) (roomIn t bad full) ≡ false = rw (← few .0) (ge-ltb h) in
+      (rw (slottingOf, e, no), rw (tableAfter, e, no), rw (badAfter, e, no), rw (fullAfter, e, no), λ room. absurd (omega (arith, few .1, h, room)))
+
+  -- filled: the marks are those of the slots, whatever they were
+  pub filling-accepted : {t′ bad′ full′ : List ℕ} {used : ℕ} → n < roomIn t bad full → Settled d used t′ bad′ full′ → Exact t t′ used → length bad′ ≡ length bad → length full′ ≡ length full
+      → Fills d t bad full (Filled used) t′ bad′ full′
+  unfolding slottingOf tableAfter badAfter fullAfter
+  filling-accepted h s x b f =
+      let there : ltb (length (entriesOf d)) (roomIn t bad full) ≡ true = rw (← accepted-few 1 d e .0) (lt-ltb h) in (
+        rw (slottingOf, e, there) (ap Filled (s .tabled .counted)),
+        rw (tableAfter, e, there) (table-exact x (s .tabled)),
+        rw (badAfter, e, there) (marks-exact (inconsistent 1 (slotsOf d)) (length bad) b (s .bads)),
+        rw (fullAfter, e, there) (marks-exact (nonempty 1 (settled 1 (slotsOf d))) (length full) f (s .fulls)),
+        record { total = n; read = e; slots-settled = s },
+      )

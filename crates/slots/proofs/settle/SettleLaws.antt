@@ -2,7 +2,7 @@
 -- Assumes nothing.
 use Prim.Native.Nat.{_%_, _-_, _/_, _<_, _≤_, suc, ℕ}
 use lib.Dec.{eqb}
-use lib.ListN.{getD, getD-replicate, length, length-replicate, length-set, replicate, set}
+use lib.ListN.{getD, length, length-set, set}
 use lib.Seq.{getD-set-other, getD-set-same}
 use mathlib.Core.Bool.{Bool, _&&_, _||_, cond, false, not, true}
 use mathlib.Core.List.{List}
@@ -14,7 +14,7 @@ use Rattle.base.specs.Range.{bit}
 use Rattle.logic.specs.Normal.{found}
 use Rattle.passes.specs.code.Slots.{Slot, broken, closed, inconsistent, nonempty, settled, slot}
 use Rattle.slots.proofs.slots.TableLaws.{high-made, key-made, low-made, slots-other}
-use Rattle.slots.specs.code.Tables.{Placed, Settling, Slotted, closedBound, highIn, highPart, keyIn, lowPart, slotIn, slotNumber, slotsFrom}
+use Rattle.slots.specs.code.Tables.{Blank, Placed, Settling, Slotted, closedBound, highIn, highPart, keyIn, lowPart, slotIn, slotNumber, slotsFrom}
 
 -- an upper bound that is closed
 closed-high : (c : Bool) (h : ℕ) → highIn (cond c 0 h) ≡ closed c (highIn h)
@@ -35,24 +35,23 @@ mark-or true marks u v d l e =
     (λ q. rw (ne-eqb q) (getD-set-other marks u v 1 0 q ∙ e))
 mark-or false marks u v d l e = rw (and-zero (eqb v u)) e
 
-pub settle-starts : {t bad full : List ℕ} {used : ℕ} → length t ≡ 1009 → bad ≡ replicate 1009 0 → full ≡ replicate 1009 0 → Settling t used used t bad full
+pub settle-starts : {t bad full : List ℕ} {used : ℕ} → Blank used bad → Blank used full → Settling t used used t bad full
 unfolding slotsFrom settled inconsistent nonempty
-settle-starts {t} {bad} {full} {used} n e f =
+settle-starts {t} {bad} {full} {used} e f =
     let none-left′ : used - used ≡ 0 = omega arith in
     record {
-      size = n;
-      bad-size = ap length e ∙ length-replicate {A = ℕ} 1009 0;
-      full-size = ap length f ∙ length-replicate {A = ℕ} 1009 0;
+      size = refl;
       below = λ j l. refl;
       keys = λ j. refl;
       highs = λ j. omega arith;
       rest = λ j l. refl;
       above = rw none-left′;
-      bads = λ v l. rw (none-left′, e) (getD-replicate {A = ℕ} 1009 v 0 0 l);
-      fulls = λ v l. rw (none-left′, f) (getD-replicate {A = ℕ} 1009 v 0 0 l);
+      bads = λ v. rw none-left′ (e .zero′ v);
+      fulls = λ v. rw none-left′ (f .zero′ v);
     }
 
-module _ {o t bad full : List ℕ} {used s : ℕ} (S : Settling o used s t bad full) (P : Placed o used) (one : 1 ≤ s) (le : s ≤ used) (few : used ≤ 1008)
+module _ {o t bad full : List ℕ} {used s : ℕ} (S : Settling o used s t bad full) (P : Placed o used) (one : 1 ≤ s) (le : s ≤ used)
+    (there : s < length t) (there′ : s < length bad) (there″ : s < length full)
     {t′ bad′ full′ : List ℕ} (T : Slotted t bad full s t′ bad′ full′) where
   abbrev X : ℕ
   X = getD o s 0
@@ -68,7 +67,7 @@ module _ {o t bad full : List ℕ} {used s : ℕ} (S : Settling o used s t bad f
 
   -- the bound after it is closed
   bound-is : closedBound t bad s ≡ cond (isLinkHere && inconsistent (suc s) Rest s) 0 (highPart X)
-  bound-is = rw (same-slot, S .bads s (omega arith), bit-set (inconsistent (suc s) Rest s))
+  bound-is = rw (same-slot, S .bads s, bit-set (inconsistent (suc s) Rest s))
 
   abbrev Y : ℕ
   Y = slotNumber (keyIn X) (lowPart X) (cond (isLinkHere && inconsistent (suc s) Rest s) 0 (highPart X))
@@ -108,20 +107,17 @@ module _ {o t bad full : List ℕ} {used s : ℕ} (S : Settling o used s t bad f
   pub settle-goes : Settling o used (s - 1) t′ bad′ full′
   unfolding slotsFrom settled inconsistent nonempty slotIn
   settle-goes =
-      let inside : s < length t = omega (arith, S .size) in
-      let here : getD (set t s Y) s 0 ≡ Y = getD-set-same t s Y 0 inside in
+      let here : getD (set t s Y) s 0 ≡ Y = getD-set-same t s Y 0 there in
       let d = inconsistent (suc s) Rest s in
       let h = closed (isLinkHere && d) (highIn (highPart X)) in
-      let place-small : keyIn X / 131072 < 1009 = omega (arith, P .lower s one le) in
+      let low : keyIn X / 131072 < s = P .lower s one le in
       let bad-is : bad′ ≡ cond (broken isLinkHere (lowPart X) h) (set bad (keyIn X / 131072) 1) bad =
       T .badly ∙ rw (bound-is, same-slot, closed-high (isLinkHere && d) (highPart X)) in
       let say = nonempty (suc s) (settled (suc s) Rest) s in
       let full-is : full′ ≡ cond (not (eqb (lowPart X) 0) || (found h || (isLinkHere && say))) (set full (keyIn X / 131072) 1) full =
-      T .fully ∙ rw (bound-is, same-slot, closed-high (isLinkHere && d) (highPart X), S .fulls s (omega arith), bit-set say) in
+      T .fully ∙ rw (bound-is, same-slot, closed-high (isLinkHere && d) (highPart X), S .fulls s, bit-set say) in
       record {
         size = ap length table-is ∙ length-set t s Y ∙ S .size;
-        bad-size = rw bad-is (bool-cases (broken isLinkHere (lowPart X) h) (λ q. rw q (length-set bad (keyIn X / 131072) 1 ∙ S .bad-size)) (λ q. rw q (S .bad-size)));
-        full-size = rw full-is (bool-cases (not (eqb (lowPart X) 0) || (found h || (isLinkHere && say))) (λ q. rw q (length-set full (keyIn X / 131072) 1 ∙ S .full-size)) (λ q. rw q (S .full-size)));
         below = λ j l. rw table-is (getD-set-other t s j Y 0 (λ q. omega arith) ∙ S .below j (omega arith));
         keys = λ j. rw table-is (eq-cases j s
             (λ q. rw q (ap keyIn here ∙ key-made (keyIn X) (lowPart X) (cond (isLinkHere && d) 0 (highPart X)) small-low small-bound))
@@ -131,7 +127,7 @@ module _ {o t bad full : List ℕ} {used s : ℕ} (S : Settling o used s t bad f
             (λ q. omega (arith, ap highPart (getD-set-other t s j Y 0 q), S .highs j)));
         rest = λ j l. rw table-is (getD-set-other t s j Y 0 (λ q. omega arith) ∙ S .rest j l);
         above = rw (more-left, next-one, table-is, slotsFrom, here, slots-other t s Y (suc s) (used - s) (inl (omega arith)), S .above, slot-now);
-        bads = λ v l. rw (more-left, next-one, bad-is) (mark-or (broken isLinkHere (lowPart X) h) bad (keyIn X / 131072) v (inconsistent (suc s) Rest v) (omega (arith, S .bad-size)) (S .bads v l));
-        fulls = λ v l. rw (more-left, next-one, full-is)
-            (mark-or (not (eqb (lowPart X) 0) || (found h || (isLinkHere && say))) full (keyIn X / 131072) v (nonempty (suc s) (settled (suc s) Rest) v) (omega (arith, S .full-size)) (S .fulls v l));
+        bads = λ v. rw (more-left, next-one, bad-is) (mark-or (broken isLinkHere (lowPart X) h) bad (keyIn X / 131072) v (inconsistent (suc s) Rest v) (omega arith) (S .bads v));
+        fulls = λ v. rw (more-left, next-one, full-is)
+            (mark-or (not (eqb (lowPart X) 0) || (found h || (isLinkHere && say))) full (keyIn X / 131072) v (nonempty (suc s) (settled (suc s) Rest) v) (omega arith) (S .fulls v));
       }

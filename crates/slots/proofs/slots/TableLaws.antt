@@ -35,6 +35,15 @@ pub high-made : (key lo hi : ℕ) → lo < 131072 → hi < 131072 → highPart (
 unfolding highPart slotNumber
 high-made key lo hi l h = ap (λ (x : ℕ). x % 131072) (omega arith) ∙ place-of {r = 131072} (131072 * key + lo) hi h
 
+-- bounds that stand in one number already
+pub low-bound : (x : ℕ) → lowPart x < 131072
+unfolding lowPart
+low-bound x = omega arith
+
+pub bounds-under : (key x : ℕ) → x < 17179869184 → 17179869184 * key + x ≡ slotNumber key (lowPart x) (highPart x)
+unfolding slotNumber lowPart highPart
+bounds-under key x h = omega arith
+
 -- the slot of a key and bounds
 pub slot-made : (v : ℕ) (b : Bool) (n lo hi : ℕ) → n < 65536 → lo < 131072 → hi < 131072 → slotIn (slotNumber (keyNumber v b n) lo hi) ≡ slot v b n lo (highIn hi)
 unfolding slotIn

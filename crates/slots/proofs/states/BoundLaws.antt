@@ -2,7 +2,7 @@
 -- Assumes nothing.
 use Prim.Native.Nat.{_<_, _≤_, ℕ}
 use lib.Dec.{eqb, leb, ltb}
-use lib.ListN.{getD}
+use lib.ListN.{getD, length}
 use mathlib.Core.Bool.{cond, false, true}
 use mathlib.Core.List.{List}
 use mathlib.Core.Logic.{_≢_}
@@ -47,21 +47,21 @@ high-most h n b = lt-cases h noBound (λ l. rw (lt-ltb l)) (λ l. rw (ge-ltb l, 
 
 -- ---- the settled table: its numbers, and its chains
 
-pub settled-exact : {origin t bad full : List ℕ} {used : ℕ} → Exact origin used → Settling origin used 0 t bad full → Exact t used
+pub settled-exact : {o origin t bad full : List ℕ} {used : ℕ} → Exact o origin used → Settling origin used 0 t bad full → Exact o t used
 settled-exact x s =
     record {
-      size = s .size;
-      high = λ j. omega (arith, s .highs j, x .high j);
+      size = s .size ∙ x .size;
+      high = λ j a b. omega (arith, s .highs j, x .high j a b);
       top = s .below 0 (omega arith) ∙ x .top;
       rest = λ j l. s .rest j l ∙ x .rest j l;
     }
 
 pub settled-kept : {origin t next head bad full : List ℕ} {used : ℕ} → Kept origin next head used → Settling origin used 0 t bad full → Kept t next head used
-settled-kept k s =
+settled-kept {head = head} k s =
     record {
-      exact = settled-exact (k .exact) s;
+      room = rw (s .size) (k .room);
       nexts = k .nexts;
       heads = k .heads;
-      chains = chains-same (λ j. ap hashOf (s .keys j)) (k .chains);
+      chains = chains-same (λ j. ap (hashOf (length head)) (s .keys j)) (k .chains);
       apart = λ i j lo l hi. rw (s .keys i, s .keys j) (k .apart i j lo l hi);
     }

@@ -1,44 +1,50 @@
--- What filling tables with the slots of an input answers.
+-- What stands in the lent tables after each answer.
 -- Assumes nothing.
-use Prim.Native.Nat.{ℕ}
+use Prim.Native.Nat.{_<_, min, ℕ}
 use lib.ListN.{length}
-use mathlib.Core.List.{List}
+use mathlib.Core.Bool.{false}
+use mathlib.Core.List.{List, map}
 use mathlib.Core.Path.{_≡_}
+use Rattle.base.specs.Stores.{stored}
 use Rattle.blocks.specs.Reading.{readingOf, unlessRefused}
-use Rattle.blocks.specs.declared.Reading.{Reading}
 use Rattle.blocks.specs.declared.Reading.the-variants as reading
 use Rattle.blocks.specs.declared.Schema.the-variants.{Description}
 use Rattle.passes.specs.code.Slots.{inconsistent, nonempty, settled}
-use Rattle.slots.specs.code.Tables.{Settled, marks, slotsOf, tableOf}
+use Rattle.slots.specs.Holding.{holdingOf, whereRoom}
+use Rattle.slots.specs.code.Tables.{Settled, Tabled, marksFrom, slotWord, slotsOf}
+use Rattle.slots.specs.declared.Holding.the-variants as holding
+use Rattle.slots.specs.declared.Holding.{Holding}
 use Rattle.slots.specs.declared.Slotting.{Slotting}
 use Rattle.slots.specs.declared.Slotting.the-variants.{Filled, Refused}
 
--- ---- the answer, and what stands in the tables after it
+-- ---- filling
 
--- how many slots there are; or the refusal
-abbrev pub slottingBy : List ℕ → Reading → Slotting
-slottingBy d r = unlessRefused Refused r (Filled (length (slotsOf d)))
+-- how many numbers each of three tables has
+abbrev pub roomIn : List ℕ → List ℕ → List ℕ → ℕ
+roomIn t bad full = min (length t) (min (length bad) (length full))
 
-unfoldable pub slottingOf : List ℕ → Slotting
-slottingOf d = slottingBy d (readingOf Description 1 d)
+-- how many slots there are; or the refusal; or 7
+unfoldable pub slottingOf : ℕ → List ℕ → Slotting
+slottingOf room d = unlessRefused Refused (readingOf Description 1 d) (whereRoom room d (Refused 7 0 0) (Filled (length (slotsOf d))))
 
--- a table that is filled anew where the input is accepted, and else stays
-abbrev pub filledBy : Reading → List ℕ → List ℕ → List ℕ
-filledBy r new old = unlessRefused (λ k i p. old) r new
+-- a table that is written where the input is accepted and there is room, and else stays
+abbrev pub filledIn : ℕ → List ℕ → List ℕ → List ℕ → List ℕ
+filledIn room d old new = unlessRefused (λ k i p. old) (readingOf Description 1 d) (whereRoom room d old new)
 
--- the settled slots
-unfoldable pub tableAfter : List ℕ → List ℕ → List ℕ
-tableAfter d t = filledBy (readingOf Description 1 d) (tableOf (settled 1 (slotsOf d))) t
+-- the settled slots from number 1 on; all other numbers stay
+unfoldable pub slotsStored : List ℕ → List ℕ → List ℕ
+slotsStored d t = stored t 1 (map slotWord (settled 1 (slotsOf d)))
+
+unfoldable pub tableAfter : ℕ → List ℕ → List ℕ → List ℕ
+tableAfter room d t = filledIn room d t (slotsStored d t)
 
 -- which places are impossible
-unfoldable pub badAfter : List ℕ → List ℕ → List ℕ
-badAfter d bad = filledBy (readingOf Description 1 d) (marks (inconsistent 1 (slotsOf d))) bad
+unfoldable pub badAfter : ℕ → List ℕ → List ℕ → List ℕ
+badAfter room d bad = filledIn room d bad (marksFrom (inconsistent 1 (slotsOf d)) 0 (length bad))
 
 -- which places are not empty
-unfoldable pub fullAfter : List ℕ → List ℕ → List ℕ
-fullAfter d full = filledBy (readingOf Description 1 d) (marks (nonempty 1 (settled 1 (slotsOf d)))) full
-
--- ---- what callers build on
+unfoldable pub fullAfter : ℕ → List ℕ → List ℕ → List ℕ
+fullAfter room d full = filledIn room d full (marksFrom (nonempty 1 (settled 1 (slotsOf d))) 0 (length full))
 
 -- the input is accepted, and its slots stand in the tables, settled
 pub record Standing (d : List ℕ) (used : ℕ) (t bad full : List ℕ) : Type 0 where
@@ -46,7 +52,44 @@ pub record Standing (d : List ℕ) (used : ℕ) (t bad full : List ℕ) : Type 0
   pub read : readingOf Description 1 d ≡ reading.Accepted total
   pub slots-settled : Settled d used t bad full
 
--- by the answer: they stand there, or the input is refused
-abbrev pub FilledBy : List ℕ → List ℕ → List ℕ → List ℕ → Slotting → Type 0
-FilledBy d t bad full (Filled used) = Standing d used t bad full
-FilledBy d t bad full (Refused k i p) = readingOf Description 1 d ≡ reading.Refused k i p
+-- by the answer: they stand there; or the input is refused, if there is room for any
+abbrev pub FilledBy : ℕ → List ℕ → List ℕ → List ℕ → List ℕ → Slotting → Type 0
+FilledBy room d t bad full (Filled used) = Standing d used t bad full
+FilledBy room d t bad full (Refused k i p) = 1008 < room → readingOf Description 1 d ≡ reading.Refused k i p
+
+-- all that filling does, with the tables before and after
+abbrev pub Fills : List ℕ → List ℕ → List ℕ → List ℕ → Slotting → List ℕ → List ℕ → List ℕ → Type 0
+Fills d t bad full r t′ bad′ full′ =
+    (r ≡ slottingOf (roomIn t bad full) d) × (t′ ≡ tableAfter (roomIn t bad full) d t) × (bad′ ≡ badAfter (roomIn t bad full) d bad)
+    × (full′ ≡ fullAfter (roomIn t bad full) d full) × FilledBy (roomIn t bad full) d t′ bad′ full′ r
+
+-- ---- judging
+
+-- the settled slots of c, where both inputs are accepted and there is room; else the table stays
+unfoldable pub tableJudged : List ℕ → List ℕ → List ℕ → List ℕ
+tableJudged c d t =
+    unlessRefused (λ k i p. t) (readingOf Description 1 c) (unlessRefused (λ k i p. t) (readingOf Description 2 d)
+    (whereRoom (length t) c t (slotsStored c t)))
+
+-- both inputs are accepted
+pub record BothRead (c d : List ℕ) : Type 0 where
+  pub first : ℕ
+  pub second : ℕ
+  pub first-read : readingOf Description 1 c ≡ reading.Accepted first
+  pub second-read : readingOf Description 2 d ≡ reading.Accepted second
+
+-- the slots of c stand in the table, settled, and their top is possible
+pub record Judged (c d : List ℕ) (used : ℕ) (t : List ℕ) : Type 0 where
+  pub read : BothRead c d
+  pub tabled : Tabled c used t
+  pub possible : inconsistent 1 (slotsOf c) 0 ≡ false
+
+-- by the answer: they stand there where an entry fails
+abbrev pub JudgedBy : List ℕ → List ℕ → List ℕ → Holding → Type 0
+JudgedBy c d t holding.All = Unit {0}
+JudgedBy c d t (holding.Fails n used) = Judged c d used t
+JudgedBy c d t (holding.Refused k i p) = Unit {0}
+
+-- all that judging does, with the table before and after
+abbrev pub Judges : List ℕ → List ℕ → List ℕ → Holding → List ℕ → Type 0
+Judges c d t r t′ = (r ≡ holdingOf (length t) c d) × (t′ ≡ tableJudged c d t) × JudgedBy c d t′ r

@@ -1,12 +1,15 @@
 -- Which entries hold, by the slots of a normal form. No public promise names these.
 -- Assumes nothing.
-use Prim.Native.Nat.{suc, zero, ℕ}
+use Prim.Native.Nat.{_+_, _<_, _≤_, suc, zero, ℕ}
 use lib.Dec.{eqb, leb}
+use lib.ListN.{getD, length}
 use mathlib.Core.Bool.{Bool, cond, not, true}
 use mathlib.Core.List.{List}
+use mathlib.Core.Logic.{_≢_}
 use mathlib.Core.Option.{Option, none}
 use mathlib.Core.Path.{_≡_}
-use Rattle.blocks.specs.Entries.{nth}
+use Rattle.base.specs.Search.{firstFrom}
+use Rattle.blocks.specs.Entries.{entriesOf, nth}
 use Rattle.blocks.specs.Owners.{ownerOf}
 use Rattle.blocks.specs.declared.Entry.{Entry}
 use Rattle.logic.specs.Normal.{atMost, found}
@@ -69,9 +72,22 @@ holdsInState ss s e =
 unfoldable pub holdsBySlots : List Slot → List Entry → ℕ → Bool
 holdsBySlots ss d n = holdsInState ss (stateOf ss d (ownerOf d n) (ownerOf d n)) (nth d n)
 
--- ---- the table
+-- ---- the tables
 
 -- the settled slots ss stand in the table, on their chains
 pub record Indexed (ss : List Slot) (t next head : List ℕ) (used : ℕ) : Type 0 where
   pub kept : Kept t next head used
   pub slotted : slotsFrom t 1 used ≡ settled 1 ss
+
+-- the states of the top and of each 'every' among the first n entries are in a table that has room for all, and none that was put in is
+-- above `passed`
+pub record Stated (d : List ℕ) (t next head : List ℕ) (used n : ℕ) (states : List ℕ) : Type 0 where
+  pub room : length (entriesOf d) < length states
+  pub small : (j : ℕ) → j ≤ n → getD states j 0 ≤ passed
+  pub right : (ss : List Slot) → Indexed ss t next head used → (o : ℕ) → o ≤ n → (o ≢ 0 → nth (entriesOf d) o .kind ≡ 5) → getD states o 0 ≡ stateOf ss (entriesOf d) o o
+
+-- what a search of `count` entries after the first n answers: the first that fails or 0, and where it is 0 the table of states has theirs
+pub record Searched (d : List ℕ) (t next head : List ℕ) (used n count : ℕ) (states : List ℕ) (r : ℕ) : Type 0 where
+  pub low : r ≤ n + count
+  pub stated : r ≡ 0 → Stated d t next head used (n + count) states
+  pub first : (ss : List Slot) → Indexed ss t next head used → r ≡ firstFrom (holdsBySlots ss (entriesOf d)) (n + 1) count

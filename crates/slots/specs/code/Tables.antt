@@ -2,19 +2,21 @@
 -- Assumes nothing.
 use Prim.Native.Nat.{_%_, _*_, _+_, _-_, _/_, _<_, _≤_, max, suc, zero, ℕ}
 use lib.Dec.{eqb, ltb}
-use lib.ListN.{getD, length, replicate, set}
+use lib.ListN.{drop, getD, length, set}
 use mathlib.Core.Bool.{Bool, _&&_, _||_, cond, false, not, true}
-use mathlib.Core.List.{List, [], _++_, _∷_, map}
+use mathlib.Core.List.{List, [], _∷_, map}
 use mathlib.Core.Option.{Option, none, some}
 use mathlib.Core.Path.{_≡_}
 use Rattle.base.specs.Range.{bit}
 use Rattle.base.specs.Chain.{Chains}
 use Rattle.blocks.specs.Entries.{Bounded, entriesOf, nth}
+use Rattle.blocks.specs.code.Blockwise.{Whole}
 use Rattle.blocks.specs.declared.Entry.{Entry}
 use Rattle.logic.specs.Normal.{found}
 use Rattle.meaning.specs.Description.{rowOf}
+use Rattle.meaning.specs.Owned.{Owned}
 use Rattle.passes.specs.code.Keys.{keyNumber}
-use Rattle.passes.specs.code.Slots.{Slot, broken, inconsistent, nonempty, position, settled, slot, slots, tighten}
+use Rattle.passes.specs.code.Slots.{Slot, broken, build, inconsistent, nonempty, position, settled, slot, slots, tighten}
 
 -- the number that stands for no upper bound: no bound of an entry is as large
 abbrev pub noBound : ℕ
@@ -55,40 +57,49 @@ slotsFrom t i (suc n) = slotIn (getD t i 0) ∷ slotsFrom t (suc i) n
 abbrev pub slotsIn : List ℕ → ℕ → List Slot
 slotsIn t used = slotsFrom t 1 used
 
--- the table of some slots, and nothing else: 0 at number 0 and after them
-unfoldable pub tableOf : List Slot → List ℕ
-tableOf ss = 0 ∷ (map slotWord ss ++ replicate (1008 - length ss) 0)
-
 -- the marks of n places from place v on: 1 where the test holds, else 0
 unfoldable pub marksFrom : (ℕ → Bool) → ℕ → ℕ → List ℕ
 marksFrom f v zero = []
 marksFrom f v (suc n) = bit (f v) ∷ marksFrom f (suc v) n
 
--- the marks of all places: the top, and one below each slot
-abbrev pub marks : (ℕ → Bool) → List ℕ
-marks f = marksFrom f 0 1009
+-- what the passes are told of an accepted description: how many entries it has, that they are few, that each has its owner, and that
+-- their blocks are all there
+abbrev pub Readable : List ℕ → ℕ → Type 0
+Readable d n = (n ≡ length (entriesOf d)) × (n ≤ 1008) × Owned (entriesOf d) × Whole d n
 
--- a table of which every number is known by its slots: upper bounds of at most `noBound`, and 0 at number 0 and after the slots
-pub record Exact (t : List ℕ) (used : ℕ) : Type 0 where
-  pub size : length t ≡ 1009
-  pub high : (j : ℕ) → highPart (getD t j 0) ≤ noBound
-  pub top : getD t 0 0 ≡ 0
-  pub rest : (j : ℕ) → used < j → getD t j 0 ≡ 0
+-- a table that has a number k and reads 0 everywhere
+pub record Blank (k : ℕ) (l : List ℕ) : Type 0 where
+  pub room : k < length l
+  pub zero′ : (j : ℕ) → getD l j 0 ≡ 0
 
--- the bucket of a key
-unfoldable pub hashOf : ℕ → ℕ
-hashOf key = key % 1021
+-- what the passes over n entries need beside the table of slots: numbers for the chains, whatever they are, a blank head for each bucket,
+-- and a blank number for each entry
+pub record Workspace (n : ℕ) (next head node : List ℕ) : Type 0 where
+  pub nexts : n < length next
+  pub heads : Blank 60 head
+  pub nodes : Blank n node
 
--- the chains of a table: each slot points to the one before it in its bucket
-abbrev pub ChainsIn : List ℕ → List ℕ → List ℕ → ℕ → Type 0
-ChainsIn t next head used = Chains (λ j. hashOf (keyIn (getD t j 0))) (λ j. getD next j 0) (λ b. getD head b 0) 1021 used
+-- a table that was `origin` before its slots were written: they have upper bounds of at most `noBound`, and all other numbers stay
+pub record Exact (origin t : List ℕ) (used : ℕ) : Type 0 where
+  pub size : length t ≡ length origin
+  pub high : (j : ℕ) → 1 ≤ j → j ≤ used → highPart (getD t j 0) ≤ noBound
+  pub top : getD t 0 0 ≡ getD origin 0 0
+  pub rest : (j : ℕ) → used < j → getD t j 0 ≡ getD origin j 0
+
+-- the bucket of a key, of m: tables come in two sizes
+unfoldable pub hashOf : ℕ → ℕ → ℕ
+hashOf m key = cond (ltb m 1021) (key % 61) (key % 1021)
+
+-- the chains of a table, of m buckets: each slot points to the one before it in its bucket
+abbrev pub ChainsIn : ℕ → List ℕ → List ℕ → List ℕ → ℕ → Type 0
+ChainsIn m t next head used = Chains (λ j. hashOf m (keyIn (getD t j 0))) (λ j. getD next j 0) (λ b. getD head b 0) m used
 
 -- a table of so many slots, no two of one key, on their chains
 pub record Kept (t next head : List ℕ) (used : ℕ) : Type 0 where
-  pub exact : Exact t used
-  pub nexts : length next ≡ 1009
-  pub heads : length head ≡ 1021
-  pub chains : ChainsIn t next head used
+  pub room : used < length t
+  pub nexts : used < length next
+  pub heads : 61 ≤ length head
+  pub chains : ChainsIn (length head) t next head used
   pub apart : (i j : ℕ) → 1 ≤ i → i < j → j ≤ used → eqb (keyIn (getD t i 0)) (keyIn (getD t j 0)) ≡ false
 
 -- ---- the slot of an entry, by its kind number
@@ -105,6 +116,13 @@ lowKind k m = cond (eqb k 1) 1 (cond (eqb k 2) 0 (cond (eqb k 3) m (cond (eqb k 
 unfoldable pub highKind : ℕ → ℕ → ℕ
 highKind k m = cond (eqb k 1) noBound (cond (eqb k 2) 0 (cond (eqb k 3) noBound (cond (eqb k 4) m (cond (eqb k 5) noBound 0))))
 
+-- both as one number, as they stand in a slot: the entry's number times one constant of its kind, and another on top
+unfoldable pub boundsTimes : ℕ → ℕ
+boundsTimes k = cond (eqb k 3) 131072 (cond (eqb k 4) 1 0)
+
+unfoldable pub boundsBase : ℕ → ℕ
+boundsBase k = cond (eqb k 1) 196608 (cond (eqb k 2) 0 (cond (eqb k 3) 65536 (cond (eqb k 4) 0 (cond (eqb k 5) 65536 131072))))
+
 -- where the entries before entry n lead: the top to 0, an 'every' to its slot
 unfoldable pub leadsTo : List Entry → List ℕ → ℕ → ℕ → Option ℕ
 leadsTo es node n j = cond (eqb j 0 || (ltb j n && eqb (nth es j .kind) 5)) (some (getD node j 0)) none
@@ -115,10 +133,10 @@ pub record Entered (t next head : List ℕ) (used v : ℕ) (b : Bool) (n lo hi r
   pub from : 1 ≤ r
   pub tightened : slotsIn t′ (max used r) ≡ tighten (slotsIn t used) v b n lo (highIn hi)
   pub kept : Kept t′ next′ head′ (max used r)
+  pub exact : (origin : List ℕ) → Exact origin t used → Exact origin t′ (max used r)
 
 -- where entries lead to, as far as `used` slots
 pub record Nodes (node : List ℕ) (used : ℕ) : Type 0 where
-  pub size : length node ≡ 1009
   pub top : getD node 0 0 ≡ 0
   pub small : (j : ℕ) → getD node j 0 ≤ used
 
@@ -126,11 +144,23 @@ pub record Nodes (node : List ℕ) (used : ℕ) : Type 0 where
 abbrev pub slotsOf : List ℕ → List Slot
 slotsOf d = slots (map rowOf (entriesOf d))
 
--- they stand in the table
-pub record Built (d : List ℕ) (used : ℕ) (t next head : List ℕ) : Type 0 where
-  pub slotted : slotsOf d ≡ slotsIn t used
+-- the first n entries are entered, and the slots so far with those of the entries left are all of them; the tables have room for these
+pub record Building (d : List ℕ) (n used : ℕ) (t next head node : List ℕ) : Type 0 where
+  pub few : used ≤ n
   pub kept : Kept t next head used
-  pub few : used ≤ 1008
+  pub nodes : Nodes node used
+  pub slotted : slotsOf d ≡ build (leadsTo (entriesOf d) node (suc n)) (slotsIn t used) (suc n) (drop n (map rowOf (entriesOf d)))
+  pub bounded : (j : ℕ) → 1 ≤ j → j ≤ n → Bounded (nth (entriesOf d) j)
+  pub room : length (entriesOf d) < length t
+  pub nexts : length (entriesOf d) < length next
+  pub places : length (entriesOf d) < length node
+
+-- they stand in the table, which was `origin` before
+pub record Built (d : List ℕ) (used : ℕ) (origin t next head : List ℕ) : Type 0 where
+  pub slotted : slotsOf d ≡ slotsIn t used
+  pub exact : Exact origin t used
+  pub kept : Kept t next head used
+  pub few : used ≤ length (entriesOf d)
   pub bounded : (n : ℕ) → 1 ≤ n → n ≤ length (entriesOf d) → Bounded (nth (entriesOf d) n)
 
 -- ---- the second pass
@@ -141,16 +171,14 @@ pub record Placed (t : List ℕ) (used : ℕ) : Type 0 where
 
 -- the slots above slot s are settled, and `bad` and `full` are what they say of each place; `origin` is the table before the pass
 pub record Settling (origin : List ℕ) (used s : ℕ) (t bad full : List ℕ) : Type 0 where
-  pub size : length t ≡ 1009
-  pub bad-size : length bad ≡ 1009
-  pub full-size : length full ≡ 1009
+  pub size : length t ≡ length origin
   pub below : (j : ℕ) → j ≤ s → getD t j 0 ≡ getD origin j 0
   pub keys : (j : ℕ) → keyIn (getD t j 0) ≡ keyIn (getD origin j 0)
   pub highs : (j : ℕ) → highPart (getD t j 0) ≤ highPart (getD origin j 0)
   pub rest : (j : ℕ) → used < j → getD t j 0 ≡ getD origin j 0
   pub above : slotsFrom t (suc s) (used - s) ≡ settled (suc s) (slotsFrom origin (suc s) (used - s))
-  pub bads : (v : ℕ) → v < 1009 → getD bad v 0 ≡ bit (inconsistent (suc s) (slotsFrom origin (suc s) (used - s)) v)
-  pub fulls : (v : ℕ) → v < 1009 → getD full v 0 ≡ bit (nonempty (suc s) (settled (suc s) (slotsFrom origin (suc s) (used - s))) v)
+  pub bads : (v : ℕ) → getD bad v 0 ≡ bit (inconsistent (suc s) (slotsFrom origin (suc s) (used - s)) v)
+  pub fulls : (v : ℕ) → getD full v 0 ≡ bit (nonempty (suc s) (settled (suc s) (slotsFrom origin (suc s) (used - s))) v)
 
 -- what settling slot s does to the tables
 abbrev pub closedBound : List ℕ → List ℕ → ℕ → ℕ
@@ -163,21 +191,26 @@ pub record Slotted (t bad full : List ℕ) (s : ℕ) (t′ bad′ full′ : List
       ≡ cond (not (eqb (lowPart (getD t s 0)) 0) || (found (highIn (closedBound t bad s)) || (eqb (keyIn (getD t s 0) / 65536 % 2) 1 && not (eqb (getD full s 0) 0))))
       (set full (keyIn (getD t s 0) / 131072) 1) full
 
--- The slots of a description stand in the table, settled, each at a place of a lower number and with a key of its own; `bad` and
--- `full` are what they say of each place.
-pub record Settled (d : List ℕ) (used : ℕ) (t bad full : List ℕ) : Type 0 where
+-- ---- what callers build on
+
+-- the slots of a description stand in the table, settled, each at a place of a lower number and with a key of its own
+pub record Tabled (d : List ℕ) (used : ℕ) (t : List ℕ) : Type 0 where
   pub few : used ≤ 1008
-  pub exact : Exact t used
+  pub room : used < length t
+  pub counted : used ≡ length (slotsOf d)
   pub slotted : slotsFrom t 1 used ≡ settled 1 (slotsOf d)
-  pub bad-size : length bad ≡ 1009
-  pub bads : (v : ℕ) → v < 1009 → getD bad v 0 ≡ bit (inconsistent 1 (slotsOf d) v)
-  pub full-size : length full ≡ 1009
-  pub fulls : (v : ℕ) → v < 1009 → getD full v 0 ≡ bit (nonempty 1 (settled 1 (slotsOf d)) v)
   pub apart : (i j : ℕ) → 1 ≤ i → i < j → j ≤ used → eqb (keyIn (getD t i 0)) (keyIn (getD t j 0)) ≡ false
   pub lower : (j : ℕ) → 1 ≤ j → j ≤ used → keyIn (getD t j 0) / 131072 < j
   pub bounded : (n : ℕ) → 1 ≤ n → n ≤ length (entriesOf d) → Bounded (nth (entriesOf d) n)
 
--- the same, with the chains that find them
-pub record Chained (d : List ℕ) (used : ℕ) (t next head bad full : List ℕ) : Type 0 where
+-- and `bad` and `full` are what they say of each place
+pub record Settled (d : List ℕ) (used : ℕ) (t bad full : List ℕ) : Type 0 where
+  pub tabled : Tabled d used t
+  pub bads : (v : ℕ) → getD bad v 0 ≡ bit (inconsistent 1 (slotsOf d) v)
+  pub fulls : (v : ℕ) → getD full v 0 ≡ bit (nonempty 1 (settled 1 (slotsOf d)) v)
+
+-- the same, with the chains that find them, in a table that was `origin` before
+pub record Chained (d : List ℕ) (used : ℕ) (origin t next head bad full : List ℕ) : Type 0 where
   pub settled′ : Settled d used t bad full
+  pub exact : Exact origin t used
   pub kept : Kept t next head used

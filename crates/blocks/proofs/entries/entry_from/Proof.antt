@@ -1,15 +1,13 @@
--- `entry_from` meets its contract: field by field.
+-- `entry_from` meets its contract.
 use borrow.Author.Needs.{needs}
-use Rattle.blocks.specs.Entries.{entryFrom}
+use Rattle.blocks.proofs.Refusing.EntryLaws.{from-bytes}
 use Rattle.blocks.proofs.entries.entry_from.Statement.{statement}
 use Rattle.blocks.proofs.entries.entry_from.Tie as tie
 
 returns : tie.Need-returns
-unfolding entryFrom
-returns c = cc
+returns c = from-bytes _ _ (c .entry-of-bytes .ensures)
 
 pub entry-from-spec : {M : Type 1} → statement M
 entry-from-spec =
     tie.close
-    (tie.spec (λ c. search needs) (λ c. search needs) (λ c. search needs) (λ c. search needs) (λ c κs. search needs)
-    (λ c. search needs) (λ c κs. search needs) (λ c. search needs) (λ c κs. search needs) returns)
+    (tie.spec (λ c. search needs) (λ c. search needs) (λ c. search needs) (λ c. search needs) (λ c. search needs) (λ c. search needs) (λ c. search needs) (λ c. search needs) (λ c. search needs) (λ c. search needs) (λ c. search needs) (λ c. search needs) (λ c. search needs) (λ c. search needs) (λ c. search needs) (λ c κs. search needs) returns)

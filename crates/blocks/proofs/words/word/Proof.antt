@@ -16,5 +16,4 @@ returns-2 c = search needs
 pub word-spec : {M : Type 1} → statement M
 word-spec =
     tie.close
-    (tie.spec returns (λ c κs. search needs) (λ c κs. search needs) (λ c. search needs) (λ c κs. search needs)
-    (λ c κs. search needs) (λ c. search needs) (λ c. search needs) returns-2)
+    (tie.spec returns (λ c κs. search needs) (λ c. search needs) (λ c κs. search needs) (λ c κs. search needs) returns-2)

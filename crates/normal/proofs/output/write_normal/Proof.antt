@@ -17,7 +17,7 @@ returns c =
 normal-rows-requires : tie.Need-normal-rows-requires
 normal-rows-requires c κs =
     let S = c .before .before .before .before .pre in
-    (settled-orderable (S .slots-settled), refl, standing-few S)
+    (settled-orderable (S .slots-settled .tabled), refl, standing-few S)
 
 cast-t17 : tie.Need-cast-t17
 cast-t17 c =

@@ -11,4 +11,6 @@ returns-2 : tie.Need-returns-2
 returns-2 c = rw (ne-eqb (c .if1 .left))
 
 pub answer-of-spec : {M : Type 1} → statement M
-answer-of-spec = tie.close (tie.spec returns (λ c. search needs) returns-2)
+answer-of-spec =
+    tie.close
+    (tie.spec returns (λ c. search needs) (λ c. search needs) returns-2)

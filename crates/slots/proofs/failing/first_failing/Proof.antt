@@ -1,17 +1,21 @@
--- `first_failing` meets its contract.
+-- `first_failing` meets its contract: the first is refused, or accepted.
 use borrow.Author.Needs.{needs}
 use mathlib.Core.Path.{_∙_, sym}
-use Rattle.slots.proofs.FailingLaws.{first-refused}
+use Rattle.slots.proofs.failing.JudgingLaws.{judging-first}
 use Rattle.slots.proofs.failing.first_failing.Statement.{statement}
 use Rattle.slots.proofs.failing.first_failing.Tie as tie
 
 second-failing-requires : tie.Need-second-failing-requires
-second-failing-requires c κs = sym (c .before .before .before .read .ensures) ∙ c .before .reading2 .given .1
+second-failing-requires c κs = sym (c .before .before .before .before .read .ensures) ∙ c .before .before .reading2 .given .1
 
 returns : tie.Need-returns
-returns c = sym (first-refused _ _ (sym (c .before .before .before .read .ensures) ∙ c .before .reading .given .1))
+returns c = judging-first _ _ _ (sym (c .before .before .before .read .ensures) ∙ c .before .reading .given .1)
+
+returns-2 : tie.Need-returns-2
+returns-2 c = c .before .before .second-failing .ensures
 
 pub first-failing-spec : {M : Type 1} → statement M
 first-failing-spec =
     tie.close
-    (tie.spec (λ c κs. search needs) (λ c. search needs) (λ c. search needs) (λ c. search needs) second-failing-requires returns (λ c. search needs))
+    (tie.spec (λ c κs. search needs) (λ c. search needs) (λ c. search needs) (λ c. search needs) second-failing-requires returns (λ c. search needs)
+    returns-2)

@@ -1,20 +1,27 @@
 -- `chained_slots` meets its contract: the slots are built, then settled.
 use borrow.Author.Needs.{needs}
+use native.Mathlib.Omega.{arith}
 use Rattle.slots.proofs.PassLaws.{built-placed, settled-from}
-use Rattle.slots.proofs.states.BoundLaws.{settled-kept}
+use Rattle.slots.proofs.filling.FillingLaws.{blank-less}
+use Rattle.slots.proofs.states.BoundLaws.{settled-exact, settled-kept}
 use Rattle.slots.proofs.filling.chained_slots.Statement.{statement}
 use Rattle.slots.proofs.filling.chained_slots.Tie as tie
 
 settle-requires : tie.Need-settle-requires
 settle-requires c κs =
-    let a = c .before .before .before .before .before .before .before .before .before in
-    let r = c .before .before .before .build .ensures in
-    (r .few, r .kept .exact .size, built-placed r, a .pre .6, a .pre .7)
+    let a = c .before .before .before .before .before .before .before .before .before .before .before .before .before .before .before .before .before .before .before .before .before .before .before .pre in
+    let r = c .before .before .before .before .before .before .before .before .before .before .before .build .ensures in
+    (r .kept .room, built-placed r, blank-less (omega (arith, r .few, a .0 .0)) (a .3), blank-less (omega (arith, r .few, a .0 .0)) (a .4))
 
 returns : tie.Need-returns
 returns c =
-    let r = c .before .before .before .before .build .ensures in
-    record { settled′ = settled-from r (c .settle .ensures); kept = settled-kept (r .kept) (c .settle .ensures) }
+    let a = c .before .before .before .before .before .before .before .before .before .before .before .before .before .before .before .before .before .before .before .before .before .before .before .before .before .before .before .before .before .before .pre in
+    let r = c .before .before .before .before .before .before .before .before .before .before .before .before .before .before .before .before .before .before .build .ensures in
+    let s = c .before .before .before .before .before .before .settle .ensures in
+    record { settled′ = settled-from r s (omega (arith, a .0 .0, a .0 .1)); exact = settled-exact (r .exact) s; kept = settled-kept (r .kept) s }
 
 pub chained-slots-spec : {M : Type 1} → statement M
-chained-slots-spec = tie.close (tie.spec (λ c κs. search needs) settle-requires returns)
+chained-slots-spec =
+    tie.close
+    (tie.spec (λ c κs. search needs) settle-requires (λ c. search needs) (λ c. search needs) (λ c. search needs) (λ c. search needs)
+    (λ c. search needs) (λ c. search needs) returns)

@@ -1,12 +1,37 @@
--- `fill_accepted` meets its contract: the tables are cleared, then filled.
+-- `fill_accepted` meets its contract: too short, or cleared and filled.
 use borrow.Author.Needs.{needs}
-use mathlib.Core.Path.{refl}
+use native.Mathlib.Omega.{arith}
 use Rattle.slots.proofs.FailingLaws.{accepted-few}
+use Rattle.slots.proofs.filling.FillingLaws.{filling-accepted, filling-short}
 use Rattle.slots.proofs.filling.fill_accepted.Statement.{statement}
 use Rattle.slots.proofs.filling.fill_accepted.Tie as tie
 
+returns : tie.Need-returns
+returns c = filling-short _ (c .before .before .before .before .before .before .before .pre) _ _ _ (omega (arith, c .if1 .taken, c .before .smaller2 .ensures, c .before .before .smaller .ensures))
+
 settled-slots-requires : tie.Need-settled-slots-requires
-settled-slots-requires c κs = let f = accepted-few 1 _ (c .before .before .before .before .before .before .before .pre) in (f .0, f .1, f .2, refl, refl, refl)
+settled-slots-requires c κs =
+    let r = c .before .before .before .before .before .before .before .before .before .before .before .if1 .left in
+    let a = c .before .before .before .before .before .before .before .before .before .before .before .before .smaller2 .ensures in
+    let b = c .before .before .before .before .before .before .before .before .before .before .before .before .before .smaller .ensures in (
+      accepted-few 1 _ (c .before .before .before .before .before .before .before .before .before .before .before .before .before .before .before .before .before .before .pre),
+      omega (arith, r, a, b),
+      record { room = omega (arith, r, a, b, c .before .before .before .before .before .before .before .before .before .clear .kept); zero′ = c .before .before .before .before .before .before .before .before .before .clear .ensures },
+      record { room = omega (arith, r, a, b, c .before .before .before .before .before .clear2 .kept); zero′ = c .before .before .before .before .before .clear2 .ensures },
+    )
+
+cast-t23 : tie.Need-cast-t23
+cast-t23 c = omega (arith, c .before .before .before .before .before .before .settled-slots .ensures .0 .tabled .few)
+
+returns-2 : tie.Need-returns-2
+returns-2 c =
+    let a = c .before .before .before .before .before .before .before .before .before .before .before .before .before .before .before .before .before .before .before .before .before .before .before .before .before in
+    let s = c .before .before .before .before .before .before .settled-slots in
+    filling-accepted (a .args .d .now) (a .pre) (a .args .table .now) (a .args .bad .now) (a .args .full .now) (omega (arith, c .before .before .before .before .before .before .before .before .before .before .before .before .before .before .before .before .before .before .if1 .left, c .before .before .before .before .before .before .before .before .before .before .before .before .before .before .before .before .before .before .before .smaller2 .ensures, c .before .before .before .before .before .before .before .before .before .before .before .before .before .before .before .before .before .before .before .before .smaller .ensures)) (s .ensures .0) (s .ensures .1)
+    (omega (arith, s .kept, c .before .before .before .before .before .before .before .before .before .before .before .before .before .before .before .before .clear .kept)) (omega (arith, s .kept, c .before .before .before .before .before .before .before .before .before .before .before .before .clear2 .kept))
 
 pub fill-accepted-spec : {M : Type 1} → statement M
-fill-accepted-spec = tie.close (tie.spec settled-slots-requires (λ c. search needs))
+fill-accepted-spec =
+    tie.close
+    (tie.spec (λ c κs. search needs) (λ c κs. search needs) returns (λ c κs. search needs) (λ c κs. search needs) settled-slots-requires cast-t23
+    (λ c. search needs) (λ c. search needs) (λ c. search needs) returns-2)

@@ -12,4 +12,4 @@ returns-2 c = rw (c .if1 .left)
 pub mark-spec : {M : Type 1} → statement M
 mark-spec =
     tie.close
-    (tie.spec (λ c. search needs) returns returns-2)
+    (tie.spec (λ c. search needs) (λ c. search needs) returns returns-2)

@@ -5,10 +5,21 @@ use Rattle.slots.proofs.slots.tighten.Tie as tie
 
 returns : tie.Need-returns
 returns c =
-    rw (c .make-slot .ensures, c .before .smaller .ensures, c .before .before .high-in .ensures .0, c .before .before .before .larger .ensures, c .before .before .before .before .low-in .ensures .0, c .before .before .before .before .before .key-in .ensures)
+    let x = c .before .before in
+    let b = x .before .before .before .before in
+    rw (
+      c .make-slot .ensures,
+      c .before .smaller .ensures,
+      x .high-in2 .ensures .0,
+      x .before .larger .ensures,
+      x .before .before .low-in2 .ensures .0,
+      x .before .before .before .key-in .ensures .0,
+      b .high-in .ensures .0,
+      b .before .low-in .ensures .0,
+    )
 
 pub tighten-spec : {M : Type 1} → statement M
 tighten-spec =
     tie.close
-    (tie.spec (λ c. search needs) (λ c. search needs) (λ c κs. search needs) (λ c κs. search needs) (λ c κs. search needs)
-    (λ c κs. search needs) (λ c κs. search needs) (λ c κs. search needs) (λ c. search needs) (λ c. search needs) returns)
+    (tie.spec (λ c. search needs) (λ c. search needs) (λ c κs. search needs) (λ c κs. search needs) (λ c κs. search needs) (λ c κs. search needs) (λ c κs. search needs) (λ c κs. search needs)
+    (λ c κs. search needs) (λ c κs. search needs) (λ c. search needs) (λ c. search needs) (λ c. search needs) returns)

@@ -11,4 +11,6 @@ returns-2 : tie.Need-returns-2
 returns-2 c = rw (ne-eqb (c .before .if1 .left))
 
 pub bounds-spec : {M : Type 1} → statement M
-bounds-spec = tie.close (tie.spec returns (λ c. search needs) (λ c. search needs) returns-2)
+bounds-spec =
+    tie.close
+    (tie.spec returns (λ c. search needs) (λ c. search needs) returns-2)

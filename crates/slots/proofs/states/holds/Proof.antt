@@ -18,13 +18,12 @@ unfolding holdsInState
 returns-2 c = λ ss i. rw (holdsInState, eq-eqb (c .if2 .taken))
 
 bounds-requires : tie.Need-bounds-requires
-bounds-requires c κs = omega (arith, c .entry-slot .ensures .0, c .before .before .before .before .pre .1)
+bounds-requires c κs = omega (arith, c .entry-slot .ensures .0, c .before .before .before .before .before .before .before .pre .0 .room)
 
 returns-3 : tie.Need-returns-3
 unfolding holdsInState
 returns-3 c = λ ss i.
-    let s = c .before .before .before .before in
-    let e = s .entry-slot .ensures in
+    let e = c .before .before .before .before .entry-slot .ensures in
     let x = c .before .before .before .bounds .ensures in
     let lo = c .before .before .low-in .ensures .0 ∙ bounds-low i (e .0) x in
     let hi = ap highIn (c .before .high-in .ensures .0) ∙ bounds-high i (e .0) x in

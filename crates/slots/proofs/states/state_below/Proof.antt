@@ -18,30 +18,30 @@ returns-2 : tie.Need-returns-2
 unfolding stateBelow
 returns-2 c = (omega arith, λ ss i. rw (stateBelow, ne-eqb (c .before .before .if1 .left), ← c .before .link-slot .ensures .1 ss i, eq-eqb (c .if2 .taken)))
 
-element-copy-out-high-in : tie.Need-element-copy-out-high-in
-element-copy-out-high-in c = omega (arith, c .before .link-slot .ensures .0, c .before .before .before .pre .1)
+shared-slice-read-high-in : tie.Need-shared-slice-read-high-in
+shared-slice-read-high-in c = omega (arith, c .before .before .link-slot .ensures .0, c .before .before .before .before .before .before .before .pre .0 .room)
 
 returns-3 : tie.Need-returns-3
 unfolding stateBelow
 returns-3 c =
-    let s = c .before .before .before .before in (
+    let s = c .before .before .before .before .link-slot in (
       omega arith,
       λ ss i.
-          let h : highIn (c .before .high-in .result) ≡ highAt ss (s .link-slot .result) = ap highIn (c .before .high-in .ensures .0) ∙ high-slot i _ (omega (arith, c .before .before .before .if2 .left)) (s .link-slot .ensures .0) in
-          rw (stateBelow, ne-eqb (c .before .before .before .before .before .if1 .left), ← s .link-slot .ensures .1 ss i, ne-eqb (c .before .before .before .if2 .left), ← h, high-none (c .if3 .taken)),
+          let h : highIn (c .before .high-in .result) ≡ highAt ss (s .result) = ap highIn (c .before .high-in .ensures .0) ∙ high-slot i _ (omega (arith, c .before .before .before .if2 .left)) (s .ensures .0) in
+          rw (stateBelow, ne-eqb (c .before .before .before .before .before .if1 .left), ← s .ensures .1 ss i, ne-eqb (c .before .before .before .if2 .left), ← h, high-none (c .if3 .taken)),
     )
 
 returns-4 : tie.Need-returns-4
 unfolding stateBelow
 returns-4 c =
-    let s = c .before .before .before .before in (
-      omega (arith, s .link-slot .ensures .0, c .before .before .before .before .before .before .pre .1),
+    let s = c .before .before .before .before .link-slot in (
+      omega (arith, s .ensures .0, c .before .before .before .before .before .before .before .before .before .pre .1),
       λ ss i.
-          let h : highIn (c .before .high-in .result) ≡ highAt ss (s .link-slot .result) = ap highIn (c .before .high-in .ensures .0) ∙ high-slot i _ (omega (arith, c .before .before .before .if2 .left)) (s .link-slot .ensures .0) in
-          rw (stateBelow, ne-eqb (c .before .before .before .before .before .if1 .left), ← s .link-slot .ensures .1 ss i, ne-eqb (c .before .before .before .if2 .left), ← h, high-some _ (c .if3 .left)),
+          let h : highIn (c .before .high-in .result) ≡ highAt ss (s .result) = ap highIn (c .before .high-in .ensures .0) ∙ high-slot i _ (omega (arith, c .before .before .before .if2 .left)) (s .ensures .0) in
+          rw (stateBelow, ne-eqb (c .before .before .before .before .before .if1 .left), ← s .ensures .1 ss i, ne-eqb (c .before .before .before .if2 .left), ← h, high-some _ (c .if3 .left)),
     )
 
 pub state-below-spec : {M : Type 1} → statement M
 state-below-spec =
     tie.close
-    (tie.spec returns (λ c κs. search needs) returns-2 (λ c. search needs) element-copy-out-high-in (λ c κs. search needs) returns-3 returns-4)
+    (tie.spec returns (λ c κs. search needs) returns-2 (λ c. search needs) shared-slice-read-high-in (λ c κs. search needs) returns-3 returns-4)

@@ -1,0 +1,4 @@
+-- Laws of the code in src/entries.rt.
+
+-- The next entry of a pass: its owner was passed before.
+pub mod NextEntry
