@@ -4,6 +4,8 @@ pub mod AnswerLaws
 pub mod ReadingNumbers
 -- The examples of normal forms: what normalising answers and writes for each.
 pub mod Cases
+-- Tables that have room for an input.
+pub mod RoomLaws
 -- The packed entries of a normal form, written to the output, give the output that the answer promises.
 pub mod NormalWritten
 -- The normal form of an input.

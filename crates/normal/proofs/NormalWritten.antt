@@ -1,6 +1,6 @@
 -- The packed entries of a normal form, written to the output, give the output that the answer promises.
 -- Assumes nothing.
-use Prim.Native.Nat.{_≤_, ℕ}
+use Prim.Native.Nat.{_+_, _≤_, ℕ}
 use lib.ListN.{length, length-map, take}
 use lib.Seq.{length-take-le, take-all}
 use mathlib.Core.List.{List, [], _∷_, map}
@@ -8,7 +8,7 @@ use mathlib.Core.Path.{_∙_, _≡_, ap, refl, sym}
 use native.Mathlib.Omega.{arith}
 use Rattle.base.proofs.Tests.{le-leb, leb-self}
 use Rattle.blocks.proofs.Refusing.Bounds.{AllBounded}
-use Rattle.blocks.proofs.RoundTrip.Accepting.{sound-of-accepted, written-encodes}
+use Rattle.blocks.proofs.RoundTrip.Accepting.{none-of-accepted, sound-of-accepted, written-encodes}
 use Rattle.blocks.proofs.RoundTrip.Faithful.{entries-limit}
 use Rattle.blocks.specs.Encoding.{bytesWritten, written}
 use Rattle.blocks.specs.Entries.{entriesOf, packed}
@@ -27,12 +27,13 @@ use Rattle.meaning.specs.RowEntries.{rowEntry}
 use Rattle.normal.proofs.AnswerLaws.{Ready, normalised}
 use Rattle.normal.proofs.PromiseKept.{normalised-means}
 use Rattle.normal.proofs.emit.PushLaws.{pushed-total}
-use Rattle.normal.proofs.tables.PassOrder.{rows-few, rows-normal}
+use Rattle.normal.proofs.tables.PassRows.{front-length, front-settled, rows-few, rows-normal}
 use Rattle.normal.specs.Answer.{normaliseOf, normalisedOf, outputAfter}
-use Rattle.normal.specs.code.Emitted.{Pushed, rowNumber, tableRows}
+use Rattle.normal.specs.code.Emitted.{Lent, Pushed, Roomy, rowNumber, tableRows}
 use Rattle.normal.specs.declared.NormalAnswer.the-variants.{Normalised}
 use Rattle.slots.proofs.PassLaws.{all-bounded}
 use Rattle.slots.specs.code.Standing.{Standing}
+use Rattle.slots.specs.code.TablePlaces.{usedIn}
 
 rows-packed : (rs : List (Row Atom ℕ)) → map rowNumber rs ≡ map packed (map rowEntry rs)
 rows-packed [] = refl
@@ -73,16 +74,48 @@ module _ {d : List ℕ} {used : ℕ} {t bad full : List ℕ} (S : Standing d use
   entries-few : length (entriesOf d) ≤ 1008
   entries-few = omega (arith, entries-limit (sound-of-accepted Description 1 d (S .read) .blocks))
 
-  -- its rows are as many as the table can hold
-  pub standing-few : length (tableRows t used bad full) ≤ 1008
-  standing-few = rw (rows-normal (S .slots-settled) entries-few) (rows-few d entries-few)
+  -- the table as far as the last slot
+  abbrev front : List ℕ
+  front = take (used + 1) t
 
-  module _ {rows : List ℕ} {r : ℕ} (P : Pushed [] 0 (tableRows t used bad full) rows r) where
+  rows-are : tableRows front bad full ≡ write (nf unrestricted (placeOf (entriesOf d) 0))
+  rows-are = rows-normal (front-settled (S .slots-settled)) entries-few
+
+  -- its rows are no more than its entries
+  standing-rows : length (tableRows front bad full) ≤ length (entriesOf d)
+  standing-rows = rw rows-are (rows-few d)
+
+  -- and there is room for them, as for the slots
+  module _ {last before order rows below : List ℕ} (R : Roomy d t bad full last before order rows below) where
+    pub standing-few : length (tableRows front bad full) ≤ length rows
+    standing-few = omega (arith, standing-rows, none-of-accepted Description 1 d (S .read) .1, R .entries (S .total) (S .read))
+
+    pub standing-full : length front ≤ length full
+    standing-full = omega (arith, front-length (S .slots-settled .tabled), S .slots-settled .tabled .room, R .slots-room, R .full-room)
+
+    pub standing-lent : Lent (usedIn front) last before order rows below
+    standing-lent =
+        let few : usedIn front ≤ length rows = omega (arith, front-length (S .slots-settled .tabled), S .slots-settled .tabled .room, R .slots-room) in
+        let l = R .lent in
+        record {
+          cleared = l .cleared;
+          lasts = omega (arith, few, l .lasts);
+          befores = omega (arith, few, l .befores);
+          orders = omega (arith, few, l .orders);
+          some-row = l .some-row;
+          few-rows = l .few-rows;
+          belows = l .belows;
+        }
+
+  module _ {w : ℕ} {rows : List ℕ} {r : ℕ} (P : Pushed w [] 0 (tableRows front bad full) rows r) where
     pub rows-most : r ≤ 1008
-    rows-most = omega (arith, pushed-total (tableRows t used bad full) P, standing-few)
+    rows-most = omega (arith, pushed-total (tableRows front bad full) P, standing-rows, entries-few)
+
+    pub rows-held : {last before order rows₀ below : List ℕ} → Roomy d t bad full last before order rows₀ below → r ≤ length rows₀
+    rows-held R = omega (arith, pushed-total (tableRows front bad full) P, standing-few R)
 
     -- they are written as answered
-    pub rows-written : (out : List ℕ) → length d ≤ length out → (normaliseOf d out ≡ Normalised r) × (written out rows r ≡ normalisedOf d out)
-    rows-written out l =
-        normal-written d out (record { total = S .total; read = S .read; room = l }) (all-bounded d (S .slots-settled .tabled .bounded)) rows r (omega (arith, rows-most, P .size))
-        (P .held ∙ ap (map rowNumber) (rows-normal (S .slots-settled) entries-few))
+    pub rows-written : (out : List ℕ) → r ≤ w → length d ≤ length out → (normaliseOf d out ≡ Normalised r) × (written out rows r ≡ normalisedOf d out)
+    rows-written out m l =
+        normal-written d out (record { total = S .total; read = S .read; room = l }) (all-bounded d (S .slots-settled .tabled .bounded)) rows r (omega (arith, m, P .size))
+        (P .held ∙ ap (map rowNumber) rows-are)

@@ -6,3 +6,5 @@ pub mod EmitLaws
 pub mod PushLaws
 -- The 'every' rows of a place, pushed one by one, with the slots that they lead to.
 pub mod PlacingLaws
+-- The rows of a place, from its two runs.
+pub mod ClassLaws

@@ -1,12 +1,8 @@
 -- Laws of the code in src/ordering.rt.
 
--- Laws of numbering the slots, and of the first index of each place.
-pub mod OrderingLaws
--- The tags of slots, from the numbers that hold a slot's key above its own number.
+-- The tags of the slots of a table, each with its place.
 pub mod TagLaws
--- The numbers of slots in ascending order are their tags in ascending order, where no two slots have one key.
-pub mod TagOrder
--- The fast normal form from a table of settled slots and the ascending list of their numbers.
-pub mod NormalOrdered
--- The cells of a place stand in a row where the numbers ascend by place.
-pub mod PlaceRuns
+-- The cells of a place, from its two runs, are those that its slots give.
+pub mod ClassCells
+-- A run's tags, gathered and sorted.
+pub mod RunLaws

@@ -1,4 +1,4 @@
 -- Laws of the code in src/tables.rt.
 
--- The third pass and the fourth: what the ordered slots give.
-pub mod PassOrder
+-- The last passes: what the settled slots give, by the runs of each place.
+pub mod PassRows

@@ -1,4 +1,5 @@
-// The normal form of a description: its slots, which `slots` builds and settles, are put in order and written place by place.
+// The normal form of a description: its slots, which `slots` builds and settles and `runs` puts on chains, are put in order and written place
+// by place.
 //
 // The contracts cite specs/: Answer says what is answered and written; the others mirror the code, and no public promise names them. What a
 // normal form is, that the same items fit it and that there is only one, is said and proved in `logic`; the same of lists of entries, and

@@ -1,6 +1,9 @@
 // The answer, and the blocks that are written.
 ghost use mathlib.Core.Path.{_≡_};
+ghost use Prim.Native.Nat.{_≤_};
+ghost use lib.ListN.{length};
 ghost use Rattle.normal.specs.Answer.{normaliseOf, normalisedOf};
+ghost use Rattle.normal.specs.code.Emitted.{Roomy};
 ghost use Rattle.slots.specs.code.Standing.{Standing};
 use crate::NormalAnswer;
 use crate::tables::normal_rows;
@@ -10,21 +13,122 @@ use slots::Slotting;
 fn write_normal(
     d: &[u8],
     used: usize,
-    table: &[u64; 1009],
-    bad: &[u8; 1009],
-    full: &[u8; 1009],
+    table: &[u64],
+    bad: &[u8],
+    full: &[u8],
+    last: &mut [u16],
+    before: &mut [u16],
+    order: &mut [u64],
+    rows: &mut [u64],
+    below: &mut [u16],
     out: &mut [u8],
 ) -> NormalAnswer
-    requires { ⌜ Standing (now d) used (now table) (now bad) (now full) ⌝ }
+    requires { ⌜ Standing (now d) used (now table) (now bad) (now full) × Roomy (now d) (now table) (now bad) (now full) (now last) (now before) (now order) (now rows) (now below) ⌝ }
     ensures { λ r. ⌜ (r ≡ normaliseOf (now (d .entry)) (now (out .entry))) × (now (out .exit) ≡ normalisedOf (now (d .entry)) (now (out .entry))) ⌝ }
 {
     if out.len() < d.len() {
         return NormalAnswer::Refused(7, 0, 0);
     }
-    let mut rows = [0u64; 1008];
-    let count = normal_rows(table, used, bad, full, &mut rows);
-    writing::write_entries(out, &rows, count);
+    let count = normal_rows(
+        &table[0..used + 1],
+        bad,
+        full,
+        last,
+        before,
+        order,
+        rows,
+        below,
+    );
+    writing::write_entries(out, rows, count);
     NormalAnswer::Normalised(count as u16)
+}
+
+// The answer for any description, in tables that have room for its entries.
+fn normalise_in(
+    d: &[u8],
+    table: &mut [u64],
+    bad: &mut [u8],
+    full: &mut [u8],
+    last: &mut [u16],
+    before: &mut [u16],
+    order: &mut [u64],
+    rows: &mut [u64],
+    below: &mut [u16],
+    out: &mut [u8],
+) -> NormalAnswer
+    requires { ⌜ Roomy (now d) (now table) (now bad) (now full) (now last) (now before) (now order) (now rows) (now below) ⌝ }
+    ensures { λ r. ⌜ (r ≡ normaliseOf (now (d .entry)) (now (out .entry))) × (now (out .exit) ≡ normalisedOf (now (d .entry)) (now (out .entry))) ⌝ }
+{
+    let slotting = slots::fill(d, table, bad, full);
+    match slotting {
+        Slotting::Refused(number, input, place) => NormalAnswer::Refused(number, input, place),
+        Slotting::Filled(used) => write_normal(
+            d,
+            used as usize,
+            table,
+            bad,
+            full,
+            last,
+            before,
+            order,
+            rows,
+            below,
+            out,
+        ),
+    }
+}
+
+// The answer for a description of one block, or none: small tables are sooner cleared.
+fn normalise_few(d: &[u8], out: &mut [u8]) -> NormalAnswer
+    requires { ⌜ length (now d) ≤ 512 ⌝ }
+    ensures { λ r. ⌜ (r ≡ normaliseOf (now (d .entry)) (now (out .entry))) × (now (out .exit) ≡ normalisedOf (now (d .entry)) (now (out .entry))) ⌝ }
+{
+    let mut table = [0u64; 64];
+    let mut bad = [0u8; 64];
+    let mut full = [0u8; 64];
+    let mut last = [0u16; 128];
+    let mut before = [0u16; 64];
+    let mut order = [0u64; 63];
+    let mut rows = [0u64; 63];
+    let mut below = [0u16; 64];
+    normalise_in(
+        d,
+        &mut table,
+        &mut bad,
+        &mut full,
+        &mut last,
+        &mut before,
+        &mut order,
+        &mut rows,
+        &mut below,
+        out,
+    )
+}
+
+// The same for any.
+fn normalise_many(d: &[u8], out: &mut [u8]) -> NormalAnswer
+    ensures { λ r. ⌜ (r ≡ normaliseOf (now (d .entry)) (now (out .entry))) × (now (out .exit) ≡ normalisedOf (now (d .entry)) (now (out .entry))) ⌝ }
+{
+    let mut table = [0u64; 1009];
+    let mut bad = [0u8; 1009];
+    let mut full = [0u8; 1009];
+    let mut last = [0u16; 2018];
+    let mut before = [0u16; 1009];
+    let mut order = [0u64; 1008];
+    let mut rows = [0u64; 1008];
+    let mut below = [0u16; 1009];
+    normalise_in(
+        d,
+        &mut table,
+        &mut bad,
+        &mut full,
+        &mut last,
+        &mut before,
+        &mut order,
+        &mut rows,
+        &mut below,
+        out,
+    )
 }
 
 // Writes the normal form of a description in blocks from the start of the output, which is at least as long as the description, and
@@ -33,19 +137,8 @@ fn write_normal(
 pub fn normalise(description: &[u8], out: &mut [u8]) -> NormalAnswer
     ensures { λ r. ⌜ (r ≡ normaliseOf (now (description .entry)) (now (out .entry))) × (now (out .exit) ≡ normalisedOf (now (description .entry)) (now (out .entry))) ⌝ }
 {
-    let mut table = [0u64; 1009];
-    let mut bad = [0u8; 1009];
-    let mut full = [0u8; 1009];
-    let slotting = slots::fill(description, &mut table, &mut bad, &mut full);
-    match slotting {
-        Slotting::Refused(number, input, place) => NormalAnswer::Refused(number, input, place),
-        Slotting::Filled(used) => write_normal(
-            description,
-            used as usize,
-            &table,
-            &bad,
-            &full,
-            out,
-        ),
+    if description.len() <= 512 {
+        return normalise_few(description, out);
     }
+    normalise_many(description, out)
 }

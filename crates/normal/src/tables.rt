@@ -1,47 +1,48 @@
-// The last two passes over settled slots, in tables of their own.
-ghost use mathlib.Core.Path.{_≡_};
+// The last two passes over settled slots, in tables that are lent.
 ghost use mathlib.Core.List.{[]};
-ghost use Prim.Native.Nat.{_≤_};
+ghost use Prim.Native.Nat.{_<_, _≤_};
 ghost use lib.ListN.{length};
-ghost use Rattle.sorting.specs.Sorted.{sorted};
-ghost use Rattle.normal.specs.code.Ordered.{runOf, tagNumbers};
-ghost use Rattle.normal.specs.code.Emitted.{Orderable, Pushed, allRows, keepIn, tableRows};
-use crate::ordering::first_places;
-use crate::ordering::order_slots;
+ghost use Rattle.slots.specs.code.TablePlaces.{usedIn};
+ghost use Rattle.normal.specs.code.ClassRuns.{Runnable, placeCells};
+ghost use Rattle.normal.specs.code.Emitted.{Lent, Pushed, allRows, keepIn, tableRows};
 use crate::walk::write_rows;
 
-// Orders settled slots and writes the rows of all places; returns their number.
-fn ordered_rows(
-    table: &[u64; 1009],
-    used: usize,
-    full: &[u8; 1009],
-    rows: &mut [u64; 1008],
+// Puts settled slots on the chains of their runs and writes the rows of all places; returns their number.
+fn chained_rows(
+    table: &[u64],
+    full: &[u8],
+    last: &mut [u16],
+    before: &mut [u16],
+    order: &mut [u64],
+    rows: &mut [u64],
+    below: &mut [u16],
 ) -> usize
-    requires { ⌜ Orderable (now table) used × (length (now rows) ≡ 1008) × (length (allRows (keepIn (now full)) (runOf (now table) (sorted (tagNumbers (now table) 1 used)) used)) ≤ 1008) ⌝ }
-    ensures { λ r. ⌜ Pushed [] 0 (allRows (keepIn (now (full .entry))) (runOf (now (table .entry)) (sorted (tagNumbers (now (table .entry)) 1 used)) used)) (now (rows .exit)) r ⌝ }
+    requires { ⌜ Runnable (now table) × (length (now table) ≤ length (now full)) × Lent (usedIn (now table)) (now last) (now before) (now order) (now rows) (now below)
+        × (length (allRows (keepIn (now full)) (placeCells (now table) (usedIn (now table)))) ≤ length (now rows)) ⌝ }
+    ensures { λ r. ⌜ Pushed (length (now (rows .entry))) [] 0 (allRows (keepIn (now (full .entry))) (placeCells (now (table .entry)) (usedIn (now (table .entry))))) (now (rows .exit)) r ⌝ }
 {
-    let mut order = [0u64; 1008];
-    order_slots(table, &mut order[0..used]);
-    let mut start = [0u16; 1009];
-    first_places(&order, used, &mut start);
-    let mut below = [0u16; 1009];
-    write_rows(&order, used, table, full, &start, rows, &mut below)
+    runs::chain_slots(table, (table.len() - 1) as u16, last, before);
+    write_rows(table, full, last, before, order, rows, below)
 }
 
 // Writes the packed entries that settled slots give; returns their number. One of kind 6 stands alone where the top is impossible.
 pub(crate) fn normal_rows(
-    table: &[u64; 1009],
-    used: usize,
-    bad: &[u8; 1009],
-    full: &[u8; 1009],
-    rows: &mut [u64; 1008],
+    table: &[u64],
+    bad: &[u8],
+    full: &[u8],
+    last: &mut [u16],
+    before: &mut [u16],
+    order: &mut [u64],
+    rows: &mut [u64],
+    below: &mut [u16],
 ) -> usize
-    requires { ⌜ Orderable (now table) used × (length (now rows) ≡ 1008) × (length (tableRows (now table) used (now bad) (now full)) ≤ 1008) ⌝ }
-    ensures { λ r. ⌜ Pushed [] 0 (tableRows (now (table .entry)) used (now (bad .entry)) (now (full .entry))) (now (rows .exit)) r ⌝ }
+    requires { ⌜ Runnable (now table) × (0 < length (now bad)) × (length (now table) ≤ length (now full)) × Lent (usedIn (now table)) (now last) (now before) (now order) (now rows) (now below)
+        × (length (tableRows (now table) (now bad) (now full)) ≤ length (now rows)) ⌝ }
+    ensures { λ r. ⌜ Pushed (length (now (rows .entry))) [] 0 (tableRows (now (table .entry)) (now (bad .entry)) (now (full .entry))) (now (rows .exit)) r ⌝ }
 {
     if bad[0] != 0 {
         rows[0] = 6;
         return 1;
     }
-    ordered_rows(table, used, full, rows)
+    chained_rows(table, full, last, before, order, rows, below)
 }

@@ -2,12 +2,13 @@
 -- Assumes nothing.
 use Prim.Native.Nat.{_+_, _-_, _/_, _<_, _≤_, suc, zero, ℕ}
 use lib.Dec.{eqb}
-use lib.ListN.{getD, length}
+use lib.ListN.{getD, length, length-replicate, replicate}
 use mathlib.Core.Bool.{Bool, _&&_, false, true}
 use mathlib.Core.List.{List, [], _∷_, map}
 use mathlib.Core.Option.{Option}
 use mathlib.Core.Path.{_≡_, ap, refl}
 use native.Mathlib.Omega.{arith}
+use Rattle.base.proofs.Lists.{zeros-read}
 use Rattle.base.proofs.Tests.{bool-cases, eq-cases}
 use Rattle.blocks.proofs.Refusing.Bounds.{AllBounded}
 use Rattle.blocks.specs.Entries.{Bounded, entriesOf, nth, zeroEntry}
@@ -18,7 +19,15 @@ use Rattle.passes.proofs.SlotLists.SlotLaws.{slots-early}
 use Rattle.passes.specs.code.Keys.{SmallRows, SmallSlots, SmallTop}
 use Rattle.passes.specs.code.Slots.{EarlySlots, Slot, closed, inconsistent, settled, slot, slots}
 use Rattle.slots.proofs.slots.TableLaws.{length-slots}
-use Rattle.slots.specs.code.Tables.{Built, Placed, Settled, Settling, Tabled, keyIn, lowPart, slotIn, slotsFrom, slotsOf}
+use Rattle.slots.specs.code.Tables.{Blank, Built, Placed, Settled, Settling, Tabled, keyIn, lowPart, slotIn, slotsFrom, slotsOf}
+
+-- ---- cleared tables
+
+pub blank-zeros : (k n : ℕ) → k < n → Blank k (replicate n 0)
+blank-zeros k n h = record { room = rw (length-replicate {A = ℕ} n 0) h; zero′ = zeros-read n refl }
+
+pub blank-less : {j k : ℕ} {l : List ℕ} → j ≤ k → Blank k l → Blank j l
+blank-less h b = record { room = omega (arith, h, b .room); zero′ = b .zero′ }
 
 -- ---- slots of a table
 

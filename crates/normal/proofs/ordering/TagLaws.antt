@@ -1,27 +1,24 @@
--- The tags of slots, from the numbers that hold a slot's key above its own number.
+-- The tags of the slots of a table, each with its place.
 -- Assumes nothing.
-use Prim.Native.Nat.{_+_, _/_, _<_, _≤_, suc, zero, ℕ}
-use mathlib.Core.List.{List, [], _∷_, map}
-use mathlib.Core.Path.{_∙_, _≡_, refl}
+use Prim.Native.Nat.{_%_, _+_, _/_, _<_, _≤_, suc, zero, ℕ}
+use lib.Dec.{eqb}
+use lib.ListN.{getD}
+use mathlib.Core.List.{List, List·Memᴰ, List·Memᴰ·cases-cons, List·Memᴰ·head, List·Memᴰ·not-nil, List·Memᴰ·tail, [], _∷_}
+use mathlib.Core.Logic.{⊎-elim}
+use mathlib.Core.Path.{_∙_, _≡_, ap, refl, sym}
 use native.Mathlib.Omega.{arith}
-use lib.ListN.{getD, length}
-use Rattle.base.proofs.Split.{place-of, row-of}
-use Rattle.normal.specs.code.Ordered.{tagCell, tagIn, tagNumber, tagNumbers, tagPlace, tagSlot}
+use Rattle.base.proofs.Tests.{eq-cases}
 use Rattle.passes.specs.code.Pipeline.{Tag, tag, tags}
-use Rattle.passes.specs.code.Slots.{Slot, cell, settled, slot}
-use Rattle.slots.specs.code.Tables.{keyIn, slotIn, slotsFrom}
+use Rattle.passes.specs.code.Slots.{Cell, Slot, cell, settled, slot}
+use Rattle.slots.specs.code.Tables.{highIn, highPart, keyIn, lowPart, slotIn, slotsFrom}
 
--- ---- a number taken apart
+-- the cell of slot j, and its tag
+abbrev pub slotCell : List ℕ → ℕ → Cell
+slotCell t j =
+    cell j (eqb (keyIn (getD t j 0) / 65536 % 2) 1) (keyIn (getD t j 0) % 65536) (lowPart (getD t j 0)) (highIn (highPart (getD t j 0)))
 
--- the slot of a number
-pub number-slot : (key j : ℕ) → j < 1024 → tagSlot (tagNumber key j) ≡ j
-unfolding tagSlot tagNumber
-number-slot key j h = place-of {r = 1024} key j h
-
--- its key
-pub number-key : (key j : ℕ) → j < 1024 → tagNumber key j / 1024 ≡ key
-unfolding tagNumber
-number-key key j h = row-of {r = 1024} key j h
+abbrev pub slotTag : List ℕ → ℕ → Tag
+slotTag t j = tag (keyIn (getD t j 0) / 131072) (slotCell t j)
 
 -- ---- the tags of settled slots
 
@@ -31,25 +28,47 @@ plainTags k [] = []
 plainTags k (slot u b n lo hi ∷ ss) = tag u (cell k b n lo hi) ∷ plainTags (suc k) ss
 
 -- the tags are those of the settled slots
-pub tags-settled : (k : ℕ) (ss : List Slot) → tags k ss ≡ plainTags k (settled k ss)
+tags-settled : (k : ℕ) (ss : List Slot) → tags k ss ≡ plainTags k (settled k ss)
 unfolding tags plainTags settled
 tags-settled k [] = refl
 tags-settled k (slot u b n lo hi ∷ ss) = rw (tags-settled (suc k) ss)
 
--- the slots of a table have the tags of their numbers
-pub tags-numbers : (t : List ℕ) (i n : ℕ) → i + n ≤ 1024 → plainTags i (slotsFrom t i n) ≡ map (tagIn t) (tagNumbers t i n)
-unfolding plainTags slotsFrom tagNumbers slotIn tagIn tagPlace tagCell
-tags-numbers t i zero h = refl
-tags-numbers t i (suc n) h =
-    let key = keyIn (getD t i 0) in
-    rw (tags-numbers t (suc i) n (omega arith), number-slot key i (omega arith), number-key key i (omega arith))
-
 -- a table of settled slots has the tags of the slots
-pub tags-table : (t : List ℕ) (used : ℕ) (ss : List Slot) → used ≤ 1008 → slotsFrom t 1 used ≡ settled 1 ss → tags 1 ss ≡ map (tagIn t) (tagNumbers t 1 used)
-tags-table t used ss h e = tags-settled 1 ss ∙ rw (← e) (tags-numbers t 1 used (omega arith))
+pub tags-table : (t : List ℕ) (used : ℕ) (ss : List Slot) → slotsFrom t 1 used ≡ settled 1 ss → tags 1 ss ≡ plainTags 1 (slotsFrom t 1 used)
+tags-table t used ss e = tags-settled 1 ss ∙ ap (plainTags 1) (sym e)
 
--- there are as many numbers as slots
-pub length-numbers : (t : List ℕ) (i n : ℕ) → length (tagNumbers t i n) ≡ n
-unfolding tagNumbers
-length-numbers t i zero = refl
-length-numbers t i (suc n) = rw (length-numbers t (suc i) n)
+-- ---- which they are
+
+-- one slot more
+tags-step : (t : List ℕ) (i n : ℕ) → plainTags i (slotsFrom t i (suc n)) ≡ slotTag t i ∷ plainTags (suc i) (slotsFrom t (suc i) n)
+unfolding plainTags slotsFrom slotIn
+tags-step t i n = refl
+
+-- the tag of each slot is there
+pub tag-there : (t : List ℕ) (i n j : ℕ) → i ≤ j → j < i + n → List·Memᴰ (slotTag t j) (plainTags i (slotsFrom t i n))
+tag-there t i zero j lo hi = absurd (omega arith)
+tag-there t i (suc n) j lo hi =
+    rw (tags-step t i n)
+    (eq-cases j i
+    (λ e. List·Memᴰ·head (rw e refl))
+    (λ e. List·Memᴰ·tail (tag-there t (suc i) n j (omega arith) (omega arith))))
+
+-- x is the tag of one of n slots from slot i on
+pub record SlotOf (t : List ℕ) (i n : ℕ) (x : Tag) : Type 0 where
+  pub at : ℕ
+  pub from : i ≤ at
+  pub to : at < i + n
+  pub is : x ≡ slotTag t at
+
+-- and there are no others
+pub slot-of : (t : List ℕ) (i n : ℕ) (x : Tag) → List·Memᴰ x (plainTags i (slotsFrom t i n)) → SlotOf t i n x
+unfolding plainTags slotsFrom
+slot-of t i zero x m = absurd (List·Memᴰ·not-nil m)
+slot-of t i (suc n) x m =
+    ⊎-elim
+    (λ e. record { at = i; from = omega arith; to = omega arith; is = e })
+    (λ k. later (slot-of t (suc i) n x k))
+    (List·Memᴰ·cases-cons (rw (tags-step t i n) at m))
+  where
+    later : SlotOf t (suc i) n x → SlotOf t i (suc n) x
+    later r = record { at = r .at; from = omega (arith, r .from); to = omega (arith, r .to); is = r .is }

@@ -1,25 +1,28 @@
 -- The rows of a place as plain lists, and the tables of the walk, as the code keeps them. No public promise names these.
 -- Assumes nothing.
-use Prim.Native.Nat.{_+_, _<_, _≤_, ℕ}
+use Prim.Native.Nat.{_*_, _+_, _<_, _≤_, ℕ}
 use lib.Dec.{eqb}
-use lib.ListN.{getD, length, take}
+use lib.ListN.{getD, length, replicate}
 use mathlib.Core.Bool.{Bool, _&&_, cond, not}
 use mathlib.Core.List.{List, [], _++_, _∷_, map}
 use mathlib.Core.Logic.{_≢_}
 use mathlib.Core.Option.{Option, none, some}
 use mathlib.Core.Path.{_≡_}
 use Rattle.blocks.specs.Entries.{packed}
+use Rattle.blocks.specs.Reading.{readingOf}
+use Rattle.blocks.specs.declared.Reading.the-variants.{Accepted}
+use Rattle.blocks.specs.declared.Schema.the-variants.{Description}
 use Rattle.logic.specs.Filling.{Filled, Joined}
 use Rattle.logic.specs.Layout.{done, job}
 use Rattle.logic.specs.Normal.{atMost}
 use Rattle.logic.specs.Place.{Atom, Kind, atom, has, lacks, least, most, nothing}
 use Rattle.logic.specs.Tree.{Row, leafRow, nodeRow}
 use Rattle.meaning.specs.RowEntries.{rowEntry}
-use Rattle.normal.specs.code.Ordered.{runOf, tagNumbers, tagPlace, tagSlot}
+use Rattle.normal.specs.code.ClassRuns.{placeCells}
 use Rattle.passes.specs.code.Pipeline.{walk}
 use Rattle.passes.specs.code.Slots.{Cell, cell, isLink, sameClass, value}
-use Rattle.slots.specs.code.Tables.{lowPart}
-use Rattle.sorting.specs.Sorted.{sorted}
+use Rattle.slots.specs.code.TablePlaces.{usedIn}
+use Rattle.slots.specs.code.Tables.{Blank}
 
 -- ---- rows as entries
 
@@ -51,6 +54,13 @@ everySlots keep (cell j b n lo hi ∷ q) = cond (keep j b hi) (j ∷ everySlots 
 -- the rows of a place that are no 'every'
 unfoldable pub atomRows : ℕ → List Cell → List (Row Atom ℕ)
 atomRows o q = kindRows has o q ++ (kindRows lacks o q ++ (kindRows least o q ++ kindRows most o q))
+
+-- those of the properties, and the bounds of the links
+unfoldable pub propertyRows : ℕ → List Cell → List (Row Atom ℕ)
+propertyRows o q = kindRows has o q ++ kindRows lacks o q
+
+unfoldable pub boundRows : ℕ → List Cell → List (Row Atom ℕ)
+boundRows o q = kindRows least o q ++ kindRows most o q
 
 -- ---- the tables of the walk
 
@@ -85,38 +95,43 @@ placeRows keep o q = atomRows o q ++ everyRows keep o q
 unfoldable pub allRows : (ℕ → Bool → Option ℕ → Bool) → (ℕ → List Cell) → List (Row Atom ℕ)
 allRows keep S = walk keep S 2018 1 (job 0 0 done)
 
--- the rows are pushed onto the table of packed entries, which has `from` of them, and then has r
-abbrev pub Pushed : List ℕ → ℕ → List (Row Atom ℕ) → List ℕ → ℕ → Type 0
-Pushed rows from L rows′ r = Filled 1008 rows from (map rowNumber L) rows′ r
-
--- numbers of slots, in a table of so many, whose places and bounds are small
-pub record Walkable (t z : List ℕ) (used : ℕ) : Type 0 where
-  pub few : used ≤ 1008
-  pub slot : (i : ℕ) → i < used → tagSlot (getD z i 0) < 1009
-  pub some′ : (i : ℕ) → i < used → 1 ≤ tagSlot (getD z i 0)
-  pub place : (i : ℕ) → i < used → tagPlace (getD z i 0) < 1009
-  pub bound : (i : ℕ) → i < used → lowPart (getD t (tagSlot (getD z i 0)) 0) < 65536
+-- the rows are pushed onto a table of so many packed entries, which has `from` of them, and then has r
+abbrev pub Pushed : ℕ → List ℕ → ℕ → List (Row Atom ℕ) → List ℕ → ℕ → Type 0
+Pushed width rows from L rows′ r = Filled width rows from (map rowNumber L) rows′ r
 
 -- a packed entry of these fields
 unfoldable pub packedOf : ℕ → ℕ → ℕ → ℕ → ℕ
 packedOf kind owner name number = packed (record { kind = kind; reserved = 0; owner = owner; name = name; number = number })
 
 -- Rows are pushed as Pushed says; the places of the slots js follow, the first of them for row `at`.
-abbrev pub Placing : List ℕ → ℕ → List (Row Atom ℕ) → List ℕ → ℕ → List ℕ → List ℕ → ℕ → List ℕ → Type 0
-Placing rows from L below at js rows′ r below′ = Joined 1008 rows from (map rowNumber L) below at js rows′ r below′
+abbrev pub Placing : ℕ → List ℕ → ℕ → List (Row Atom ℕ) → List ℕ → ℕ → List ℕ → List ℕ → ℕ → List ℕ → Type 0
+Placing width rows from L below at js rows′ r below′ = Joined width rows from (map rowNumber L) below at js rows′ r below′
 
 -- Row k is passed where it leads nowhere; else the rows of the place that it leads to are pushed.
 pub record Stepped (keep : ℕ → Bool → Option ℕ → Bool) (S : ℕ → List Cell) (k : ℕ) (rows : List ℕ) (count : ℕ) (below rows′ : List ℕ) (r : ℕ) (below′ : List ℕ) : Type 0 where
   pub passed : getD below k 0 ≡ 0 → (rows′ ≡ rows) × (r ≡ count) × (below′ ≡ below)
   pub placed : getD below k 0 ≢ 0
-      → Placing rows count (placeRows keep k (S (getD below k 0))) below (count + length (atomRows k (S (getD below k 0))) + 1) (everySlots keep (S (getD below k 0))) rows′ r below′
+      → Placing (length rows) rows count (placeRows keep k (S (getD below k 0))) below (count + length (atomRows k (S (getD below k 0))) + 1) (everySlots keep (S (getD below k 0))) rows′ r below′
 
--- a table whose slots can be ordered: each ordered number is then of a slot whose place and bounds are small
-pub record Orderable (t : List ℕ) (used : ℕ) : Type 0 where
-  pub few : used ≤ 1008
-  pub walkable : (z : List ℕ) → length z ≡ 1008 → take used z ≡ sorted (tagNumbers t 1 used) → Walkable t z used
+-- Tables that are lent for so many slots, and at most 1,008 rows: the last slots of the runs, and the slots that the rows lead to, are
+-- cleared.
+pub record Lent (used : ℕ) (last before order rows below : List ℕ) : Type 0 where
+  pub cleared : last ≡ replicate (length last) 0
+  pub lasts : 2 * (used + 1) ≤ length last
+  pub befores : used < length before
+  pub orders : used ≤ length order
+  pub some-row : 1 ≤ length rows
+  pub few-rows : length rows ≤ 1008
+  pub belows : Blank (length rows) below
+
+-- All tables have room for an input: where it is accepted, its entries are no more than there are rows.
+pub record Roomy (d t bad full last before order rows below : List ℕ) : Type 0 where
+  pub entries : (n : ℕ) → readingOf Description 1 d ≡ Accepted n → n ≤ length rows
+  pub slots-room : length t ≡ length rows + 1
+  pub bad-room : length bad ≡ length rows + 1
+  pub full-room : length full ≡ length rows + 1
+  pub lent : Lent (length rows) last before order rows below
 
 -- the rows by the tables of settled slots: one entry of kind 6 where the top is impossible, else the rows of all places
-abbrev pub tableRows : List ℕ → ℕ → List ℕ → List ℕ → List (Row Atom ℕ)
-tableRows t used bad full =
-    cond (eqb (getD bad 0 0) 0) (allRows (keepIn full) (runOf t (sorted (tagNumbers t 1 used)) used)) (leafRow 0 (atom nothing 0 0) ∷ [])
+abbrev pub tableRows : List ℕ → List ℕ → List ℕ → List (Row Atom ℕ)
+tableRows t bad full = cond (eqb (getD bad 0 0) 0) (allRows (keepIn full) (placeCells t (usedIn t))) (leafRow 0 (atom nothing 0 0) ∷ [])

@@ -18,13 +18,13 @@ use Rattle.passes.proofs.Emission.Exact.{normal-any}
 use Rattle.passes.specs.code.Pipeline.{Tag, beforeCell, beforeTag, enoughFor, part, rowsFrom, tag, tags}
 use Rattle.passes.specs.code.Slots.{Cell, Slot, cells, slot, slots}
 
-tags-cells : (k : ℕ) (ss : List Slot) (v : ℕ) → part (tags k ss) v ≡ cells k ss v
+pub tags-cells : (k : ℕ) (ss : List Slot) (v : ℕ) → part (tags k ss) v ≡ cells k ss v
 unfolding part tags cells
 tags-cells k [] v = refl
 tags-cells k (slot u b n lo hi ∷ ss) v = rw (tags-cells (suc k) ss v)
 
 -- the tags of a place, and its cells
-part-tag : (z : List Tag) (v : ℕ) (c : Cell) → List·Memᴰ c (part z v) → List·Memᴰ (tag v c) z
+pub part-tag : (z : List Tag) (v : ℕ) (c : Cell) → List·Memᴰ c (part z v) → List·Memᴰ (tag v c) z
 unfolding part
 part-tag [] v c m = absurd (List·Memᴰ·not-nil m)
 part-tag (tag u d ∷ z) v c m =
@@ -35,7 +35,7 @@ part-tag (tag u d ∷ z) v c m =
     (List·Memᴰ·cases-cons (rw q at m)))
     (λ q. List·Memᴰ·tail (part-tag z v c (rw q at m)))
 
-tag-part : (z : List Tag) (v : ℕ) (c : Cell) → List·Memᴰ (tag v c) z → List·Memᴰ c (part z v)
+pub tag-part : (z : List Tag) (v : ℕ) (c : Cell) → List·Memᴰ (tag v c) z → List·Memᴰ c (part z v)
 unfolding part
 tag-part [] v c m = absurd (List·Memᴰ·not-nil m)
 tag-part (tag u d ∷ z) v c m =

@@ -10,7 +10,7 @@ use mathlib.Core.Logic.{_⊎_, inl, inr, ⊎-elim}
 use mathlib.Core.Path.{_∙_, _≡_, ap, refl, sym}
 use native.Mathlib.Nat.{zero-add}
 use native.Mathlib.Omega.{arith}
-use Rattle.base.proofs.Lists.{getD-listed, length-listed, listed, listed-eq, zeros-read}
+use Rattle.base.proofs.Lists.{getD-listed, length-listed, listed, listed-eq}
 use Rattle.base.proofs.StoresLaws.{getD-stored, length-stored}
 use Rattle.base.proofs.Tests.{eq-cases, ge-ltb, lt-cases, lt-ltb}
 use Rattle.base.specs.Range.{bit}
@@ -22,20 +22,15 @@ use Rattle.blocks.specs.declared.Schema.the-variants.{Description}
 use Rattle.passes.proofs.SlotLists.KeyLaws.{key-parts}
 use Rattle.passes.specs.code.Slots.{inconsistent, nonempty, settled}
 use Rattle.slots.proofs.FailingLaws.{accepted-few}
+use Rattle.slots.proofs.PassLaws.{blank-zeros}
 use Rattle.slots.specs.code.Standing.{Fills, badAfter, fullAfter, roomIn, slotsStored, slottingOf, tableAfter}
-use Rattle.slots.specs.code.Tables.{Blank, Exact, Settled, Tabled, Workspace, highIn, highNumber, highPart, keyIn, lowPart, marksFrom, noBound, slotIn, slotNumber, slotWord, slotsFrom, slotsOf}
+use Rattle.slots.specs.code.Tables.{Exact, Settled, Tabled, Workspace, highIn, highNumber, highPart, keyIn, lowPart, marksFrom, noBound, slotIn, slotNumber, slotWord, slotsFrom, slotsOf}
 use Rattle.slots.specs.declared.Slotting.the-variants.{Filled, Refused}
 
 -- ---- cleared tables
 
-pub blank-zeros : (k n : ℕ) → k < n → Blank k (replicate n 0)
-blank-zeros k n h = record { room = rw (length-replicate {A = ℕ} n 0) h; zero′ = zeros-read n refl }
-
 pub workspace-zeros : (n k m : ℕ) → n < k → 61 ≤ m → Workspace n (replicate k 0) (replicate m 0) (replicate k 0)
 workspace-zeros n k m h l = record { nexts = rw (length-replicate {A = ℕ} k 0) h; heads = blank-zeros 60 m (omega arith); nodes = blank-zeros n k h }
-
-pub blank-less : {j k : ℕ} {l : List ℕ} → j ≤ k → Blank k l → Blank j l
-blank-less h b = record { room = omega (arith, h, b .room); zero′ = b .zero′ }
 
 -- ---- a table of slots
 

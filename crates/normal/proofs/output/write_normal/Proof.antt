@@ -1,37 +1,47 @@
 -- `write_normal` meets its contract: the packed entries of the normal form are written as blocks.
+use Prim.Native.Nat.{_+_, _-_}
 use borrow.Author.Needs.{needs}
-use mathlib.Core.Path.{_∙_, refl, sym}
+use mathlib.Core.Path.{_∙_, _≡_, sym}
 use native.Mathlib.Omega.{arith}
 use Rattle.normal.proofs.AnswerLaws.{refused-output, too-short}
-use Rattle.normal.proofs.NormalWritten.{rows-most, rows-written, standing-few}
-use Rattle.normal.proofs.tables.PassOrder.{settled-orderable}
+use Rattle.normal.proofs.NormalWritten.{rows-held, rows-most, rows-written, standing-few, standing-full, standing-lent}
+use Rattle.normal.proofs.tables.PassRows.{front-runnable}
 use Rattle.normal.proofs.output.write_normal.Statement.{statement}
 use Rattle.normal.proofs.output.write_normal.Tie as tie
 
 returns : tie.Need-returns
 returns c =
-    let a = c .before .before .before in
-    let e = too-short (a .args .d .now) (a .args .out .now) (a .pre .read) (c .if1 .taken) in
+    let a = c .before .before .before .before .before .before .before .before .before .before .before in
+    let e = too-short (a .args .d .now) (a .args .out .now) (a .pre .0 .read) (c .if1 .taken) in
     (sym e, sym (refused-output (a .args .d .now) (a .args .out .now) e))
+
+part-normal-rows-end : tie.Need-part-normal-rows-end
+part-normal-rows-end c = omega (arith, c .before .before .before .before .before .before .before .before .before .before .before .pre .0 .slots-settled .tabled .room)
 
 normal-rows-requires : tie.Need-normal-rows-requires
 normal-rows-requires c κs =
-    let S = c .before .before .before .before .pre in
-    (settled-orderable (S .slots-settled .tabled), refl, standing-few S)
+    let S = c .before .before .before .before .before .before .before .before .before .before .before .before .before .before .before .before .before .pre .0 in
+    let R = c .before .before .before .before .before .before .before .before .before .before .before .before .before .before .before .before .before .pre .1 in
+    let e : c .before .before .before .before .before .before .before .before .before .before .before .before .before .before .before .before .before .args .used + 1 - 0 ≡ c .before .before .before .before .before .before .before .before .before .before .before .before .before .before .before .before .before .args .used + 1 = omega arith in
+    rw e (front-runnable (S .slots-settled .tabled), omega (arith, R .bad-room), standing-full S R, standing-lent S R, standing-few S R)
 
-cast-t17 : tie.Need-cast-t17
-cast-t17 c =
-    let a = c .before .before .before .before .before .before .before .before .before .before in
-    omega (arith, rows-most (a .pre) (c .before .before .before .before .before .normal-rows .ensures))
+cast-t33 : tie.Need-cast-t33
+cast-t33 c =
+    let a = c .before .before .before .before .before .before .before .before .before .before .before .before .before .before .before .before .before .before .before .before .before .before .before .before .before .before .before .before .before .before .before .before .before in
+    let e : a .args .used + 1 - 0 ≡ a .args .used + 1 = omega arith in
+    omega (arith, rows-most (a .pre .0) (rw e at (c .before .before .before .before .before .before .before .before .before .before .before .before .before .before .before .normal-rows .ensures)))
 
 returns-2 : tie.Need-returns-2
 returns-2 c =
-    let a = c .before .before .before .before .before .before .before .before .before .before in
-    let w = rows-written (a .pre) (c .before .before .before .before .before .normal-rows .ensures) (a .args .out .now) (c .before .before .before .before .before .before .before .if1 .left) in
+    let a = c .before .before .before .before .before .before .before .before .before .before .before .before .before .before .before .before .before .before .before .before .before .before .before .before .before .before .before .before .before .before .before .before .before in
+    let e : a .args .used + 1 - 0 ≡ a .args .used + 1 = omega arith in
+    let p = rw e at (c .before .before .before .before .before .before .before .before .before .before .before .before .before .before .before .normal-rows .ensures) in
+    let w = rows-written (a .pre .0) p (a .args .out .now) (rows-held (a .pre .0) p (a .pre .1)) (c .before .before .before .before .before .before .before .before .before .before .before .before .before .before .before .before .before .before .before .before .before .before .if1 .left) in
     (sym (w .0), c .before .before .write-entries .ensures .1 ∙ w .1)
 
 pub write-normal-spec : {M : Type 1} → statement M
 write-normal-spec =
     tie.close
-    (tie.spec returns normal-rows-requires (λ c. search needs) (λ c κs. search needs) cast-t17 (λ c. search needs)
-    returns-2)
+    (tie.spec returns (λ c. search needs) (λ c. search needs) (λ c. search needs) part-normal-rows-end normal-rows-requires
+    (λ c κs. search needs) cast-t33 (λ c. search needs) (λ c. search needs) (λ c. search needs) (λ c. search needs)
+    (λ c. search needs) (λ c. search needs) returns-2)

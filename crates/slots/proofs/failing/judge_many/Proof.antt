@@ -2,7 +2,8 @@
 use borrow.Author.Needs.{needs}
 use native.Mathlib.Omega.{arith}
 use Rattle.slots.proofs.FailingLaws.{accepted-few}
-use Rattle.slots.proofs.filling.FillingLaws.{blank-zeros, workspace-zeros}
+use Rattle.slots.proofs.PassLaws.{blank-zeros}
+use Rattle.slots.proofs.filling.FillingLaws.{workspace-zeros}
 use Rattle.slots.proofs.failing.judge_many.Statement.{statement}
 use Rattle.slots.proofs.failing.judge_many.Tie as tie
 

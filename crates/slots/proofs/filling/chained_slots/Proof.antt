@@ -1,8 +1,7 @@
 -- `chained_slots` meets its contract: the slots are built, then settled.
 use borrow.Author.Needs.{needs}
 use native.Mathlib.Omega.{arith}
-use Rattle.slots.proofs.PassLaws.{built-placed, settled-from}
-use Rattle.slots.proofs.filling.FillingLaws.{blank-less}
+use Rattle.slots.proofs.PassLaws.{blank-less, built-placed, settled-from}
 use Rattle.slots.proofs.states.BoundLaws.{settled-exact, settled-kept}
 use Rattle.slots.proofs.filling.chained_slots.Statement.{statement}
 use Rattle.slots.proofs.filling.chained_slots.Tie as tie
