@@ -46,11 +46,11 @@
  *
  * Stack. The most that each call took of the caller's stack, on the inputs that lead furthest down (`make stack` measures it):
  *
- *     gx_read_description    2,168 bytes
- *     gx_read_specimen       2,168 bytes
+ *     gx_read_description    2,240 bytes
+ *     gx_read_specimen       2,240 bytes
  *     gx_fit                23,400 bytes
- *     gx_normal             38,616 bytes
- *     gx_compare            77,224 bytes
+ *     gx_normal             50,204 bytes
+ *     gx_compare            53,356 bytes
  *
  * The library calls memset and memcpy; a program that binds them at their first call took up to 1,072 bytes more there. A
  * thread with 96 KiB of stack has room for each call.
