@@ -31,12 +31,16 @@ static void put_entry(uint8_t *s, unsigned n, unsigned kind, unsigned owner, uns
 /* The frame of each block of a list of entries. */
 static void close_blocks(uint8_t *s, unsigned entries) {
     for (unsigned b = 0; 63 * b < entries; b++, s += 512) {
-        unsigned sum = 0;
+        unsigned first = 0, second = 0;
         put(s, b + 1);
         put(s + 2, entries - 63 * b < 63 ? entries - 63 * b : 63);
-        for (int i = 0; i < 510; i += 2)
-            sum += s[i] + 256u * s[i + 1];
-        put(s + 510, sum);
+        for (unsigned i = 0; i < 508; i += 2) {
+            unsigned word = s[i] + 256u * s[i + 1];
+            first += word;
+            second += (i / 2 + 1) * word;
+        }
+        put(s + 508, second);
+        put(s + 510, first + second);
     }
 }
 

@@ -22,7 +22,7 @@ static void build(const struct entry *e, size_t k, uint8_t *out) {
     memset(out, 0, GX_BYTES(k));
     for (size_t b = 0; b < blocks; b++, out += 512) {
         size_t used = b + 1 < blocks ? 63 : k - 63 * b;
-        size_t sum = 0;
+        size_t first = 0, second = 0;
         put(out, b + 1);
         put(out + 2, used);
         for (size_t i = 0; i < used; i++, e++) {
@@ -31,9 +31,13 @@ static void build(const struct entry *e, size_t k, uint8_t *out) {
             put(out + 8 + 8 * i, e->name);
             put(out + 10 + 8 * i, e->number);
         }
-        for (size_t i = 0; i < 510; i += 2)
-            sum += out[i] + 256u * out[i + 1];
-        put(out + 510, sum); /* its low two bytes: the sum wraps at 65,536 */
+        for (size_t i = 0; i < 508; i += 2) {
+            size_t word = out[i] + 256u * out[i + 1];
+            first += word;
+            second += (i / 2 + 1) * word;
+        }
+        put(out + 508, second);         /* their low two bytes: both sums wrap at 65,536 */
+        put(out + 510, first + second); /* the second is one of the words of the first */
     }
 }
 

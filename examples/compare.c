@@ -4,15 +4,16 @@
 
 #include "goltximen.h"
 
-/* A description of one block that has one entry, of this kind and name, at the top; both are below 128. */
+/* A description of one block that has one entry, of this kind and name, at the top; both are below 16. */
 static void describe(uint8_t block[512], uint8_t kind, uint8_t name) {
     for (int i = 0; i < 512; i++)
         block[i] = 0;
-    block[0] = 1;                          /* the block's number */
-    block[2] = 1;                          /* entries used */
-    block[4] = kind;                       /* the entry is in bytes 4 to 11 */
+    block[0] = 1;    /* the block's number */
+    block[2] = 1;    /* entries used */
+    block[4] = kind; /* the entry is in bytes 4 to 11, the words 3 to 6 */
     block[8] = name;
-    block[510] = (uint8_t)(2 + kind + name); /* the check: the sum of the words */
+    block[508] = (uint8_t)(1 * 1 + 2 * 1 + 3 * kind + 5 * name); /* the second check: each word times its number */
+    block[510] = (uint8_t)(1 + 1 + kind + name + block[508]);    /* the first check: the sum of the words */
 }
 
 int main(void) {

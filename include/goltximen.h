@@ -32,9 +32,9 @@
  *
  *     number   when                                                                              place
  *     1        an input's length is 0, no multiple of 512, or over the limit                     0
- *     2        a block's check is wrong                                                          block
- *     3        a block's number or used count is wrong, or a byte due to be zero in its frame
- *              (bytes 508-509) or in its unused entries is not zero                              block
+ *     2        a block's first check (bytes 510-511) or second (bytes 508-509) is wrong          block
+ *     3        a block's number or used count is wrong, or a byte of its unused entries is
+ *              not zero                                                                          block
  *     4        an entry's kind is not allowed, its byte 1 is not zero, or its name or number
  *              is outside the table                                                              entry
  *     5        an entry's owner is neither 0, the top, which always passes, nor an earlier

@@ -14,6 +14,12 @@ pub mod Elements
 pub mod Missing
 -- Laws of ranges, for a loop that counts i up to e, and what a test over a range means.
 pub mod RangeLaws
+-- Laws of sums over a range.
+pub mod Sums
+-- What exchanging two runs of terms does to a sum, and to a sum with weights.
+pub mod Exchanges
+-- Sums modulo 65,536: which multiples of a difference leave them the same.
+pub mod Multiples
 -- Laws of stores in a row.
 pub mod StoresLaws
 -- Sorting a list, and why it does not matter how.

@@ -41,3 +41,10 @@ unfolding all
 all-of f i zero h = refl
 all-of f i (suc n) h =
     and-both (h i (omega arith) (omega arith)) (all-of f (i + 1) n (λ k lo hi. h k (omega arith) (omega arith)))
+
+-- tests that agree on a range
+pub all-ext : (f g : ℕ → Bool) (i n : ℕ) → ((k : ℕ) → i ≤ k → k < i + n → f k ≡ g k) → all f i n ≡ all g i n
+unfolding all
+all-ext f g i zero h = refl
+all-ext f g i (suc n) h =
+    rw (h i (omega arith) (omega arith), all-ext f g (i + 1) n (λ k lo hi. h k (omega arith) (omega arith)))

@@ -1,5 +1,7 @@
--- Tests over a range of numbers.
+-- Tests and sums over a range of numbers.
 pub mod Range
+-- Two runs of terms exchanged, and how far two numbers are apart.
+pub mod Exchange
 -- Stores in a row.
 pub mod Stores
 -- The search for a number that fails a test.

@@ -16,3 +16,9 @@ pub mod Legal
 pub mod Bounds
 -- The ways that reading goes, for one input and for two.
 pub mod Readings
+-- Number 2 of the table of refusals: it does not apply exactly where both sums of a block are right.
+pub mod Checks
+-- What the exchange of two entries of one block leaves as it is: other blocks, and all but the entries of this one.
+pub mod Untouched
+-- Two entries of one block exchanged: when the checks of the block stay right.
+pub mod Exchanged

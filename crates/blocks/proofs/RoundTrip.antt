@@ -16,3 +16,5 @@ pub mod EmptyBlock
 pub mod EncodedBlocks
 -- The numbers that reading refuses with are 1 to 6, of the input that was read: 7 is left for an output that is too short.
 pub mod RefusalNumbers
+-- Two used entries of one block of an accepted input exchanged: refused as 2, exactly when.
+pub mod Exchanging

@@ -7,7 +7,7 @@ use mathlib.Core.Bool.{_&&_, cond}
 use mathlib.Core.List.{List, [], _++_, _∷_, map}
 use Rattle.blocks.specs.Entries.{entryBytes}
 use Rattle.blocks.specs.Frame.{Frame, plain}
-use Rattle.blocks.specs.Words.{checkOf, wordBytes}
+use Rattle.blocks.specs.Words.{checkOf, secondOf, wordBytes}
 use Rattle.blocks.specs.declared.Entry.{Entry}
 
 -- rows of bytes, one after the other
@@ -21,9 +21,9 @@ module _ (F : Frame) where
   blockBody i rows =
       wordBytes (suc i) ++ (wordBytes (length rows) ++ (joined rows ++ replicate (F .width * F .room - F .width * length rows) 0))
 
-  -- with the word due in bytes 508-509
+  -- with the second sum in bytes 508-509
   unfoldable pub blockFront : ℕ → List (List ℕ) → List ℕ
-  blockFront i rows = blockBody i rows ++ wordBytes (F .second (blockBody i rows) 0)
+  blockFront i rows = blockBody i rows ++ wordBytes (secondOf (blockBody i rows) 0)
 
   -- with the check: block i
   unfoldable pub blockBytes : ℕ → List (List ℕ) → List ℕ

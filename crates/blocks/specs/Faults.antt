@@ -30,7 +30,7 @@ lengthWrong σ s = eqb (length s) 0 || (not (eqb (length s % 512) 0) || ltb (512
 unfoldable pub blockFaults : Frame → List ℕ → ℕ → ℕ → ℕ → List Fault
 blockFaults F s n i zero = []
 blockFaults F s n i (suc left) =
-    fault (checkWrong F s i) 2 (suc i) ∷ fault (frameWrong F s n i) 3 (suc i) ∷ blockFaults F s n (suc i) left
+    fault (checkWrong s i) 2 (suc i) ∷ fault (frameWrong F s n i) 3 (suc i) ∷ blockFaults F s n (suc i) left
 
 -- numbers 4, 5 and 6 of `left` entries from entry n on: "the lowest entry that breaks 4, 5 or 6, in that order"
 unfoldable pub entryFaults : Schema → List Entry → ℕ → ℕ → List Fault

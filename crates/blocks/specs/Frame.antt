@@ -6,19 +6,16 @@ use mathlib.Core.List.{List}
 use lib.ListN.{length, getD}
 use lib.Dec.{eqb, leb, ltb}
 use Rattle.base.specs.Range.{all}
-use Rattle.blocks.specs.Words.{wordAt, checkOf}
+use Rattle.blocks.specs.Words.{wordAt, checkOf, secondOf}
 
--- What block formats may differ in: the bytes of an entry, the entries that a block has room for, the word due in bytes
--- 508-509 of the block at an offset, and the number of the table that refuses another word there.
+-- What block formats may differ in: the bytes of an entry, and the entries that a block has room for.
 pub record Frame : Type 0 where
   pub width : ℕ
   pub room : ℕ
-  pub second : List ℕ → ℕ → ℕ
-  pub secondRefusal : ℕ
 
--- "Bytes 4-507: 63 entries of 8 bytes. Bytes 508-509: zero."
+-- "Bytes 4-507: 63 entries of 8 bytes."
 abbrev pub plain : Frame
-plain = record { width = 8; room = 63; second = λ s at. 0; secondRefusal = 3 }
+plain = record { width = 8; room = 63 }
 
 -- whole blocks of 512 bytes
 unfoldable pub blocksIn : List ℕ → ℕ
@@ -27,6 +24,12 @@ blocksIn s = length s / 512
 -- "Bytes 2-3: entries used", of block i, counted from 0
 unfoldable pub usedIn : List ℕ → ℕ → ℕ
 usedIn s i = wordAt s (512 * i + 2)
+
+-- number 2, "a check is wrong": block i; bytes 510-511 hold the check, and bytes 508-509 the second sum: "a wrong second sum is
+-- refused as 2, no longer as 3"
+unfoldable pub checkWrong : List ℕ → ℕ → Bool
+checkWrong s i =
+    not (eqb (wordAt s (512 * i + 510)) (checkOf s (512 * i))) || not (eqb (wordAt s (512 * i + 508)) (secondOf s (512 * i)))
 
 -- the byte at an index is zero
 unfoldable pub zeroAt : List ℕ → ℕ → Bool
@@ -49,15 +52,6 @@ module _ (F : Frame) where
   unfoldable pub restZero : List ℕ → ℕ → Bool
   restZero s i = all (zeroAt s) (512 * i + 4 + F .width * usedIn s i) (F .width * F .room - F .width * usedIn s i)
 
-  -- the word in bytes 508-509 is the one due
-  unfoldable pub secondOk : List ℕ → ℕ → Bool
-  secondOk s i = eqb (wordAt s (512 * i + 508)) (F .second s (512 * i))
-
-  -- number 2, "a check is wrong": block i
-  unfoldable pub checkWrong : List ℕ → ℕ → Bool
-  checkWrong s i = not (eqb (wordAt s (512 * i + 510)) (checkOf s (512 * i))) || (eqb (F .secondRefusal) 2 && not (secondOk s i))
-
   -- number 3, "block number, used count or a byte due to be zero in frame or unused entries is wrong": block i of n
   unfoldable pub frameWrong : List ℕ → ℕ → ℕ → Bool
-  frameWrong s n i =
-      not (eqb (wordAt s (512 * i)) (suc i)) || (not (usedOk n i (usedIn s i)) || ((eqb (F .secondRefusal) 3 && not (secondOk s i)) || not (restZero s i)))
+  frameWrong s n i = not (eqb (wordAt s (512 * i)) (suc i)) || (not (usedOk n i (usedIn s i)) || not (restZero s i))

@@ -12,6 +12,8 @@ pub mod Faults
 pub mod Reading
 -- Entries as blocks.
 pub mod Encoding
+-- Two entries of one block exchanged.
+pub mod Exchange
 -- Mirrors of the code: the contracts of its functions cite these, and no promise to the customer does.
 pub mod code
 -- What the promises of the block layer speak of: the first fault that applies, and lists of entries that no rule refuses.

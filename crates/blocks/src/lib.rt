@@ -11,6 +11,7 @@ pub use entries::next_count;
 pub use entries::nth_entry;
 pub use entries::pack;
 pub use words::block_check;
+pub use words::block_second;
 pub use words::byte;
 pub use words::word;
 

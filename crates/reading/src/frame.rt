@@ -3,11 +3,12 @@ ghost use mathlib.Core.Path.{_≡_};
 ghost use Prim.Native.Nat.{_+_, _-_, _*_, _≤_, _<_};
 ghost use lib.ListN.{length};
 ghost use Rattle.base.specs.Range.{all};
-ghost use Rattle.blocks.specs.Frame.{plain, zeroAt, usedOk, frameWrong};
+ghost use Rattle.blocks.specs.Frame.{plain, checkWrong, zeroAt, usedOk, frameWrong};
 ghost use Rattle.blocks.specs.Faults.{blockFaults, first};
 ghost use Rattle.blocks.specs.code.ReadingSteps.{blockRefusal};
 use blocks::Finding;
 use blocks::block_check;
+use blocks::block_second;
 use blocks::word;
 
 // Whether the bytes from one index up to another are zero.
@@ -42,6 +43,18 @@ fn used_ok(n: usize, i: usize, used: usize) -> bool
     n == 1
 }
 
+// Whether block i, counted from 0, breaks number 2: its check or its second sum is wrong.
+fn check_wrong(s: &[u8], i: usize) -> bool
+    requires { ⌜ i ≤ 31 ⌝ }
+    ensures { λ r. ⌜ r ≡ checkWrong (now (s .entry)) i ⌝ }
+{
+    let at = 512 * i;
+    if word(s, at + 510) != block_check(s, i as u16) {
+        return true;
+    }
+    word(s, at + 508) != block_second(s, i as u16)
+}
+
 // Whether block i of n breaks number 3: its number, its used count, or a byte due to be zero is wrong.
 fn frame_wrong(s: &[u8], n: usize, i: usize) -> bool
     requires { ⌜ (i < n) × (512 * n ≤ length (now s)) ⌝ }
@@ -55,9 +68,6 @@ fn frame_wrong(s: &[u8], n: usize, i: usize) -> bool
     if !used_ok(n, i, used) {
         return true;
     }
-    if word(s, at + 508) != 0 {
-        return true;
-    }
     !all_zero(s, at + 4 + 8 * used, at + 508)
 }
 
@@ -66,8 +76,7 @@ fn block_refusal(s: &[u8], n: usize, i: usize) -> u8
     requires { ⌜ (i < n) × (n ≤ 32) × (512 * n ≤ length (now s)) ⌝ }
     ensures { λ r. ⌜ r ≡ blockRefusal (now (s .entry)) n i ⌝ }
 {
-    let at = 512 * i;
-    if word(s, at + 510) != block_check(s, i as u16) {
+    if check_wrong(s, i) {
         return 2;
     }
     if frame_wrong(s, n, i) {

@@ -10,11 +10,10 @@ use mathlib.Core.Logic.{_≢_}
 use mathlib.Core.Path.{_∙_, _≡_, ap, sym}
 use native.Mathlib.Omega.{arith}
 use Rattle.base.proofs.Tests.{eqb-ne, eqb-eq, neither-left, neither-right, true-of-not}
-use Rattle.blocks.proofs.Format.Lawful.{plain-lawful}
 use Rattle.blocks.proofs.RoundTrip.Accepting.{sound-of-accepted}
 use Rattle.blocks.proofs.RoundTrip.Unbroken.{passing}
 use Rattle.blocks.specs.Faults.{lengthWrong}
-use Rattle.blocks.specs.Frame.{blocksIn}
+use Rattle.blocks.specs.Frame.{blocksIn, plain}
 use Rattle.blocks.specs.Reading.{readingOf}
 use Rattle.blocks.specs.Words.{wordAt}
 use Rattle.blocks.specs.declared.Reading.the-variants.{Accepted}
@@ -58,7 +57,7 @@ numbered i s e =
       blocks = blocksIn s;
       some = omega arith;
       long = omega arith;
-      number = λ k h. passing plain-lawful (u .check k h) (u .frame k h) .number;
+      number = λ k h. passing plain (u .check k h) (u .frame k h) .number;
     }
 
 -- no later block of it has number 1

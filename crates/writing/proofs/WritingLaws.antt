@@ -10,18 +10,18 @@ use mathlib.Core.Path.{_∙_, _≡_, ap, ap₂, refl, sym}
 use native.Mathlib.Nat.{zero-add}
 use native.Mathlib.Numerals.{add-one}
 use native.Mathlib.Omega.{arith}
-use Rattle.base.proofs.Lists.{getD-map-in, listed, listed-last}
+use Rattle.base.proofs.Lists.{Holds, getD-map-in, listed, listed-last}
 use Rattle.base.proofs.StoresLaws.{holds-stored, stored-front, stored-none, stored-one, stored-then}
 use Rattle.base.proofs.Tests.{gt-leb, le-leb, tests}
 use Rattle.base.specs.Stores.{stored}
-use Rattle.blocks.proofs.Format.Blocks.{length-front}
+use Rattle.blocks.proofs.Format.Blocks.{length-body, length-front}
 use Rattle.blocks.proofs.Format.ByteRows.{Rows, length-joined, more, none}
 use Rattle.blocks.proofs.Format.Lawful.{plain-lawful}
 use Rattle.blocks.proofs.Format.Sequence.{all-joined, blockOf, length-blocks, row-in, rowsIn}
-use Rattle.blocks.proofs.Format.WordBytes.{check-within, length-word}
+use Rattle.blocks.proofs.Format.WordBytes.{check-within, length-word, second-within}
 use Rattle.blocks.specs.Encoding.{blockBody, blockBytes, blockFront, blocksFor, bytesWritten, encodeFrom, encodeRows, joined, rowBytes, written}
 use Rattle.blocks.specs.Frame.{plain}
-use Rattle.blocks.specs.Words.{checkOf, wordBytes}
+use Rattle.blocks.specs.Words.{checkOf, secondOf, wordBytes}
 use Rattle.writing.specs.code.WritingSteps.{usedFor}
 
 -- ---- rows
@@ -89,41 +89,49 @@ pub rows-packed : (rows : List ℕ) → Rows 8 (map rowBytes rows)
 rows-packed [] = none
 rows-packed (x ∷ rows) = more (length-row x) (rows-packed rows)
 
--- the stores of a block, up to its last word but one
-front-done : (i used : ℕ) (R : List (List ℕ)) (l : List ℕ) {l₁ l₂ l₃ l₄ l₅ : List ℕ} → length R ≡ used → Rows 8 R → used ≤ 63
+-- the stores of a block, up to its two sums
+body-done : (i used : ℕ) (R : List (List ℕ)) (l : List ℕ) {l₁ l₂ l₃ l₄ : List ℕ} → length R ≡ used → Rows 8 R → used ≤ 63
     → l₁ ≡ stored l (512 * i) (wordBytes (i + 1)) → l₂ ≡ stored l₁ (512 * i + 2) (wordBytes used) → l₃ ≡ stored l₂ (512 * i + 4) (joined R)
-    → l₄ ≡ stored l₃ (512 * i + 4 + 8 * used) (replicate (504 - 8 * used) 0) → l₅ ≡ stored l₄ (512 * i + 508) (wordBytes 0)
-    → l₅ ≡ stored l (512 * i) (blockFront plain i R)
-unfolding blockFront blockBody
-front-done i used R l {l₅ = l₅} n wide small p q r s t =
+    → l₄ ≡ stored l₃ (512 * i + 4 + 8 * used) (replicate (504 - 8 * used) 0) → l₄ ≡ stored l (512 * i) (blockBody plain i R)
+unfolding blockBody
+body-done i used R l {l₄ = l₄} n wide small p q r s =
     let A = wordBytes (i + 1) in
     let B = wordBytes used in
     let D : List ℕ = replicate (504 - 8 * used) 0 in
     let la = length-word (i + 1) in
     let lb = length-word used in
     let lc = length-joined wide in
-    let ld : length D ≡ 504 - 8 * used = length-replicate {A = ℕ} (504 - 8 * used) 0 in
-    let all : l₅ ≡ stored l (512 * i) ((((A ++ B) ++ joined R) ++ D) ++ wordBytes 0) =
+    let all : l₄ ≡ stored l (512 * i) (((A ++ B) ++ joined R) ++ D) =
     stored-then _ _ _ _ _
-    (stored-then _ _ _ _ _
     (stored-then _ _ _ _ _ (stored-then _ _ _ _ _ p q (omega arith)) r (simp length-append (omega arith)))
-    s (simp length-append (omega arith)))
-    t (simp length-append (omega arith)) in
+    s (simp length-append (omega arith)) in
     all ∙ ap (stored l (512 * i)) (rw (add-one i, n) (simp append-assoc))
 
-pub block-done : (i used : ℕ) (R : List (List ℕ)) (l : List ℕ) {l₁ l₂ l₃ l₄ l₅ l₆ : List ℕ} {c : ℕ} → length R ≡ used → Rows 8 R → used ≤ 63 → 512 * i + 512 ≤ length l
+-- a sum of the bytes stored so far, stored after them
+sum-done : (at : ℕ) (X l : List ℕ) {l₁ l₂ : List ℕ} {c : ℕ} (sumOf : List ℕ → ℕ → ℕ)
+    → ((s : List ℕ) (a : ℕ) → Holds s a X → sumOf s a ≡ sumOf X 0) → at + length X ≤ length l → l₁ ≡ stored l at X → c ≡ sumOf l₁ at
+    → l₂ ≡ stored l₁ (at + length X) (wordBytes c) → l₂ ≡ stored l at (X ++ wordBytes (sumOf X 0))
+sum-done at X l {c = c} sumOf within fits front e u =
+    let same : c ≡ sumOf X 0 = e ∙ ap (λ (x : List ℕ). sumOf x at) front ∙ within (stored l at X) at (holds-stored l X at fits) in
+    stored-then _ _ _ _ _ front (rw same at u) refl
+
+-- the stores of a block
+pub block-done : (i used : ℕ) (R : List (List ℕ)) (l : List ℕ) {l₁ l₂ l₃ l₄ l₅ l₆ : List ℕ} {d c : ℕ} → length R ≡ used → Rows 8 R → used ≤ 63
+    → 512 * i + 512 ≤ length l
     → l₁ ≡ stored l (512 * i) (wordBytes (i + 1)) → l₂ ≡ stored l₁ (512 * i + 2) (wordBytes used) → l₃ ≡ stored l₂ (512 * i + 4) (joined R)
-    → l₄ ≡ stored l₃ (512 * i + 4 + 8 * used) (replicate (504 - 8 * used) 0) → l₅ ≡ stored l₄ (512 * i + 508) (wordBytes 0)
+    → l₄ ≡ stored l₃ (512 * i + 4 + 8 * used) (replicate (504 - 8 * used) 0)
+    → d ≡ secondOf l₄ (512 * i) → l₅ ≡ stored l₄ (512 * i + 508) (wordBytes d)
     → c ≡ checkOf l₅ (512 * i) → l₆ ≡ stored l₅ (512 * i + 510) (wordBytes c)
     → l₆ ≡ stored l (512 * i) (blockBytes plain i R)
-unfolding blockBytes
-block-done i used R l {l₅ = l₅} {c = c} n wide small fits p q r s t k u =
-    let X : List ℕ = blockFront plain i R in
-    let front : l₅ ≡ stored l (512 * i) X = front-done i used R l n wide small p q r s t in
-    let size : length X ≡ 510 = length-front plain plain-lawful i wide (omega arith) in
-    let check : c ≡ checkOf X 0 =
-    k ∙ ap (λ (x : List ℕ). checkOf x (512 * i)) front ∙ check-within size (holds-stored l X (512 * i) (omega arith)) in
-    stored-then _ _ _ _ _ front (rw check at u) (ap (λ (m : ℕ). 512 * i + m) (sym size))
+unfolding blockBytes blockFront
+block-done i used R l n wide small fits p q r s d t c u =
+    let body : ℕ = length (blockBody plain i R) in
+    let front : ℕ = length (blockFront plain i R) in
+    let b : body ≡ 508 = length-body plain plain-lawful i wide (omega arith) in
+    let f : front ≡ 510 = length-front plain plain-lawful i wide (omega arith) in
+    sum-done (512 * i) (blockFront plain i R) l checkOf (λ x a h. check-within f h) (omega arith)
+    (sum-done (512 * i) (blockBody plain i R) l secondOf (λ x a h. second-within b h) (omega arith) (body-done i used R l n wide small p q r s) d (rw b t))
+    c (rw f u)
 
 -- ---- the blocks
 

@@ -9,6 +9,7 @@ ghost use Rattle.blocks.specs.Frame.{plain};
 ghost use Rattle.blocks.specs.Encoding.{joined, rowBytes, blockBytes, blocksFor, encodeFrom, bytesWritten, written};
 ghost use Rattle.writing.specs.code.WritingSteps.{usedFor};
 use blocks::block_check;
+use blocks::block_second;
 
 // Stores two bytes.
 fn put_pair(out: &mut [u8], at: usize, a: u8, b: u8)
@@ -62,7 +63,7 @@ fn put_zeros(out: &mut [u8], at: usize, n: usize)
     }
 }
 
-// Stores block i, counted from 0: its number, its used count, its entries, zeros, and the check.
+// Stores block i, counted from 0: its number, its used count, its entries, zeros, the second sum, and the check.
 fn put_block(out: &mut [u8], i: usize, rows: &[u64], used: usize)
     requires { ⌜ (512 * i + 512 ≤ length (now out)) × (i ≤ 31) × (used ≤ 63) × (63 * i + used ≤ length (now rows)) ⌝ }
     ensures { λ _. ⌜ now (out .exit) ≡ stored (now (out .entry)) (512 * i) (blockBytes plain i (map rowBytes (take used (drop (63 * i) (now (rows .entry)))))) ⌝ }
@@ -72,7 +73,8 @@ fn put_block(out: &mut [u8], i: usize, rows: &[u64], used: usize)
     put_word(out, at + 2, used as u16);
     put_rows(out, at + 4, rows, 63 * i, used);
     put_zeros(out, at + 4 + 8 * used, 504 - 8 * used);
-    put_word(out, at + 508, 0);
+    let second = block_second(out, i as u16);
+    put_word(out, at + 508, second);
     let check = block_check(out, i as u16);
     put_word(out, at + 510, check);
 }

@@ -74,7 +74,7 @@ fn length(chance: &mut Chance) -> usize {
     }
 }
 
-/// A few words are changed, and the checks are mostly made right again.
+/// A few words are changed, and the checks are mostly made right again, now and then the first alone.
 fn spoil(bytes: &mut Vec<u8>, chance: &mut Chance) {
     for _ in 0..=chance.below(2) {
         let at = chance.below(bytes.len());
@@ -83,14 +83,32 @@ fn spoil(bytes: &mut Vec<u8>, chance: &mut Chance) {
     if chance.below(8) == 0 {
         bytes.truncate(chance.below(bytes.len() + 1));
     }
-    if chance.below(8) > 0 {
-        for block in bytes.chunks_exact_mut(512) {
-            let sum = (0..255).fold(0u16, |sum, word| {
-                sum.wrapping_add(u16::from_le_bytes([block[2 * word], block[2 * word + 1]]))
-            });
-            block[510..].copy_from_slice(&sum.to_le_bytes());
+    let mended = chance.below(8);
+    for block in bytes.chunks_exact_mut(512) {
+        if mended > 1 {
+            mend_second(block);
+        }
+        if mended > 0 {
+            mend_first(block);
         }
     }
+}
+
+/// The word of a block with this number, counted from 1.
+fn word(block: &[u8], number: usize) -> usize {
+    usize::from(block[2 * number - 2]) + 256 * usize::from(block[2 * number - 1])
+}
+
+/// Writes the second check that is right for the block.
+fn mend_second(block: &mut [u8]) {
+    let sum: usize = (1..=254).map(|number| number * word(block, number)).sum();
+    block[508..510].copy_from_slice(&(sum as u16).to_le_bytes());
+}
+
+/// Writes the first check that is right for the block, whatever its second is.
+fn mend_first(block: &mut [u8]) {
+    let sum: usize = (1..=255).map(|number| word(block, number)).sum();
+    block[510..].copy_from_slice(&(sum as u16).to_le_bytes());
 }
 
 fn drawn(rules: &Draw, chance: &mut Chance) -> Vec<u8> {
@@ -193,6 +211,43 @@ fn reading_and_normal_form() {
         same_reading(&bytes);
         same_normal_form(&bytes, room(bytes.len(), &mut chance));
         same_reading(&drawn(&SPECIMENS, &mut chance));
+    }
+}
+
+/// Each byte changed in a block before the last and in the last, with neither check, each of them and both made right again.
+#[test]
+fn each_byte_and_check() {
+    let entries: Vec<Entry> = (1..=70).map(|n| entry(1, 0, 900 * n, 0)).collect();
+    let bytes = encode(&entries);
+    for at in 0..bytes.len() {
+        for change in [1, 0x80] {
+            for mended in 0..4 {
+                let mut bytes = bytes.clone();
+                bytes[at] ^= change;
+                let block = &mut bytes[at / 512 * 512..][..512];
+                if mended & 1 != 0 {
+                    mend_second(block);
+                }
+                if mended & 2 != 0 {
+                    mend_first(block);
+                }
+                same_reading(&bytes);
+            }
+        }
+    }
+}
+
+/// Each two entries of a full block exchanged.
+#[test]
+fn each_exchange() {
+    let entries: Vec<Entry> = (1..=63).map(|n| entry(1, 0, 1 + n % 3 * 512, 0)).collect();
+    let bytes = encode(&entries);
+    for (one, other) in (0..63).flat_map(|one| (0..one).map(move |other| (one, other))) {
+        let mut bytes = bytes.clone();
+        for byte in 0..8 {
+            bytes.swap(4 + 8 * one + byte, 4 + 8 * other + byte);
+        }
+        same_reading(&bytes);
     }
 }
 

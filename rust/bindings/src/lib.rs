@@ -3,9 +3,9 @@
 //! This crate calls the proved library. Build that first, by `make lib` in the repository's folder.
 //!
 //! A description and a specimen are bytes in blocks of 512: the block's number, how many of its 63 entries are used, the
-//! entries of 8 bytes, two zero bytes, and the check, which is the sum of all other words of two bytes. Any bytes may be
-//! handed over; those that break a rule are refused. No call panics, allocates or keeps anything. `docs/FORMAT.md` has each
-//! byte and each refusal.
+//! entries of 8 bytes, the second check, which is the sum of all words of two bytes before it, each times its number, and the
+//! first check, which is the sum of all words before it. Any bytes may be handed over; those that break a rule are refused. No
+//! call panics, allocates or keeps anything. `docs/FORMAT.md` has each byte and each refusal.
 //!
 //! `k` entries take `512 * k.div_ceil(63).max(1)` bytes, `GX_BYTES(k)` of the C header: a call that writes `k` entries writes
 //! just those bytes, from the start of the output.
@@ -15,14 +15,16 @@
 //! ```
 //! use goltximen::{compare, Comparison};
 //!
-//! // A description of one block: block number 1, one entry used, "has property 7", and the check.
+//! // A description of one block: block number 1, one entry used, "has property 7", and the checks. Byte 4 begins word 3 and
+//! // byte 8 word 5.
 //! let mut has_7 = [0u8; 512];
 //! (has_7[0], has_7[2], has_7[4], has_7[8]) = (1, 1, 1, 7);
-//! has_7[510] = 1 + 1 + 1 + 7;
+//! has_7[508] = 1 + 2 * 1 + 3 * 1 + 5 * 7;
+//! has_7[510] = 1 + 1 + 1 + 7 + has_7[508];
 //!
 //! // The empty description, which every item fits.
 //! let mut empty = [0u8; 512];
-//! (empty[0], empty[510]) = (1, 1);
+//! (empty[0], empty[508], empty[510]) = (1, 1, 2);
 //!
 //! let mut out = [0u8; 1024];
 //! assert_eq!(compare(&has_7, &empty, &mut out), Ok(Comparison::Contained));
@@ -68,13 +70,17 @@ pub enum Comparison {
 /// use goltximen::{read_description, Reason, Refusal};
 ///
 /// let mut d = [0u8; 512];
-/// (d[0], d[510]) = (1, 1);
+/// (d[0], d[508], d[510]) = (1, 1, 2);
 /// assert_eq!(read_description(&d), Ok(0));
 ///
-/// d[510] = 2;
+/// d[510] = 3;
 /// let refusal = Refusal { reason: Reason::Check, input: 1, place: 1 };
 /// assert_eq!(read_description(&d), Err(refusal));
 /// assert_eq!(refusal.to_string(), "refused 2 input 1 place 1");
+///
+/// // The same for the second check, with the first that is right for it.
+/// (d[508], d[510]) = (2, 3);
+/// assert_eq!(read_description(&d), Err(refusal));
 /// ```
 ///
 /// # Errors
@@ -92,7 +98,8 @@ pub fn read_description(d: &[u8]) -> Result<u16, Refusal> {
 /// // One block with one entry: the top item has property 7.
 /// let mut s = [0u8; 512];
 /// (s[0], s[2], s[4], s[8]) = (1, 1, 1, 7);
-/// s[510] = 1 + 1 + 1 + 7;
+/// s[508] = 1 + 2 * 1 + 3 * 1 + 5 * 7;
+/// s[510] = 1 + 1 + 1 + 7 + s[508];
 /// assert_eq!(read_specimen(&s), Ok(1));
 /// assert_eq!(read_specimen(&[]).unwrap_err().reason, Reason::Length);
 /// ```
@@ -112,11 +119,14 @@ pub fn read_specimen(s: &[u8]) -> Result<u16, Refusal> {
 /// // "has property 7", which is a specimen and a description.
 /// let mut has_7 = [0u8; 512];
 /// (has_7[0], has_7[2], has_7[4], has_7[8]) = (1, 1, 1, 7);
-/// has_7[510] = 1 + 1 + 1 + 7;
+/// has_7[508] = 1 + 2 * 1 + 3 * 1 + 5 * 7;
+/// has_7[510] = 1 + 1 + 1 + 7 + has_7[508];
 ///
 /// // "lacks property 7".
 /// let mut lacks_7 = has_7;
-/// (lacks_7[4], lacks_7[510]) = (2, 1 + 1 + 2 + 7);
+/// lacks_7[4] = 2;
+/// lacks_7[508] = 1 + 2 * 1 + 3 * 2 + 5 * 7;
+/// lacks_7[510] = 1 + 1 + 2 + 7 + lacks_7[508];
 ///
 /// assert_eq!(fit(&has_7, &has_7), Ok(Fit::Yes));
 /// assert_eq!(fit(&has_7, &lacks_7), Ok(Fit::No));
@@ -142,11 +152,12 @@ pub fn fit(specimen: &[u8], description: &[u8]) -> Result<Fit, Refusal> {
 /// // "at least 0 by link 3" says nothing, so the normal form is empty.
 /// let mut d = [0u8; 512];
 /// (d[0], d[2], d[4], d[8]) = (1, 1, 3, 3);
-/// d[510] = 1 + 1 + 3 + 3;
+/// d[508] = 1 + 2 * 1 + 3 * 3 + 5 * 3;
+/// d[510] = 1 + 1 + 3 + 3 + d[508];
 ///
 /// let mut out = [9u8; 513];
 /// assert_eq!(normal_form(&d, &mut out), Ok(0));
-/// assert_eq!((out[0], out[2], out[510], out[512]), (1, 0, 1, 9));
+/// assert_eq!((out[0], out[2], out[508], out[510], out[512]), (1, 0, 1, 2, 9));
 /// ```
 ///
 /// # Errors
@@ -168,9 +179,12 @@ pub fn normal_form(description: &[u8], out: &mut [u8]) -> Result<u16, Refusal> {
 /// // "has property 7", and "has property 8".
 /// let mut c = [0u8; 512];
 /// (c[0], c[2], c[4], c[8]) = (1, 1, 1, 7);
-/// c[510] = 1 + 1 + 1 + 7;
+/// c[508] = 1 + 2 * 1 + 3 * 1 + 5 * 7;
+/// c[510] = 1 + 1 + 1 + 7 + c[508];
 /// let mut d = c;
-/// (d[8], d[510]) = (8, 1 + 1 + 1 + 8);
+/// d[8] = 8;
+/// d[508] = 1 + 2 * 1 + 3 * 1 + 5 * 8;
+/// d[510] = 1 + 1 + 1 + 8 + d[508];
 ///
 /// let mut out = [0u8; 1024];
 /// let shown = Comparison::NotContained { entry: 1, entries: 1 };

@@ -8,9 +8,9 @@ use std::fmt;
 pub enum Reason {
     /// 1: the input's length is 0, no multiple of 512, or over the limit.
     Length,
-    /// 2: a block's check is wrong.
+    /// 2: a block's first or second check is wrong.
     Check,
-    /// 3: a block's number or its used count is wrong, or a byte due to be zero in its frame or in its unused entries is not.
+    /// 3: a block's number or its used count is wrong, or a byte of its unused entries is not zero.
     Frame,
     /// 4: an entry's kind is not allowed, its byte 1 is not zero, or its name or number is outside the table.
     Form,

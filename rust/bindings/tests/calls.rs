@@ -24,9 +24,18 @@ fn blocks(entries: &[[u16; 4]]) -> Vec<u8> {
 fn block(number: u16, used: &[[u16; 4]]) -> Vec<u8> {
     let mut words = vec![number, used.len() as u16];
     words.extend(used.iter().flatten());
-    words.resize(255, 0);
+    words.resize(254, 0);
+    words.push(second_check(&words));
     words.push(words.iter().fold(0, |sum, &word| sum.wrapping_add(word)));
     words.into_iter().flat_map(u16::to_le_bytes).collect()
+}
+
+/// The sum of the words, each times its number.
+fn second_check(words: &[u16]) -> u16 {
+    let numbered = (1..).zip(words);
+    numbered.fold(0, |sum: u16, (number, word)| {
+        sum.wrapping_add(word.wrapping_mul(number))
+    })
 }
 
 /// The answer, and the first bytes of the output that a comparison writes: the rest is as it was.
@@ -160,9 +169,16 @@ fn the_largest_inputs() {
 fn refusals_of_inputs() {
     let mut d = blocks(&[]);
     assert_eq!(read_description(&d[..511]), refusal(Reason::Length, 1, 0));
-    d[510] = 2;
+    assert_eq!((d[0], d[508], d[510]), (1, 1, 2));
+    d[510] = 3;
     assert_eq!(read_description(&d), refusal(Reason::Check, 1, 1));
+    // The first check is right for the second.
+    d[508] = 2;
+    assert_eq!(read_description(&d), refusal(Reason::Check, 1, 1));
+    // The second check is right for block number 2, and then the first.
     d[0] = 2;
+    assert_eq!(read_description(&d), refusal(Reason::Check, 1, 1));
+    d[510] = 4;
     assert_eq!(read_description(&d), refusal(Reason::Frame, 1, 1));
     let has = [1, 0, 7, 0];
     assert_eq!(
@@ -187,6 +203,22 @@ fn refusals_of_inputs() {
         fit(&blocks(&[]), &blocks(&deep)),
         refusal(Reason::Depth, 2, 34)
     );
+}
+
+/// Two entries that changed places: told by the second check, unless their word sums are equal.
+#[test]
+fn exchanged_entries() {
+    let exchanged = |entries: &[[u16; 4]]| {
+        let mut bytes = blocks(entries);
+        let (one, other) = bytes[4..20].split_at_mut(8);
+        one.swap_with_slice(other);
+        bytes
+    };
+    let told = exchanged(&[[1, 0, 7, 0], [3, 0, 1, 2]]);
+    assert_eq!(read_description(&told), refusal(Reason::Check, 1, 1));
+    let equal = exchanged(&[[1, 0, 8, 0], [2, 0, 7, 0]]);
+    assert_eq!(equal, blocks(&[[2, 0, 7, 0], [1, 0, 8, 0]]));
+    assert_eq!(read_description(&equal), Ok(2));
 }
 
 #[test]

@@ -8,6 +8,7 @@ use std::fmt;
 use reference::{encode, Comparison, Entry, Refusal};
 
 use crate::chance::Chance;
+use crate::damage::Sort;
 use crate::length_of;
 
 /// What both answered.
@@ -152,6 +153,33 @@ pub fn read_specimen(bytes: &[u8]) -> Result<Answer, Difference> {
         reference::read_specimen(bytes),
     );
     read("read specimen", bytes, answers)
+}
+
+/// Reads an accepted input after two entries of one block were exchanged. It is refused as 2 at this block, or not as 1, 2 or 3 if
+/// there is none.
+///
+/// # Errors
+///
+/// The difference.
+pub fn exchanged(sort: Sort, bytes: &[u8], told: Option<u32>) -> Result<Answer, Difference> {
+    let case = Case {
+        call: "read after an exchange",
+        inputs: &[bytes],
+    };
+    let (answer, proved) = match sort {
+        Sort::Description => (read_description(bytes)?, goltximen::read_description(bytes)),
+        Sort::Specimen => (read_specimen(bytes)?, goltximen::read_specimen(bytes)),
+    };
+    let refusal = proved.err().map(in_form);
+    let as_stated = match told {
+        Some(place) => refusal.is_some_and(|r| (r.number, r.input, r.place) == (2, 1, place)),
+        None => refusal.is_none_or(|r| r.number > 3),
+    };
+    case.ensure(
+        as_stated,
+        "the answer is not what distance and word sums say",
+    )?;
+    Ok(answer)
 }
 
 /// What reading answered on both sides, if it is the same.

@@ -4,6 +4,7 @@ use reference::notation::entry;
 use reference::{encode, Entry};
 
 use crate::chance::Chance;
+use crate::exchange::{exchange, two_used};
 use crate::{word, BLOCK, BLOCK_ENTRIES, MOST_DESCRIPTION, MOST_SPECIMEN};
 
 /// The two sorts of input.
@@ -36,7 +37,7 @@ impl Sort {
 /// The entries as bytes, with one to four faults.
 pub fn damaged(chance: &mut Chance, sort: Sort, entries: &[Entry]) -> Vec<u8> {
     let mut entries = entries.to_vec();
-    let mut faults: Vec<usize> = (0..=chance.below(4)).map(|_| chance.below(16)).collect();
+    let mut faults: Vec<usize> = (0..=chance.below(4)).map(|_| chance.below(18)).collect();
     faults.sort_unstable();
     for fault in &faults {
         match fault {
@@ -55,8 +56,9 @@ pub fn damaged(chance: &mut Chance, sort: Sort, entries: &[Entry]) -> Vec<u8> {
         match fault {
             10..=11 => break_frame(chance, &mut bytes),
             12 => exchange_words(chance, &mut bytes),
-            13..=14 => break_check(chance, &mut bytes),
-            15 => break_length(chance, sort, &mut bytes),
+            13 => exchange_entries(chance, &mut bytes),
+            14..=16 => break_check(chance, &mut bytes),
+            17 => break_length(chance, sort, &mut bytes),
             _ => (),
         }
     }
@@ -113,14 +115,35 @@ pub fn break_depth(chance: &mut Chance, sort: Sort, entries: &mut Vec<Entry>) {
     }
 }
 
-/// Writes the check that is right for the block.
+/// Writes both checks that are right for the block.
 pub fn seal(block: &mut [u8]) {
-    let words = block.chunks_exact(2).take(255);
-    let sum = words.fold(0u16, |sum, pair| {
-        sum.wrapping_add(u16::from_le_bytes([pair[0], pair[1]]))
-    });
-    if let Some(check) = block.get_mut(510..512) {
-        check.copy_from_slice(&sum.to_le_bytes());
+    seal_second(block);
+    seal_first(block);
+}
+
+/// Writes the first check that is right for the block with the second as it stands there.
+pub fn seal_first(block: &mut [u8]) {
+    let sum = words(block).take(255).sum();
+    put(block, 510, sum);
+}
+
+/// Writes the second check that is right for the block, and leaves the first as it stands there.
+pub fn seal_second(block: &mut [u8]) {
+    let numbered = (1..).zip(words(block).take(254));
+    let sum = numbered.map(|(number, word)| number * word).sum();
+    put(block, 508, sum);
+}
+
+/// The words of a block, low byte first.
+fn words(block: &[u8]) -> impl Iterator<Item = u64> + '_ {
+    let pairs = block.chunks_exact(2);
+    pairs.map(|pair| u64::from(pair[0]) + 256 * u64::from(pair[1]))
+}
+
+/// Writes the low two bytes of a sum.
+fn put(block: &mut [u8], at: usize, sum: u64) {
+    for (byte, low) in block.iter_mut().skip(at).take(2).zip(sum.to_le_bytes()) {
+        *byte = low;
     }
 }
 
@@ -130,23 +153,23 @@ fn any_block<'a>(chance: &mut Chance, bytes: &'a mut [u8]) -> Option<&'a mut [u8
     bytes.chunks_exact_mut(BLOCK).nth(chance.below(blocks))
 }
 
-/// A wrong number, used count or byte due to be zero in a drawn block, with the check that is right for it.
+/// A wrong number, used count or byte due to be zero in a drawn block, mostly with both checks that are right for it, so that 3 is
+/// due, and else with one of them.
 pub fn break_frame(chance: &mut Chance, bytes: &mut [u8]) {
     let Some(block) = any_block(chance, bytes) else {
         return;
     };
     let any_byte = chance.one_of([1, 2, 64, 128, 255]);
-    match chance.below(8) {
+    match chance.below(6) {
         0 => block[0] ^= any_byte,
         1 => block[1] ^= any_byte,
         2 => block[2] = chance.one_of([0, 1, 61, 62, 63, 64, 65, 255]),
         3 => block[3] ^= any_byte,
-        4 => block[508] ^= any_byte,
-        5 => block[509] ^= any_byte,
-        6 => block[507 - chance.below(16)] ^= any_byte,
+        4 => block[507 - chance.below(16)] ^= any_byte,
         _ => block[4 + chance.below(504)] ^= any_byte,
     }
-    seal(block);
+    let sealed: fn(&mut [u8]) = chance.one_of([seal, seal, seal, seal_first, seal_second]);
+    sealed(block);
 }
 
 /// The entries in blocks with right numbers and checks, of which one uses fewer entries than it is due to, or none.
@@ -177,7 +200,7 @@ pub fn framed(used: &[&[Entry]]) -> Vec<u8> {
     bytes
 }
 
-/// Exchanges two words of a drawn block, which its check does not notice.
+/// Exchanges two words of a drawn block, which its first check does not notice; the second check may be one of them.
 pub fn exchange_words(chance: &mut Chance, bytes: &mut [u8]) {
     if let Some(block) = any_block(chance, bytes) {
         let (one, other) = (2 * chance.below(255), 2 * chance.below(255));
@@ -186,12 +209,39 @@ pub fn exchange_words(chance: &mut Chance, bytes: &mut [u8]) {
     }
 }
 
-/// Changes one bit of a drawn block, so that its check is wrong.
+/// Exchanges two used entries of a drawn block, if it uses two.
+pub fn exchange_entries(chance: &mut Chance, bytes: &mut [u8]) {
+    let Some(block) = any_block(chance, bytes) else {
+        return;
+    };
+    if let Some((one, other)) = two_used(chance, usize::from(block[2])) {
+        exchange(block, one, other);
+    }
+}
+
+/// Changes one bit of a drawn block, so that its first check is wrong, or its second, or both.
 pub fn break_check(chance: &mut Chance, bytes: &mut [u8]) {
-    let (bit, any) = (chance.below(8), chance.below(BLOCK));
-    let at = chance.one_of([510, 511, any]);
-    if let Some(block) = any_block(chance, bytes) {
-        block[at] ^= 1 << bit;
+    let bit = 1 << chance.below(8);
+    let (low, any) = (chance.below(2), chance.below(508));
+    let Some(block) = any_block(chance, bytes) else {
+        return;
+    };
+    match chance.below(6) {
+        0 => block[510 + low] ^= bit,
+        1 => block[508 + low] ^= bit,
+        2 => {
+            block[508 + low] ^= bit;
+            seal_first(block);
+        }
+        3 => block[any] ^= bit,
+        4 => {
+            block[any] ^= bit;
+            seal_first(block);
+        }
+        _ => {
+            block[any] ^= bit;
+            seal_second(block);
+        }
     }
 }
 

@@ -10,6 +10,7 @@
 //! | [`draw`] | accepted descriptions and specimens of many shapes |
 //! | [`pairs`] | descriptions made from others: weaker, in another order, wrong by one entry |
 //! | [`damage`] | bytes with one fault or several |
+//! | [`exchange`] | two entries of one block exchanged, and whether the checks tell |
 //! | [`agree`] | the five calls on both sides, compared |
 //! | [`small`] | small records, to look for an item by trying all |
 //! | [`rounds`] | rounds of cases, and how often each answer came |
@@ -25,6 +26,7 @@ pub mod chance;
 pub mod damage;
 pub mod draw;
 pub mod drawn;
+pub mod exchange;
 pub mod named;
 pub mod pairs;
 pub mod rounds;

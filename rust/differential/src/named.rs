@@ -3,7 +3,8 @@
 use reference::notation::{blocks, entry};
 use reference::{encode, Entry};
 
-use crate::damage::seal;
+use crate::damage::{seal, seal_first, seal_second};
+use crate::exchange::exchange;
 use crate::vectors::Vector;
 use crate::{BLOCK, MOST_DESCRIPTION, MOST_SPECIMEN};
 
@@ -69,6 +70,10 @@ fn sizes() -> Vec<Vector> {
         Vector::description(in_last_block(full, |block| change(block, 511))),
         Vector::specimen(in_last_block(full_specimen.clone(), |block| {
             change(block, 508);
+            seal_first(block);
+        })),
+        Vector::specimen(in_last_block(full_specimen.clone(), |block| {
+            change(block, 0);
             seal(block);
         })),
         // Byte 500 is the kind of the last entry, which becomes 0.
@@ -158,6 +163,191 @@ fn outputs() -> Vec<Vector> {
     }
     vectors.push(Vector::normal_form(blocks("7,1"), BLOCK - 1));
     vectors.push(Vector::compare(one, blocks("1,7; 7,1"), both - 1));
+    vectors
+}
+
+/// The cases about the two checks of a block: each wrong alone, with the frame right or wrong, and entries exchanged.
+pub fn checks() -> Vec<Vector> {
+    [empty_block(), each_check(), checks_and_frame(), exchanges()].concat()
+}
+
+/// The empty block as it is now, which is also what the normal form writes; as it was without a second check; and with each check
+/// one too high.
+fn empty_block() -> Vec<Vector> {
+    let block = |second, first| {
+        let mut block = vec![0; BLOCK];
+        (block[0], block[508], block[510]) = (1, second, first);
+        block
+    };
+    vec![
+        Vector::description(block(1, 2)),
+        Vector::specimen(block(1, 2)),
+        normal_form_bytes(block(1, 2)),
+        Vector::description(block(0, 1)),
+        Vector::specimen(block(0, 1)),
+        Vector::description(block(2, 3)),
+        Vector::description(block(1, 3)),
+        Vector::description(block(2, 2)),
+    ]
+}
+
+/// A check that is wrong in the second block, in each call and input. The first check covers the second, so that a second check
+/// which is changed alone makes both wrong.
+fn each_check() -> Vec<Vector> {
+    let right = two_blocks();
+    let one = blocks("1,7");
+    let first = in_last_block(right.clone(), |block| change(block, 510));
+    let second = in_last_block(right.clone(), |block| {
+        change(block, 508);
+        seal_first(block);
+    });
+    let high_byte = in_last_block(right.clone(), |block| {
+        change(block, 509);
+        seal_first(block);
+    });
+    let both = in_last_block(right.clone(), |block| change(block, 508));
+    // The number of the last entry of block 1 is its word 254, the last that the second check counts.
+    let last_word = in_first_block(right.clone(), |block| {
+        change(block, 506);
+        seal_first(block);
+    });
+    let new_word = in_first_block(right.clone(), |block| {
+        change(block, 506);
+        seal(block);
+    });
+    vec![
+        Vector::description(right),
+        Vector::description(first),
+        Vector::description(second.clone()),
+        Vector::description(high_byte),
+        Vector::description(both),
+        Vector::description(last_word),
+        Vector::description(new_word),
+        Vector::specimen(second.clone()),
+        Vector::fit(second.clone(), one.clone()),
+        Vector::fit(one.clone(), second.clone()),
+        normal_form_bytes(second.clone()),
+        compare_bytes(second.clone(), one.clone()),
+        compare_bytes(one, second),
+    ]
+}
+
+/// 63 at least, of which the last has number 256, and one property after them.
+fn two_blocks() -> Vec<u8> {
+    let mut entries = vec![entry(3, 0, 1, 1); 62];
+    entries.extend([entry(3, 0, 1, 256), entry(1, 0, 7, 0)]);
+    encode(&entries)
+}
+
+/// The bytes with their first block changed.
+fn in_first_block(mut bytes: Vec<u8>, change: fn(&mut [u8])) -> Vec<u8> {
+    change(&mut bytes[..BLOCK]);
+    bytes
+}
+
+/// A block number, a used count and an unused entry that are wrong, each with both checks right for it, with a wrong second, with
+/// a wrong first, and with both wrong. Then blocks and entries in turn.
+fn checks_and_frame() -> Vec<Vector> {
+    let faults: [fn(&mut [u8]); 3] = [
+        |block| block[0] = 3,
+        |block| block[2] = 64,
+        |block| block[507] = 1,
+    ];
+    let sealed: [fn(&mut [u8]); 4] = [seal, seal_first, seal_second, |_| ()];
+    let mut vectors = Vec::new();
+    for fault in faults {
+        for sealed in sealed {
+            let mut bytes = two_blocks();
+            fault(&mut bytes[BLOCK..]);
+            sealed(&mut bytes[BLOCK..]);
+            vectors.push(Vector::description(bytes));
+        }
+    }
+    let wrong_second: fn(&mut [u8]) = |block| {
+        change(block, 508);
+        seal_first(block);
+    };
+    let wrong_number: fn(&mut [u8]) = |block| {
+        change(block, 1);
+        seal(block);
+    };
+    let wrong_kind: fn(&mut [u8]) = |block| {
+        block[4] = 9;
+        seal(block);
+    };
+    for (first, last) in [
+        (wrong_number, wrong_second),
+        (wrong_second, wrong_number),
+        (wrong_kind, wrong_second),
+    ] {
+        let bytes = in_last_block(in_first_block(two_blocks(), first), last);
+        vectors.push(Vector::description(bytes));
+    }
+    vectors
+}
+
+/// The description of this text with two of its entries exchanged, and nothing else.
+fn exchanged(text: &str, one: usize, other: usize) -> Vec<u8> {
+    let mut bytes = blocks(text);
+    exchange(&mut bytes, one, other);
+    bytes
+}
+
+/// So many properties 1, with at least 0 and at least so many at these two places, exchanged.
+fn exchanged_among(
+    entries: usize,
+    (one, other): (usize, usize),
+    kind: u8,
+    difference: u16,
+) -> Vec<u8> {
+    let mut entries = vec![entry(1, 0, 1, 0); entries];
+    entries[one - 1] = entry(kind, 0, 1, 0);
+    entries[other - 1] = entry(kind, 0, 1, difference);
+    let mut bytes = encode(&entries);
+    exchange(&mut bytes, one, other);
+    bytes
+}
+
+/// Two entries of one block exchanged: told by the second check unless the distance times the difference of the word sums is a
+/// multiple of 16,384.
+fn exchanges() -> Vec<Vector> {
+    let mut vectors = vec![
+        // Word sums 8 and 6.
+        Vector::description(exchanged("1,7; 3,1,2", 1, 2)),
+        // Word sums 9 and 9: another description, and its normal form.
+        Vector::description(exchanged("1,8; 2,7", 1, 2)),
+        normal_form_bytes(exchanged("1,8; 2,7", 1, 2)),
+        // Word sums 10 and 9.
+        Vector::description(exchanged("1,9; 2,7", 1, 2)),
+        // Word sums 6 and 6: the blocks pass, and the owner stands after what it owns.
+        Vector::description(exchanged("5,1 [1,4]", 1, 2)),
+        // Word sums 8, 8 and 10, in each call and input.
+        Vector::specimen(exchanged("1,7; 7,1; 7,1,2", 1, 2)),
+        Vector::specimen(exchanged("1,7; 7,1; 7,1,2", 2, 3)),
+        Vector::fit(exchanged("1,7; 7,1,2", 1, 2), blocks("1,7")),
+        Vector::fit(blocks("1,7"), exchanged("1,7; 3,1,2", 1, 2)),
+        normal_form_bytes(exchanged("1,7; 3,1,2", 1, 2)),
+        compare_bytes(exchanged("1,7; 3,1,2", 1, 2), blocks("1,7")),
+        compare_bytes(blocks("1,7"), exchanged("1,7; 3,1,2", 1, 2)),
+    ];
+    // Distances 1, 2, 3, 32 and 62 in a block of 63, and 62 in a second one.
+    for (entries, two, least) in [
+        (63, (1, 2), 16_384),
+        (63, (62, 60), 8_192),
+        (63, (7, 10), 16_384),
+        (63, (20, 52), 512),
+        (63, (1, 63), 8_192),
+        (126, (126, 64), 8_192),
+    ] {
+        for difference in [least - 1, least, least + 1, 2 * least, 3 * least] {
+            let bytes = exchanged_among(entries, two, 3, difference);
+            vectors.push(Vector::description(bytes));
+        }
+    }
+    for difference in [16_383, 16_384, 16_385] {
+        let bytes = exchanged_among(2, (1, 2), 7, difference);
+        vectors.push(Vector::specimen(bytes));
+    }
     vectors
 }
 

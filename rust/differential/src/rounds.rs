@@ -10,6 +10,7 @@ use crate::agree::{self, Answer, Difference};
 use crate::chance::Chance;
 use crate::damage::{damaged, Sort};
 use crate::draw::{self, Shape};
+use crate::exchange;
 use crate::pairs;
 use crate::small::{confirm, confirm_fit, Pool, Size};
 
@@ -91,7 +92,8 @@ impl Rounds {
             0..=19 => self.pair(),
             20..=27 => self.normal(),
             28..=37 => self.fits(),
-            38..=54 => self.damage(),
+            38..=51 => self.damage(),
+            52..=54 => self.exchange(),
             55..=57 => self.outputs(),
             58..=62 => self.small(),
             _ => self.full(),
@@ -254,6 +256,43 @@ impl Rounds {
         let length = self.chance.one_of([0, bad.len()]);
         self.normal_form(&bad, length)?;
         Ok(())
+    }
+
+    /// Two entries of one block exchanged, in a description and in a specimen: refused or not as distance and word sums say, and
+    /// the same in each call.
+    ///
+    /// # Errors
+    ///
+    /// The difference.
+    pub fn exchange(&mut self) -> Found {
+        let shape = draw::shape(&mut self.chance);
+        let d = draw::description(&mut self.chance, &shape);
+        let s = draw::specimen(&mut self.chance, &shape);
+        let d = self.exchanged(Sort::Description, d)?;
+        let s = self.exchanged(Sort::Specimen, s)?;
+        let good = encode(&[entry(1, 0, 1, 0)]);
+        self.fit(&s, &d)?;
+        self.normal_form(&d, d.len())?;
+        self.compare(&d, &good, d.len() + good.len())?;
+        self.compare(&good, &d, d.len() + good.len())?;
+        Ok(())
+    }
+
+    /// The blocks of the entries with two of one block exchanged, after a look at what reading answers to them. Half of the time
+    /// the two are first made ones that the checks do not tell, or nearly so.
+    fn exchanged(&mut self, sort: Sort, mut entries: Vec<Entry>) -> Result<Vec<u8>, Difference> {
+        let Some(two) = exchange::two_of_a_block(&mut self.chance, entries.len()) else {
+            return Ok(encode(&entries));
+        };
+        if self.chance.once_in(2) {
+            exchange::make_nearly_unseen(&mut self.chance, sort, &mut entries, two);
+        }
+        let (one, other) = two;
+        let mut bytes = encode(&entries);
+        exchange::exchange(&mut bytes, one, other);
+        let answer = agree::exchanged(sort, &bytes, exchange::told(&entries, one, other))?;
+        self.tally.add("exchange", answer);
+        Ok(bytes)
     }
 
     /// Outputs of lengths around the ones that are needed.

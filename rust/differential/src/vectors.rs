@@ -201,6 +201,7 @@ pub fn digest(bytes: &[u8]) -> u64 {
 pub fn all() -> Vec<Vector> {
     let lists = [
         named::limits(),
+        named::checks(),
         named::desk(),
         named::report(),
         drawn::drawn(),

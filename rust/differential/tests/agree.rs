@@ -2,8 +2,9 @@
 
 use differential::agree::{self, Answer, Difference};
 use differential::chance::Chance;
-use differential::damage::{framed, seal, Sort};
+use differential::damage::{framed, seal, seal_first, Sort};
 use differential::draw::{self, Shape};
+use differential::exchange::{exchange, least_unseen, told};
 use differential::rounds::{Found, Rounds};
 use differential::small::{confirm, tiny_descriptions, Pool, Size};
 use differential::{length_of, BLOCK, MOST_DEPTH};
@@ -85,6 +86,39 @@ fn damaged_bytes() {
 }
 
 #[test]
+fn exchanged_entries() {
+    let run = made(4000, Rounds::exchange);
+    for (answer, times) in [
+        ("count", 1000),
+        ("refused 2 input 1", 5000),
+        ("refused 5 input 1", 40),
+    ] {
+        assert!(run.tally.count("exchange", answer) > times, "{answer}");
+    }
+}
+
+/// Each two entries of a block, with word sums that differ by nothing, by what the checks do not tell there, and by one more or
+/// less.
+#[test]
+fn each_two_entries_of_a_block() {
+    for (one, other) in (1..=63).flat_map(|one| (1..one).map(move |other| (one, other))) {
+        let least = least_unseen(one - other);
+        for difference in [0, 1, least - 1, least, least + 1] {
+            for (sort, kind) in [(Sort::Description, 3), (Sort::Specimen, 7)] {
+                let mut entries = vec![entry(1, 0, 1, 0); 63];
+                entries[one - 1] = entry(kind, 0, 1, difference as u16);
+                entries[other - 1] = entry(kind, 0, 1, 0);
+                let mut bytes = encode(&entries);
+                exchange(&mut bytes, one, other);
+                let told = told(&entries, one, other);
+                assert_eq!(told.is_none(), difference % least == 0);
+                agreed(agree::exchanged(sort, &bytes, told));
+            }
+        }
+    }
+}
+
+#[test]
 fn outputs_around_the_needed_length() {
     let run = made(600, Rounds::outputs);
     assert!(run.tally.count("compare", "refused 7 input 0") > 1000);
@@ -133,7 +167,7 @@ fn all_tiny_pairs_in_all_records() {
     }
 }
 
-/// Each byte of blocks changed, with the check as it was and with the check that is right for the block.
+/// Each byte of blocks changed, with the checks as they were, with the first and with both made right for the block.
 #[test]
 fn each_byte() {
     for whole in [
@@ -149,11 +183,32 @@ fn each_byte() {
                 run.read(&bytes)
                     .unwrap_or_else(|difference| panic!("{difference}"));
                 let block = at / BLOCK * BLOCK;
-                seal(&mut bytes[block..block + BLOCK]);
-                run.read(&bytes)
-                    .unwrap_or_else(|difference| panic!("{difference}"));
+                let sealed: [fn(&mut [u8]); 2] = [seal_first, seal];
+                for sealed in sealed {
+                    sealed(&mut bytes[block..block + BLOCK]);
+                    run.read(&bytes)
+                        .unwrap_or_else(|difference| panic!("{difference}"));
+                }
             }
         }
+    }
+}
+
+/// Each word as the second check, with the first check that is right for it: one is accepted, and the others are refused as 2.
+#[test]
+fn each_second_check() {
+    for entries in [vec![], mixed(20), mixed(100)] {
+        let mut bytes = encode(&entries);
+        let mut run = Rounds::from_seed(0);
+        for second in 0..=u16::MAX {
+            bytes[508..510].copy_from_slice(&second.to_le_bytes());
+            seal_first(&mut bytes[..BLOCK]);
+            run.read(&bytes)
+                .unwrap_or_else(|difference| panic!("{difference}"));
+        }
+        let call = "read description";
+        assert_eq!(run.tally.count(call, "count"), 1);
+        assert_eq!(run.tally.count(call, "refused 2 input 1"), 65_535);
     }
 }
 

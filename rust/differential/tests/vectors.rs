@@ -101,7 +101,7 @@ fn the_digest() {
 fn as_many_and_as_long_as_allowed() {
     let vectors = all();
     assert!(vectors.len() <= MOST_VECTORS);
-    assert!(standard_input(&vectors).len() < 700_000);
+    assert!(standard_input(&vectors).len() < 800_000);
     for vector in &vectors {
         let lengths = [vector.first.len(), vector.second.len(), vector.output];
         assert!(lengths.iter().all(|&length| length <= MOST_LENGTH));
@@ -201,6 +201,7 @@ fn sizes_and_lengths() {
         said("specimen accepted 2016"),
         said("specimen refused 1 input 1 place 0"),
         said("description refused 2 input 1 place 16"),
+        said("specimen refused 2 input 1 place 32"),
         said("specimen refused 3 input 1 place 32"),
         said("specimen refused 4 input 1 place 2016"),
     ];
@@ -216,7 +217,7 @@ fn sizes_and_lengths() {
             said("compare refused 1 input 2 place 0"),
         ]);
     }
-    check(&named::limits()[..32], &expected);
+    check(&named::limits()[..33], &expected);
 }
 
 #[test]
@@ -245,7 +246,7 @@ fn depths() {
         said("fit refused 6 input 1 place 34"),
         said("fit refused 6 input 2 place 34"),
     ];
-    check(&named::limits()[32..49], &expected);
+    check(&named::limits()[33..50], &expected);
 }
 
 #[test]
@@ -276,7 +277,115 @@ fn outputs() {
         said("normal form refused 4 input 1 place 1"),
         said("compare refused 4 input 2 place 2"),
     ];
-    check(&named::limits()[49..], &expected);
+    check(&named::limits()[50..], &expected);
+}
+
+/// How many of the vectors of the checks come before the exchanges.
+const BEFORE_EXCHANGES: usize = 8 + 13 + 15;
+
+#[test]
+fn checks() {
+    let empty = {
+        let mut block = vec![0; 512];
+        (block[0], block[508], block[510]) = (1, 1, 2);
+        block
+    };
+    let mut expected = vec![
+        said("description accepted 0"),
+        said("specimen accepted 0"),
+        Expected {
+            answer: "normal form 0",
+            written: empty,
+        },
+        said("description refused 2 input 1 place 1"),
+        said("specimen refused 2 input 1 place 1"),
+        said("description refused 2 input 1 place 1"),
+        said("description refused 2 input 1 place 1"),
+        said("description refused 2 input 1 place 1"),
+        // Two blocks: right, then the first, the second, its high byte and both wrong.
+        said("description accepted 64"),
+        said("description refused 2 input 1 place 2"),
+        said("description refused 2 input 1 place 2"),
+        said("description refused 2 input 1 place 2"),
+        said("description refused 2 input 1 place 2"),
+        // Word 254 changed, with the first check right and with both.
+        said("description refused 2 input 1 place 1"),
+        said("description accepted 64"),
+        said("specimen refused 2 input 1 place 2"),
+        said("fit refused 2 input 1 place 2"),
+        said("fit refused 2 input 2 place 2"),
+        said("normal form refused 2 input 1 place 2"),
+        said("compare refused 2 input 1 place 2"),
+        said("compare refused 2 input 2 place 2"),
+    ];
+    // Number, used count and unused entry: only with both checks right it is 3.
+    for _ in 0..3 {
+        expected.extend([
+            said("description refused 3 input 1 place 2"),
+            said("description refused 2 input 1 place 2"),
+            said("description refused 2 input 1 place 2"),
+            said("description refused 2 input 1 place 2"),
+        ]);
+    }
+    expected.extend([
+        said("description refused 3 input 1 place 1"),
+        said("description refused 2 input 1 place 1"),
+        said("description refused 2 input 1 place 2"),
+    ]);
+    check(&named::checks()[..BEFORE_EXCHANGES], &expected);
+}
+
+#[test]
+fn exchanges() {
+    let mut expected = vec![
+        said("description refused 2 input 1 place 1"),
+        said("description accepted 2"),
+        wrote("normal form 2", "1,8; 2,7"),
+        said("description refused 2 input 1 place 1"),
+        said("description refused 5 input 1 place 1"),
+        said("specimen accepted 3"),
+        said("specimen refused 2 input 1 place 1"),
+        said("fit refused 2 input 1 place 1"),
+        said("fit refused 2 input 2 place 1"),
+        said("normal form refused 2 input 1 place 1"),
+        said("compare refused 2 input 1 place 1"),
+        said("compare refused 2 input 2 place 1"),
+    ];
+    // One less than what passes, what passes, one more, and what passes twice and three times.
+    for (accepted, refused) in [
+        (
+            "description accepted 63",
+            "description refused 2 input 1 place 1",
+        ),
+        (
+            "description accepted 63",
+            "description refused 2 input 1 place 1",
+        ),
+        (
+            "description accepted 63",
+            "description refused 2 input 1 place 1",
+        ),
+        (
+            "description accepted 63",
+            "description refused 2 input 1 place 1",
+        ),
+        (
+            "description accepted 63",
+            "description refused 2 input 1 place 1",
+        ),
+        (
+            "description accepted 126",
+            "description refused 2 input 1 place 2",
+        ),
+    ] {
+        expected.extend([refused, accepted, refused, accepted, accepted].map(said));
+    }
+    expected.extend([
+        said("specimen refused 2 input 1 place 1"),
+        said("specimen accepted 2"),
+        said("specimen refused 2 input 1 place 1"),
+    ]);
+    check(&named::checks()[BEFORE_EXCHANGES..], &expected);
 }
 
 #[test]

@@ -11,8 +11,8 @@ pub const BLOCK: usize = 512;
 pub const BLOCK_ENTRIES: usize = 63;
 const ENTRY_BYTES: usize = 8;
 const ENTRIES_AT: usize = 4;
-const ZERO_AT: usize = 508;
-const CHECK_AT: usize = 510;
+const SECOND_AT: usize = 508;
+const FIRST_AT: usize = 510;
 
 /// The entries as blocks; none at all are one block.
 pub fn encode(entries: &[Entry]) -> Vec<u8> {
@@ -32,9 +32,11 @@ fn one_block(number: u16, entries: &[Entry]) -> Vec<u8> {
     for e in entries {
         block.extend(entry_bytes(e));
     }
-    block.resize(CHECK_AT, 0);
-    let check = sum(&block);
-    block.extend(check.to_le_bytes());
+    block.resize(SECOND_AT, 0);
+    let second = second_sum(&block);
+    block.extend(second.to_le_bytes());
+    let first = first_sum(&block);
+    block.extend(first.to_le_bytes());
     block
 }
 
@@ -55,7 +57,7 @@ pub fn decode(bytes: &[u8]) -> Vec<Entry> {
 
 fn used_entries(block: &[u8]) -> impl Iterator<Item = Entry> + '_ {
     let used = usize::from(word(block, 2)).min(BLOCK_ENTRIES);
-    block[ENTRIES_AT..ZERO_AT]
+    block[ENTRIES_AT..SECOND_AT]
         .chunks_exact(ENTRY_BYTES)
         .take(used)
         .map(|bytes| Entry {
@@ -73,11 +75,35 @@ fn word(bytes: &[u8], at: usize) -> u16 {
     u16::from_le_bytes([byte(at), byte(at + 1)])
 }
 
-/// The sum of the 255 words before the check.
-fn sum(block: &[u8]) -> u16 {
-    (0..CHECK_AT)
-        .step_by(2)
-        .fold(0, |sum: u16, at| sum.wrapping_add(word(block, at)))
+/// The sum of the 255 words before the first check, of which the second check is the last.
+fn first_sum(block: &[u8]) -> u16 {
+    let words = (0..FIRST_AT).step_by(2).map(|at| word(block, at));
+    words.fold(0, u16::wrapping_add)
+}
+
+/// The sum of the 254 words before the second check, each times its number, counted from 1.
+fn second_sum(block: &[u8]) -> u16 {
+    let words = (0..SECOND_AT).step_by(2).map(|at| word(block, at));
+    let times = (1u16..)
+        .zip(words)
+        .map(|(number, word)| number.wrapping_mul(word));
+    times.fold(0, u16::wrapping_add)
+}
+
+/// A check of a block.
+#[derive(Clone, Copy, Debug, PartialEq, Eq)]
+pub struct Check {
+    /// The check as it is stored.
+    pub says: u16,
+    /// The sum that it is due to be.
+    pub sum: u16,
+}
+
+impl Check {
+    /// Whether it says what it is due to be.
+    pub fn is_right(self) -> bool {
+        self.says == self.sum
+    }
 }
 
 /// What stands in the frame of a block.
@@ -87,10 +113,10 @@ pub struct Frame {
     pub number: u16,
     /// How many entries it says are used.
     pub used: u16,
-    /// The check as it is stored.
-    pub check: u16,
-    /// The sum that the check is due to be.
-    pub sum: u16,
+    /// The first check.
+    pub first: Check,
+    /// The second check.
+    pub second: Check,
     /// The first byte due to be zero that is not, with its value.
     pub not_zero: Option<(usize, u8)>,
 }
@@ -100,12 +126,18 @@ pub fn frame(bytes: &[u8], block: usize) -> Option<Frame> {
     let block = bytes.chunks_exact(BLOCK).nth(block.checked_sub(1)?)?;
     let used = word(block, 2);
     let unused_at = ENTRIES_AT + ENTRY_BYTES * usize::from(used).min(BLOCK_ENTRIES);
-    let not_zero = (unused_at..CHECK_AT).find(|&at| block[at] != 0);
+    let not_zero = (unused_at..SECOND_AT).find(|&at| block[at] != 0);
     Some(Frame {
         number: word(block, 0),
         used,
-        check: word(block, CHECK_AT),
-        sum: sum(block),
+        first: Check {
+            says: word(block, FIRST_AT),
+            sum: first_sum(block),
+        },
+        second: Check {
+            says: word(block, SECOND_AT),
+            sum: second_sum(block),
+        },
         not_zero: not_zero.map(|at| (at, block[at])),
     })
 }

@@ -15,19 +15,20 @@ pub fn why(refusal: Refusal, sort: Sort, bytes: &[u8]) -> String {
     let place = usize::from(refusal.place);
     match refusal.reason {
         Reason::Length => length(sort, bytes),
-        Reason::Check => match blocks::frame(bytes, place) {
-            Some(Frame { check, sum, .. }) => format!(
-                "the check of block {place} is wrong: it says {check}, and the words of the block add up to {sum}"
-            ),
-            None => format!("the check of block {place} is wrong"),
-        },
+        Reason::Check => {
+            let faults = blocks::frame(bytes, place).map(|frame| check_faults(frame, place));
+            faults.unwrap_or_default()
+        }
         Reason::Frame => {
             let fault = blocks::frame(bytes, place).map(|frame| frame_fault(frame, place, bytes));
             format!("block {place}: {}", fault.unwrap_or_default())
         }
         Reason::Form | Reason::Owner | Reason::Depth => {
             let entries = blocks::decode(bytes);
-            let e = entries.get(place.wrapping_sub(1)).copied().unwrap_or_default();
+            let e = entries
+                .get(place.wrapping_sub(1))
+                .copied()
+                .unwrap_or_default();
             let fault = match refusal.reason {
                 Reason::Form => form_fault(sort, e),
                 Reason::Owner => owner_fault(sort, e, place, &entries),
@@ -65,6 +66,24 @@ fn length(sort: Sort, bytes: &[u8]) -> String {
 fn counted(count: usize, one: &str, many: &str) -> String {
     let word = if count == 1 { one } else { many };
     format!("{count} {word}")
+}
+
+/// Which of the block's checks is wrong, or both.
+fn check_faults(frame: Frame, block: usize) -> String {
+    let Frame { first, second, .. } = frame;
+    let first_fault = format!(
+        "the first check of block {block} is wrong: it says {}, and the words before it add up to {}",
+        first.says, first.sum
+    );
+    let second_fault = format!(
+        "the second check of block {block} is wrong: it says {}, and the words before it, each times its number, add up to {}",
+        second.says, second.sum
+    );
+    match (first.is_right(), second.is_right()) {
+        (false, true) => first_fault,
+        (true, _) => second_fault,
+        _ => format!("{first_fault}; {second_fault}"),
+    }
 }
 
 /// Which of the block's number, its used count and its zero bytes is wrong.
@@ -168,13 +187,15 @@ fn shown_blocks(bytes: &[u8], place: usize) -> String {
             format!(", byte {at} is {value}")
         });
         out.push_str(&format!(
-            "{sign} block {block} of {total} (bytes {} to {}): number {}, used {}, check {}, sum {}{zero}\n",
+            "{sign} block {block} of {total} (bytes {} to {}): number {}, used {}, first check {}, sum {}, second check {}, sum {}{zero}\n",
             (block - 1) * BLOCK,
             block * BLOCK - 1,
             frame.number,
             frame.used,
-            frame.check,
-            frame.sum
+            frame.first.says,
+            frame.first.sum,
+            frame.second.says,
+            frame.second.sum
         ));
     }
     out

@@ -10,12 +10,10 @@ const ENTRY_BYTES: usize = 8;
 const NUMBER_AT: usize = 0;
 const USED_AT: usize = 2;
 const ENTRIES_AT: usize = 4;
-/// "Bytes 508-509: zero."
-const ZERO_AT: usize = 508;
+/// "Bytes 508-509 now hold a second sum over bytes 0-507".
+const SECOND_AT: usize = 508;
 /// "Bytes 510-511: the check."
 const CHECK_AT: usize = 510;
-/// "The check is the sum of the 255 words of two bytes in bytes 0-509".
-const CHECKED_WORDS: usize = 255;
 
 /// "Entry: kind (1 byte), zero (1 byte), owner, name, number (2 bytes each)."
 #[derive(Clone, Copy, Debug, Default, PartialEq, Eq)]
@@ -64,12 +62,25 @@ pub(crate) fn word(bytes: &[u8], at: usize) -> u16 {
 }
 
 /// "The check is the sum of the 255 words of two bytes in bytes 0-509, and
-/// this sum wraps at 65,536."
+/// this sum wraps at 65,536." The second sum "is part of the first check's
+/// 510 bytes".
 fn sum_of_words(block: &[u8]) -> u16 {
-    block
-        .chunks(2)
-        .take(CHECKED_WORDS)
-        .fold(0, |sum: u16, pair| sum.wrapping_add(word(pair, 0)))
+    words_before(block, CHECK_AT).fold(0, u16::wrapping_add)
+}
+
+/// "a second sum over bytes 0-507: word number times word, words counted from
+/// 1, modulo 65,536"
+fn second_sum(block: &[u8]) -> u16 {
+    (1..)
+        .zip(words_before(block, SECOND_AT))
+        .fold(0, |sum: u16, (number, word)| {
+            sum.wrapping_add(word.wrapping_mul(number))
+        })
+}
+
+/// The words of two bytes that stand before this byte of a block.
+fn words_before(block: &[u8], end: usize) -> impl Iterator<Item = u16> + '_ {
+    block.chunks(2).take(end / 2).map(|pair| word(pair, 0))
 }
 
 /// The block number as stored in the block.
@@ -90,7 +101,7 @@ pub fn decode(bytes: &[u8]) -> Vec<Entry> {
 
 fn used_entries(block: &[u8]) -> Vec<Entry> {
     block
-        .get(ENTRIES_AT..ZERO_AT)
+        .get(ENTRIES_AT..SECOND_AT)
         .unwrap_or(&[])
         .chunks_exact(ENTRY_BYTES)
         .take(usize::from(word(block, USED_AT)))
@@ -126,8 +137,10 @@ fn one_block(number: u16, entries: &[Entry]) -> Vec<u8> {
     for entry in entries {
         block.extend(entry.to_bytes());
     }
-    // "Unused entry bytes are zero." "Bytes 508-509: zero."
-    block.resize(CHECK_AT, 0);
+    // "Unused entry bytes are zero."
+    block.resize(SECOND_AT, 0);
+    let second = second_sum(&block);
+    block.extend(second.to_le_bytes());
     let check = sum_of_words(&block);
     block.extend(check.to_le_bytes());
     block
@@ -158,7 +171,7 @@ pub(crate) fn check_blocks(bytes: &[u8], input: u16) -> Result<(), Refusal> {
     let total = bytes.len() / BLOCK_BYTES;
     for (index, block) in bytes.chunks_exact(BLOCK_BYTES).enumerate() {
         let position = index.saturating_add(1);
-        if word(block, CHECK_AT) != sum_of_words(block) {
+        if !checks_are_right(block) {
             return Err(Refusal::at(CHECK, input, position));
         }
         if !frame_is_right(block, position, total) {
@@ -166,6 +179,11 @@ pub(crate) fn check_blocks(bytes: &[u8], input: u16) -> Result<(), Refusal> {
         }
     }
     Ok(())
+}
+
+/// Both sums: "a wrong second sum is refused as 2, no longer as 3".
+fn checks_are_right(block: &[u8]) -> bool {
+    word(block, CHECK_AT) == sum_of_words(block) && word(block, SECOND_AT) == second_sum(block)
 }
 
 /// Number, used count and the bytes due to be zero.
@@ -186,12 +204,12 @@ fn used_is_right(used: usize, position: usize, total: usize) -> bool {
     (fewest..=BLOCK_ENTRIES).contains(&used)
 }
 
-/// "Unused entry bytes are zero." "Bytes 508-509: zero."
+/// "Unused entry bytes are zero."
 fn zeros_are_right(block: &[u8], used: usize) -> bool {
     let unused_at = ENTRIES_AT.saturating_add(used.saturating_mul(ENTRY_BYTES));
     block
         .iter()
-        .take(CHECK_AT)
+        .take(SECOND_AT)
         .skip(unused_at)
         .all(|&value| value == 0)
 }

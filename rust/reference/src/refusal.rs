@@ -17,10 +17,10 @@ pub struct Refusal {
 
 /// "input length 0, no multiple of 512, or over the limit"
 pub(crate) const LENGTH: u8 = 1;
-/// "a check is wrong"
+/// "a check is wrong", the first or the second
 pub(crate) const CHECK: u8 = 2;
 /// "block number, used count or a byte due to be zero in frame or unused
-/// entries is wrong"
+/// entries is wrong"; the frame's own such bytes became the second check
 pub(crate) const FRAME: u8 = 3;
 /// "kind not allowed, byte 1 not zero, or name or number outside the table"
 pub(crate) const ENTRY: u8 = 4;

@@ -1,18 +1,18 @@
 -- Blocks and their parts: lengths, and where each part stands.
 -- Assumes nothing.
 use native.Mathlib.Omega.{arith}
-use mathlib.Core.Path.{_≡_, refl, sym, ap, _∙_}
+use mathlib.Core.Path.{_≡_, refl, sym, ap}
 use mathlib.Core.List.{List, _++_}
 use Prim.Native.Nat.{ℕ, suc, _+_, _*_, _-_, _≤_}
-use native.Mathlib.Nat.{zero-add, mul-le-mul-left}
+use native.Mathlib.Nat.{mul-le-mul-left}
 use lib.ListN.{length, replicate, length-append, length-replicate}
 use Rattle.base.proofs.Lists.{Holds, holds-left, holds-right, holds-both, holds-as}
 use Rattle.blocks.proofs.Format.ByteRows.{Rows, length-joined}
 use Rattle.blocks.proofs.Format.Lawful.{Lawful}
-use Rattle.blocks.proofs.Format.WordBytes.{length-word, check-within}
+use Rattle.blocks.proofs.Format.WordBytes.{check-within, length-word, second-within}
 use Rattle.blocks.specs.Encoding.{joined, blockBody, blockFront, blockBytes}
 use Rattle.blocks.specs.Frame.{Frame}
-use Rattle.blocks.specs.Words.{wordBytes, checkOf}
+use Rattle.blocks.specs.Words.{checkOf, secondOf, wordBytes}
 
 -- the bytes after the rows of a block, up to its second word
 abbrev pub spare : Frame → List (List ℕ) → ℕ
@@ -31,17 +31,13 @@ pub record Parts (F : Frame) (s : List ℕ) (a i : ℕ) (rows : List (List ℕ))
   pub used : Holds s (a + 2) (wordBytes (length rows))
   pub cells : Holds s (a + 4) (joined rows)
   pub rest : Holds s (a + 4 + F .width * length rows) (replicate (spare F rows) 0)
-  pub second : Holds s (a + 508) (wordBytes (F .second s a))
+  pub second : Holds s (a + 508) (wordBytes (secondOf s a))
   pub check : Holds s (a + 510) (wordBytes (checkOf s a))
 
 module _ (F : Frame) (L : Lawful F) where
-  -- the second word depends on the first 508 bytes only
-  second-within : {s xs : List ℕ} {a : ℕ} → length xs ≡ 508 → Holds s a xs → F .second s a ≡ F .second xs 0
-  second-within {s} {xs} {a} e h = L .local s xs a 0 (λ k b. h .each k (omega arith) ∙ rw zero-add)
-
   module _ (i : ℕ) {rows : List (List ℕ)} (wide : Rows (F .width) rows) (fits : length rows ≤ F .room) where
     -- lengths: to the second word, to the check, and whole
-    length-body : length (blockBody F i rows) ≡ 508
+    pub length-body : length (blockBody F i rows) ≡ 508
     unfolding blockBody
     length-body =
         let m = mul-le-mul-left (F .width) fits in
@@ -64,10 +60,10 @@ module _ (F : Frame) (L : Lawful F) where
         let body : List ℕ = blockBody F i rows in
         let front : List ℕ = blockFront F i rows in
         let in-front : Holds s a front = holds-left front (wordBytes (checkOf front 0)) h in
-        let in-body : Holds s a body = holds-left body (wordBytes (F .second body 0)) in-front in
+        let in-body : Holds s a body = holds-left body (wordBytes (secondOf body 0)) in-front in
         let after-number = holds-right (wordBytes (suc i)) (fromUsed F rows) (length-word (suc i)) in-body in
         let after-used = holds-right (wordBytes (length rows)) (fromCells F rows) (length-word (length rows)) after-number in
-        let at-second = holds-right body (wordBytes (F .second body 0)) length-body in-front in
+        let at-second = holds-right body (wordBytes (secondOf body 0)) length-body in-front in
         let at-check = holds-right front (wordBytes (checkOf front 0)) length-front h in
         record {
           number = holds-left (wordBytes (suc i)) (fromUsed F rows) in-body;
@@ -91,6 +87,6 @@ module _ (F : Frame) (L : Lawful F) where
         holds-both (wordBytes (length rows)) (fromCells F rows) (length-word (length rows)) (p .used) at-cells in
         let in-body : Holds s a body = holds-both (wordBytes (suc i)) (fromUsed F rows) (length-word (suc i)) (p .number) at-used in
         let at-second = holds-as (ap wordBytes (second-within length-body in-body)) refl (p .second) in
-        let in-front : Holds s a front = holds-both body (wordBytes (F .second body 0)) length-body in-body at-second in
+        let in-front : Holds s a front = holds-both body (wordBytes (secondOf body 0)) length-body in-body at-second in
         let at-check = holds-as (ap wordBytes (check-within length-front in-front)) refl (p .check) in
         holds-both front (wordBytes (checkOf front 0)) length-front in-front at-check

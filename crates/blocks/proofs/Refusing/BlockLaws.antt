@@ -13,9 +13,9 @@ use Rattle.base.proofs.Tests.{and-left, bool-cases, both-ways, eq-cases, eq-eqb
 use Rattle.base.specs.Range.{all}
 use Rattle.blocks.proofs.Refusing.FirstFault.{clean-none, step, step-found, step-more}
 use Rattle.blocks.specs.Faults.{blockFaults, first}
-use Rattle.blocks.specs.Frame.{Frame, checkWrong, frameWrong, plain, restZero, secondOk, usedIn, usedOk, zeroAt}
+use Rattle.blocks.specs.Frame.{Frame, checkWrong, frameWrong, plain, restZero, usedIn, usedOk, zeroAt}
 use Rattle.blocks.specs.Promise.{None}
-use Rattle.blocks.specs.Words.{checkOf, wordAt}
+use Rattle.blocks.specs.Words.{checkOf, secondOf, wordAt}
 use Rattle.blocks.specs.code.ReadingSteps.{blockRefusal}
 use Rattle.blocks.specs.declared.Finding.the-variants.{Clean, Faulty}
 
@@ -38,17 +38,12 @@ module _ (s : List ℕ) (n i : ℕ) where
     unfolding frameWrong
     used-wrong h = simp (frameWrong, number-right, used-is, h)
 
-    module _ (used : usedOk plain n i u ≡ true) {v : ℕ} (g : v ≡ wordAt s (512 * i + 508)) where
-      pub second-wrong : v ≢ 0 → true ≡ frameWrong plain s n i
-      unfolding frameWrong secondOk
-      second-wrong h = simp (frameWrong, secondOk, number-right, used-is, used, ← g, ne-eqb h)
-
-      pub rest-decides : v ≡ 0 → {z : Bool} → z ≡ all (zeroAt s) (512 * i + 4 + 8 * u) (512 * i + 508 - (512 * i + 4 + 8 * u))
-          → not z ≡ frameWrong plain s n i
-      unfolding frameWrong secondOk restZero
-      rest-decides h p =
-          let k : 512 * i + 508 - (512 * i + 4 + 8 * u) ≡ 504 - 8 * u = omega arith in
-          simp (frameWrong, secondOk, restZero, number-right, used-is, used, ← g, eq-eqb h) (ap not (p ∙ ap (all (zeroAt s) (512 * i + 4 + 8 * u)) k))
+    pub rest-decides : usedOk plain n i u ≡ true → {z : Bool}
+        → z ≡ all (zeroAt s) (512 * i + 4 + 8 * u) (512 * i + 508 - (512 * i + 4 + 8 * u)) → not z ≡ frameWrong plain s n i
+    unfolding frameWrong restZero
+    rest-decides used p =
+        let k : 512 * i + 508 - (512 * i + 4 + 8 * u) ≡ 504 - 8 * u = omega arith in
+        simp (frameWrong, restZero, number-right, used-is, used) (ap not (p ∙ ap (all (zeroAt s) (512 * i + 4 + 8 * u)) k))
 
 -- an allowed used count is at most 63
 pub used-at-most : (n i : ℕ) {u : ℕ} → usedOk plain n i u ≡ true → u ≤ 63
@@ -58,32 +53,23 @@ used-at-most n i {u} h =
     (λ q. omega (tests, rw (usedOk, q) at h))
     (λ q. omega (tests, and-left (leb u 63) (ltb 0 u || eqb n 1) (rw (usedOk, q) at h)))
 
--- ---- the number of a block
+-- ---- number 2
 
-pub check-fails : (s : List ℕ) (n i : ℕ) {c w : ℕ} → w ≡ wordAt s (512 * i + 510) → c ≡ checkOf s (512 * i) → w ≢ c → 2 ≡ blockRefusal s n i
-unfolding blockRefusal checkWrong
-check-fails s n i e f h = simp (blockRefusal, checkWrong, ← e, ← f, ne-eqb h)
+module _ (s : List ℕ) (i : ℕ) {c w : ℕ} (e : w ≡ wordAt s (512 * i + 510)) (f : c ≡ checkOf s (512 * i)) where
+  pub check-fails : w ≢ c → true ≡ checkWrong s i
+  unfolding checkWrong
+  check-fails h = simp (checkWrong, ← e, ← f, ne-eqb h)
 
-check-holds : (s : List ℕ) (i : ℕ) {c w : ℕ} → w ≡ wordAt s (512 * i + 510) → c ≡ checkOf s (512 * i) → w ≡ c → checkWrong plain s i ≡ false
-unfolding checkWrong
-check-holds s i e f h = simp (checkWrong, ← e, ← f, eq-eqb h)
-
-pub frame-fails : (s : List ℕ) (n i : ℕ) {c w : ℕ} {r : Bool} → w ≡ wordAt s (512 * i + 510) → c ≡ checkOf s (512 * i) → w ≡ c
-    → r ≡ frameWrong plain s n i → r ≡ true → 3 ≡ blockRefusal s n i
-unfolding blockRefusal
-frame-fails s n i e f h g t = simp (blockRefusal, check-holds s i e f h, ← g, t)
-
-pub block-sound : (s : List ℕ) (n i : ℕ) {c w : ℕ} {r : Bool} → w ≡ wordAt s (512 * i + 510) → c ≡ checkOf s (512 * i) → w ≡ c
-    → r ≡ frameWrong plain s n i → r ≡ false → 0 ≡ blockRefusal s n i
-unfolding blockRefusal
-block-sound s n i e f h g t = simp (blockRefusal, check-holds s i e f h, ← g, t)
+  pub second-decides : w ≡ c → {d v : ℕ} → v ≡ wordAt s (512 * i + 508) → d ≡ secondOf s (512 * i) → not (eqb v d) ≡ checkWrong s i
+  unfolding checkWrong
+  second-decides h g k = simp (checkWrong, ← e, ← f, eq-eqb h, ← g, ← k)
 
 -- ---- the pass over the blocks
 
 block-step : (s : List ℕ) (n i left : ℕ) → first (blockFaults plain s n i (suc left)) ≡ step (blockRefusal s n i) (suc i) (first (blockFaults plain s n (suc i) left))
 unfolding blockFaults first blockRefusal
 block-step s n i left =
-    bool-cases (checkWrong plain s i)
+    bool-cases (checkWrong s i)
     (λ q. simp (blockRefusal, q))
     (λ q. bool-cases (frameWrong plain s n i) (λ r. simp (blockRefusal, q, r)) (λ r. simp (blockRefusal, q, r)))
 
@@ -101,7 +87,7 @@ module _ (s : List ℕ) (n i : ℕ) {number : ℕ} (l : i < n) (e : number ≡ b
 
 -- blocks in which no fault is found break neither number
 pub blocks-none : (F : Frame) (s : List ℕ) (n i left : ℕ) → None (blockFaults F s n i left) → (k : ℕ) → i ≤ k → k < i + left
-    → (checkWrong F s k ≡ false) × (frameWrong F s n k ≡ false)
+    → (checkWrong s k ≡ false) × (frameWrong F s n k ≡ false)
 unfolding blockFaults None
 blocks-none F s n i zero h k lo hi = absurd (omega arith)
 blocks-none F s n i (suc left) h k lo hi =
@@ -109,13 +95,24 @@ blocks-none F s n i (suc left) h k lo hi =
     (λ q. rw q (h .0, h .1 .0))
     (λ q. blocks-none F s n (suc i) left (h .1 .1) k (omega arith) (omega arith))
 
-pub none-blocks : (F : Frame) (s : List ℕ) (n i left : ℕ) → ((k : ℕ) → i ≤ k → k < i + left → (checkWrong F s k ≡ false) × (frameWrong F s n k ≡ false))
+pub none-blocks : (F : Frame) (s : List ℕ) (n i left : ℕ) → ((k : ℕ) → i ≤ k → k < i + left → (checkWrong s k ≡ false) × (frameWrong F s n k ≡ false))
     → None (blockFaults F s n i left)
 unfolding blockFaults None
 none-blocks F s n i zero h = tt
 none-blocks F s n i (suc left) h =
     let g = h i (omega arith) (omega arith) in
     (g .0, (g .1, none-blocks F s n (suc i) left (λ k lo hi. h k (omega arith) (omega arith))))
+
+-- block b breaks number 2, and no earlier one breaks any
+pub blocks-check : (F : Frame) (s : List ℕ) (n i left b : ℕ) → i ≤ b → b < i + left
+    → ((k : ℕ) → k < b → (checkWrong s k ≡ false) × (frameWrong F s n k ≡ false)) → checkWrong s b ≡ true
+    → first (blockFaults F s n i left) ≡ Faulty 2 (suc b)
+unfolding blockFaults first
+blocks-check F s n i zero b lo hi h w = absurd (omega arith)
+blocks-check F s n i (suc left) b lo hi h w =
+    eq-cases b i
+    (λ q. rw (← q, w))
+    (λ q. let g = h i (omega arith) in rw (g .0, g .1) (blocks-check F s n (suc i) left b (omega arith) (omega arith) h w))
 
 -- a block that does not break number 3 has an allowed used count
 pub frame-used : (F : Frame) (s : List ℕ) (n i : ℕ) → frameWrong F s n i ≡ false → usedOk F n i (usedIn s i) ≡ true

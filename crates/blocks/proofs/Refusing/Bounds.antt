@@ -11,11 +11,11 @@ use Rattle.blocks.proofs.Format.ByteRows.{Rows}
 use Rattle.blocks.proofs.Format.EntryBytes.{rows-entries, entries-listed, length-entries}
 use Rattle.blocks.proofs.Format.Lawful.{Lawful, plain-lawful}
 use Rattle.blocks.proofs.Format.Sequence.{rowsIn, blockOf, row-in, all-joined, block-listed, fits-in}
-use Rattle.blocks.proofs.Format.WordBytes.{Bytes}
+use Rattle.blocks.proofs.Format.WordBytes.{Bytes, second-small}
 use Rattle.blocks.specs.Encoding.{joined, blockBody, blockFront, blockBytes, blocksFor, encodeRows, encode}
 use Rattle.blocks.specs.Entries.{Bounded, entryFrom, entryBytes, entryAt, entriesOf, zeroEntry}
 use Rattle.blocks.specs.Frame.{Frame, plain, totalIn, entryPos}
-use Rattle.blocks.specs.Words.{wordAt, wordBytes, checkOf}
+use Rattle.blocks.specs.Words.{checkOf, secondOf, wordAt, wordBytes}
 use Rattle.blocks.specs.declared.Entry.{Entry}
 
 -- ---- lists of bytes
@@ -75,11 +75,11 @@ module _ (F : Frame) (L : Lawful F) {rows : List (List ℕ)} (wide : Rows (F .wi
       let zeros : List ℕ = replicate (spare F rs) 0 in
       let room : F .room ≤ 504 = omega (arith, mul-comm (F .width) (F .room), le-mul-of-pos-right (F .room) (L .width-pos), L .cells) in
       bytes-both front (wordBytes (checkOf front 0))
-      (bytes-both body (wordBytes (F .second body 0))
+      (bytes-both body (wordBytes (secondOf body 0))
       (bytes-both (wordBytes (suc i)) (wordBytes (length rs) ++ (joined rs ++ zeros)) (bytes-word (suc i) h)
       (bytes-both (wordBytes (length rs)) (joined rs ++ zeros) (bytes-word (length rs) (omega (arith, fits-in F L wide i)))
       (bytes-both (joined rs) zeros (bytes-joined rs (bytes-in i)) (bytes-zeros (spare F rs)))))
-      (bytes-word (F .second body 0) (L .word body 0)))
+      (bytes-word (secondOf body 0) (second-small body 0)))
       (bytes-word (checkOf front 0) (omega arith))
 
   -- the encoding of rows of bytes is made of bytes, as long as the numbers of the blocks fit a word

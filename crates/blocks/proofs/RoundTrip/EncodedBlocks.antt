@@ -21,20 +21,20 @@ use Rattle.blocks.proofs.RoundTrip.Decoding.{length-rows, blocks-rows, 
 use Rattle.blocks.proofs.RoundTrip.Unbroken.{Unbroken, Passing, check-right, frame-right}
 use Rattle.blocks.specs.Encoding.{blocksFor, encodeRows, encode}
 use Rattle.blocks.specs.Entries.{limitOf}
-use Rattle.blocks.specs.Frame.{Frame, plain, blocksIn, usedIn, zeroAt, usedOk, restZero, secondOk}
+use Rattle.blocks.specs.Frame.{Frame, plain, blocksIn, usedIn, zeroAt, usedOk, restZero}
 use Rattle.blocks.specs.declared.Entry.{Entry}
 use Rattle.blocks.specs.declared.Schema.{Schema}
 
 -- a block whose parts stand at their places passes, if it uses as many entries as it should
 parts-passing : {F : Frame} {s : List ℕ} {n i : ℕ} {rows : List (List ℕ)}
     → Parts F s (512 * i) i rows → usedOk F n i (length rows) ≡ true → Passing F s n i
-unfolding usedIn zeroAt restZero secondOk
+unfolding usedIn zeroAt restZero
 parts-passing {F} {s} {n} {i} {rows} p ok =
     let u : usedIn s i ≡ length rows = word-read (length rows) (p .used) in
     record {
       number = word-read (suc i) (p .number);
       used = rw u ok;
-      second = eq-eqb (word-read (F .second s (512 * i)) (p .second));
+      second = word-read _ (p .second);
       rest =
           rw u (all-of (zeroAt s) (512 * i + 4 + F .width * length rows) (spare F rows)
           (λ k lo hi. eq-eqb (zeros-held (spare F rows) (p .rest) k lo hi)));

@@ -21,7 +21,7 @@ use Rattle.blocks.proofs.Format.WordBytes.{Bytes, word-held}
 use Rattle.blocks.proofs.RoundTrip.Unbroken.{Unbroken, Passing, passing}
 use Rattle.blocks.specs.Encoding.{blocksFor, encodeRows, encode}
 use Rattle.blocks.specs.Entries.{entryBytes, entryAt, entriesOf, limitOf}
-use Rattle.blocks.specs.Frame.{Frame, plain, blocksIn, usedIn, zeroAt, usedOk, restZero, secondOk, totalIn, entryPos}
+use Rattle.blocks.specs.Frame.{Frame, plain, blocksIn, usedIn, zeroAt, usedOk, restZero, totalIn, entryPos}
 use Rattle.blocks.specs.code.Blockwise.{Whole}
 use Rattle.blocks.specs.declared.Schema.{Schema}
 
@@ -40,7 +40,7 @@ rows-wide F s = rows-listed (rowAt F s) (λ n. length-listed (λ k. getD s k 0) 
 module _ (F : Frame) (L : Lawful F) {σ : Schema} {s : List ℕ} (unbroken : Unbroken F σ s) where
   -- each block passes numbers 2 and 3
   pass : (i : ℕ) → i < blocksIn s → Passing F s (blocksIn s) i
-  pass i h = passing L (unbroken .check i h) (unbroken .frame i h)
+  pass i h = passing F (unbroken .check i h) (unbroken .frame i h)
 
   -- there is a block
   some-blocks : 0 < blocksIn s
@@ -104,7 +104,7 @@ module _ (F : Frame) (L : Lawful F) {σ : Schema} {s : List ℕ} (unbroken : Unb
   module _ (bytes : Bytes s) where
     -- the parts of each block stand at their places
     parts-stand : (i : ℕ) → i < blocksIn s → Parts F s (512 * i) i (rowsIn F (rowsOf F s) i)
-    unfolding usedIn zeroAt restZero secondOk
+    unfolding usedIn zeroAt restZero
     parts-stand i h =
         let rows : List (List ℕ) = rowsIn F (rowsOf F s) i in
         let p = pass i h in
@@ -116,7 +116,7 @@ module _ (F : Frame) (L : Lawful F) {σ : Schema} {s : List ℕ} (unbroken : Unb
           rest =
               holds-zeros (spare F rows)
               (λ k lo hi. eqb-eq (all-at (zeroAt s) (512 * i + 4 + F .width * length rows) (spare F rows) (rw u at (p .rest)) k lo hi));
-          second = word-held (512 * i + 508) bytes (eqb-eq (p .second));
+          second = word-held (512 * i + 508) bytes (p .second);
           check = word-held (512 * i + 510) bytes (p .check);
         }
 

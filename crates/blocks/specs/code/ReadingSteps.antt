@@ -16,7 +16,7 @@ use Rattle.blocks.specs.declared.Schema.{Schema}
 
 -- the number that block i of n is refused by, 2 before 3, or 0
 unfoldable pub blockRefusal : List ℕ → ℕ → ℕ → ℕ
-blockRefusal s n i = cond (checkWrong plain s i) 2 (cond (frameWrong plain s n i) 3 0)
+blockRefusal s n i = cond (checkWrong s i) 2 (cond (frameWrong plain s n i) 3 0)
 
 -- the blocks of an input whose length number 1 allows, or 0
 unfoldable pub blocksRead : Schema → List ℕ → ℕ

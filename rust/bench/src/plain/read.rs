@@ -79,8 +79,7 @@ pub fn entry_at(bytes: &[u8], number: usize) -> Entry {
 
 fn check_blocks(blocks: &[Block]) -> Result<(), (u8, usize)> {
     for (index, block) in blocks.iter().enumerate() {
-        let check = word(block, 510);
-        if sum(block).wrapping_sub(check) != check {
+        if !checks_are_right(block) {
             return Err((2, index + 1));
         }
         if !frame_is_right(block, index + 1, blocks.len()) {
@@ -90,12 +89,24 @@ fn check_blocks(blocks: &[Block]) -> Result<(), (u8, usize)> {
     Ok(())
 }
 
-/// The sum of all 256 words of a block, the check among them.
+/// The sums count the checks too, as words 255 and 256, so the first comes twice and both come 256 times.
 #[inline]
-pub fn sum(block: &Block) -> u16 {
-    let words = block.as_chunks::<2>().0.iter();
-    words.fold(0, |sum: u16, &word| {
-        sum.wrapping_add(u16::from_le_bytes(word))
+fn checks_are_right(block: &Block) -> bool {
+    let (second, first) = (word(block, 508), word(block, 510));
+    let (sum, numbered) = sums(block);
+    let twice = first.wrapping_add(first);
+    let both = second.wrapping_add(first).wrapping_mul(256);
+    (sum == twice) & (numbered == both)
+}
+
+/// The sum of all 256 words of a block, the checks among them, and the sum of each times its number, in one pass.
+#[inline]
+pub fn sums(block: &Block) -> (u16, u16) {
+    let words = (1..).zip(block.as_chunks::<2>().0);
+    words.fold((0, 0), |(sum, numbered), (number, &word)| {
+        let word = u16::from_le_bytes(word);
+        let times: u16 = word.wrapping_mul(number);
+        (word.wrapping_add(sum), times.wrapping_add(numbered))
     })
 }
 
@@ -108,7 +119,7 @@ fn frame_is_right(block: &Block, position: usize, blocks: usize) -> bool {
     };
     usize::from(word(block, 0)) == position
         && (fewest..=PER_BLOCK).contains(&used)
-        && block[4 + 8 * used..510].iter().fold(0, |all, &b| all | b) == 0
+        && block[4 + 8 * used..508].iter().fold(0, |all, &b| all | b) == 0
 }
 
 fn check_entries<const N: usize>(

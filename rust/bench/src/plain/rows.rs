@@ -1,7 +1,7 @@
 //! Entries that wait to be written in blocks.
 
 use super::entry::Entry;
-use super::read::sum;
+use super::read::sums;
 use super::BLOCK;
 
 /// The entries of a block.
@@ -56,6 +56,8 @@ fn write_block(block: &mut [u8; BLOCK], number: usize, rows: &[u64]) {
         *cell = row.to_le_bytes();
     }
     block[4 + 8 * rows.len()..].fill(0);
-    let check = sum(block);
-    block[510..].copy_from_slice(&check.to_le_bytes());
+    // The checks are still zero, so they add nothing to the sums.
+    let (sum, second) = sums(block);
+    block[508..510].copy_from_slice(&second.to_le_bytes());
+    block[510..].copy_from_slice(&sum.wrapping_add(second).to_le_bytes());
 }

@@ -234,7 +234,7 @@ fn the_shipped_examples_work() {
     assert_eq!(ran.text(), "5,1 [3,2,1; 4,2,1]\n");
 }
 
-/// Three entries with an edit of their bytes, and the check that is right for it.
+/// Three entries with an edit of their bytes, and the checks that are right for it.
 fn sealed(edit: impl Fn(&mut Vec<u8>)) -> Vec<u8> {
     let mut bytes = blocks("5,1 [3,2,1; 4,2,1]");
     edit(&mut bytes);
@@ -252,8 +252,14 @@ fn are_refused(folder: &Folder, bytes: &[u8], words: &str) {
 #[test]
 fn check_tells_refusals_of_blocks_in_words() {
     let folder = Folder::new("refused-blocks");
-    let mut unsealed = blocks("1,7");
-    unsealed[510] ^= 1;
+    let mut wrong_first = blocks("1,7");
+    wrong_first[510] ^= 1;
+    let mut wrong_second = blocks("1,7");
+    wrong_second[508] ^= 1;
+    let both_wrong = wrong_second.clone();
+    differential::damage::seal_first(&mut wrong_second);
+    let mut exchanged = blocks("5,1 [3,2,1; 4,2,1]");
+    differential::exchange::exchange(&mut exchanged, 2, 3);
     let long: Vec<u8> = blocks(&"2,7;".repeat(1009));
     for (bytes, words) in [
         (vec![], "refused 1: the input is empty: it has 0 bytes"),
@@ -261,10 +267,13 @@ fn check_tells_refusals_of_blocks_in_words() {
         ([blocks("1,7"), vec![0]].concat(), "513 bytes, which is no multiple of 512: 1 whole block, and 1 byte more"),
         (long, "refused 1: the input has 17 blocks, and a description has at most 16"),
         (b"\xff\xfe1\0,\x007\0".to_vec(), "looks like a text in UTF-16"),
-        (unsealed, "refused 2: the check of block 1 is wrong: it says 11, and the words of the block add up to 10"),
+        (wrong_first, "refused 2: the first check of block 1 is wrong: it says 50, and the words before it add up to 51\n"),
+        (wrong_second, "refused 2: the second check of block 1 is wrong: it says 40, and the words before it, each times its number, add up to 41\n"),
+        (both_wrong, "refused 2: the first check of block 1 is wrong: it says 51, and the words before it add up to 50; the second check of block 1 is wrong: it says 40, "),
+        (exchanged, "refused 2: the second check of block 1 is wrong: it says 180, and the words before it, each times its number, add up to 176\n"),
         (sealed(|b| b[0] = 2), "refused 3: block 1: its number says 2"),
         (sealed(|b| b[2] = 64), "refused 3: block 1: it says that 64 entries are used, and a block uses 0 to 63"),
-        (sealed(|b| b[508] = 9), "refused 3: block 1: byte 508 is due to be zero and is 9"),
+        (sealed(|b| b[507] = 9), "refused 3: block 1: byte 507 is due to be zero and is 9"),
         (sealed(|b| b[30] = 1), "refused 3: block 1: byte 30 is due to be zero and is 1"),
     ] {
         are_refused(&folder, &bytes, words);
@@ -345,7 +354,7 @@ d: refused 5: entry 3: its owner is entry 2 of kind 3, and an owner is of kind 5
     let ran = folder.put("d", &bytes).gx(&["check", "d"]);
     assert!(
         ran.text()
-            .contains("> block 2 of 2 (bytes 512 to 1023): number 7, used 1, check 11, sum 16\n"),
+            .contains("> block 2 of 2 (bytes 512 to 1023): number 7, used 1, first check 53, sum 58, second check 42, sum 47\n"),
         "{}",
         ran.text()
     );

@@ -97,10 +97,9 @@ fn nothing_fits() {
             entries: 0
         })
     );
-    // "specimen of 0 entries in one block": byte 0 = 1, byte 510 = 1.
+    // "specimen of 0 entries in one block": bytes 0 and 508 = 1, byte 510 = 2.
     let mut empty = vec![0; 512];
-    empty[0] = 1;
-    empty[510] = 1;
+    (empty[0], empty[508], empty[510]) = (1, 1, 2);
     assert_eq!(out[..512], empty);
     assert!(out[512..].iter().all(|&byte| byte == FILL));
     assert_eq!(fit(&out[..512], &blocks("")), Ok(true));

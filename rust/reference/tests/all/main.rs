@@ -3,6 +3,7 @@
 mod chance;
 mod comparing;
 mod desk;
+mod exchange;
 mod fitting;
 mod framing;
 mod normal;

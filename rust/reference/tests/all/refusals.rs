@@ -14,16 +14,33 @@ const LARGE: Size = Size {
     number: 4,
 };
 
-/// Writes the right check into each block.
-fn with_checks(mut bytes: Vec<u8>) -> Vec<u8> {
+/// The word of a block with this number, counted from 1.
+fn word(block: &[u8], number: usize) -> usize {
+    usize::from(block[2 * number - 2]) + 256 * usize::from(block[2 * number - 1])
+}
+
+/// Writes the low two bytes of a number.
+fn put(block: &mut [u8], at: usize, number: usize) {
+    block[at] = (number % 256) as u8;
+    block[at + 1] = (number / 256 % 256) as u8;
+}
+
+/// Writes the right first check into each block, whatever its second is.
+fn with_first_check(mut bytes: Vec<u8>) -> Vec<u8> {
     for block in bytes.chunks_exact_mut(512) {
-        let sum: usize = (0..255)
-            .map(|index| usize::from(block[2 * index]) + 256 * usize::from(block[2 * index + 1]))
-            .sum();
-        block[510] = (sum % 256) as u8;
-        block[511] = (sum / 256 % 256) as u8;
+        let sum = (1..=255).map(|number| word(block, number)).sum();
+        put(block, 510, sum);
     }
     bytes
+}
+
+/// Writes the right checks into each block.
+fn with_checks(mut bytes: Vec<u8>) -> Vec<u8> {
+    for block in bytes.chunks_exact_mut(512) {
+        let sum = (1..=254).map(|number| number * word(block, number)).sum();
+        put(block, 508, sum);
+    }
+    with_first_check(bytes)
 }
 
 /// The refusal of a description by every call that takes one, in each
@@ -116,6 +133,76 @@ fn number_2_at_each_block_and_byte() {
     }
 }
 
+/// Of all words in bytes 508-509 one passes, and the others give 2, none 3.
+#[test]
+fn number_2_second_check() {
+    for (entries, block) in [(0, 0), (5, 0), (63 * 2 + 5, 1), (63 * 2 + 5, 2)] {
+        let right = encode(&has(entries));
+        let (at, place) = (512 * block + 508, block as u32 + 1);
+        let stored = word(&right[512 * block..], 255);
+        for other in 0..=65_535 {
+            let mut bytes = right.clone();
+            put(&mut bytes, at, other);
+            let bytes = with_first_check(bytes);
+            let answer = if other == stored {
+                Ok(entries)
+            } else {
+                let (number, input) = (2, 1);
+                Err(Refusal {
+                    number,
+                    input,
+                    place,
+                })
+            };
+            assert_eq!(read_description(&bytes), answer);
+            assert_eq!(read_specimen(&bytes), answer);
+        }
+        let mut bytes = right;
+        put(&mut bytes, at, stored + 1);
+        let bytes = with_first_check(bytes);
+        refused(&bytes, 2, place);
+        specimen_refused(&bytes, 2, place);
+    }
+}
+
+/// Zero in bytes 508-509, which was right before the second check.
+#[test]
+fn number_2_blocks_without_a_second_check() {
+    for entries in [0, 1, 63, 64] {
+        let mut bytes = encode(&has(entries));
+        for block in bytes.chunks_exact_mut(512) {
+            put(block, 508, 0);
+        }
+        refused(&with_first_check(bytes), 2, 1);
+    }
+}
+
+/// Each way in which the frame is wrong, with each check right or wrong.
+#[test]
+fn number_2_before_3_for_both_checks() {
+    let breaks: [fn(&mut [u8]); 5] = [
+        |block| block[0] += 1,
+        |block| block[1] = 1,
+        |block| put(block, 2, 0),
+        |block| put(block, 2, 64),
+        |block| block[507] = 1,
+    ];
+    for breaks in breaks {
+        let mut bytes = encode(&has(63 + 5));
+        breaks(&mut bytes[512..]);
+        refused(&bytes, 2, 2);
+        refused(&with_first_check(bytes.clone()), 2, 2);
+        let mut bytes = with_checks(bytes);
+        refused(&bytes, 3, 2);
+        specimen_refused(&bytes, 3, 2);
+        bytes[512 + 510] ^= 1;
+        refused(&bytes, 2, 2);
+        bytes[512 + 508] ^= 1;
+        refused(&bytes, 2, 2);
+        refused(&with_first_check(bytes), 2, 2);
+    }
+}
+
 #[test]
 fn number_2_before_3_in_one_block_but_not_over_blocks() {
     let mut bytes = encode(&has(63 * 3));
@@ -181,8 +268,7 @@ fn number_3_used_count() {
 #[test]
 fn number_3_bytes_due_to_be_zero() {
     let bytes = encode(&has(63 + 5));
-    let free = (508..510).chain(512 + 4 + 40..512 + 510);
-    for at in free {
+    for at in 512 + 4 + 40..512 + 508 {
         let mut wrong = bytes.clone();
         wrong[at] = 0x80;
         let wrong = with_checks(wrong);
@@ -352,8 +438,9 @@ fn numbers_4_5_6_in_one_entry_and_over_entries() {
     // A frame that is wrong later comes before an entry that is wrong.
     let mut bytes = encode(&[vec![entry(9, 0, 0, 0)], has(100)].concat());
     refused(&bytes, 4, 1);
-    bytes[512 + 508] = 1;
+    bytes[512 + 507] = 1;
     refused(&bytes, 2, 2);
+    refused(&with_first_check(bytes.clone()), 2, 2);
     refused(&with_checks(bytes), 3, 2);
 }
 
@@ -445,6 +532,9 @@ fn spoilt(chance: &mut Chance, round: usize) -> Vec<u8> {
     }
     if chance.once_in(5) {
         return bytes;
+    }
+    if chance.once_in(5) {
+        return with_first_check(bytes);
     }
     with_checks(bytes)
 }

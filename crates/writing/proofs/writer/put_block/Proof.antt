@@ -13,7 +13,7 @@ returns : tie.Need-returns
 returns c =
     let b = c .before .before in
     let d = b .before .before .before .before .before .before in
-    let e = d .before .before .before .before in
+    let e = d .before .before .before .before .before .before in
     let f = e .before .before .before .before in
     let g = f .before .before .before .before in
     let h = g .before .before .before .before in
@@ -21,8 +21,8 @@ returns c =
     let rows = take (a .args .used) (drop (63 * a .args .i) (a .args .rows .now)) in
     block-done (a .args .i) (a .args .used) (map rowBytes rows) _
     (simp (length-map, length-take, length-drop) (omega arith)) (rows-packed rows) (omega arith) (omega arith)
-    (h .put-word .ensures) (g .put-word2 .ensures) (f .put-rows .ensures) (e .put-zeros .ensures) (d .put-word3 .ensures)
-    (b .before .before .block-check .ensures) (b .put-word4 .ensures)
+    (h .put-word .ensures) (g .put-word2 .ensures) (f .put-rows .ensures) (e .put-zeros .ensures) (d .before .before .block-second .ensures)
+    (d .put-word3 .ensures) (b .before .before .block-check .ensures) (b .put-word4 .ensures)
 
 pub put-block-spec : {M : Type 1} → statement M
 put-block-spec =
@@ -31,4 +31,4 @@ put-block-spec =
     (λ c. search needs) (λ c κs. search needs) (λ c. search needs) (λ c. search needs) (λ c κs. search needs)
     (λ c. search needs) (λ c. search needs) (λ c. search needs) (λ c. search needs) (λ c. search needs)
     (λ c κs. search needs) (λ c. search needs) (λ c κs. search needs) (λ c. search needs) (λ c κs. search needs)
-    (λ c. search needs) (λ c κs. search needs) (λ c. search needs) returns)
+    (λ c. search needs) (λ c κs. search needs) (λ c. search needs) (λ c κs. search needs) (λ c. search needs) returns)
