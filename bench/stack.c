@@ -1,6 +1,7 @@
 /* The stack that each call of the library takes: the call runs on a stack filled with a pattern, and what is no longer the
  * pattern afterwards was used. Each call gets the inputs that lead furthest down: all entries out of order, so that the sort
- * halves to the end, and chains of owners of the greatest depth. */
+ * halves to the end, and chains of owners of the greatest depth, as many as a specimen holds, by a link that leads to one item
+ * only. */
 #define _GNU_SOURCE
 #include <stdio.h>
 #include <string.h>
@@ -8,9 +9,9 @@
 
 #include "goltximen.h"
 
-enum { STACK = 1 << 18, PATTERN = 0xa5, BLOCKS = 16, ENTRIES = 63 * BLOCKS, CHAIN = 33 };
+enum { STACK = 1 << 18, PATTERN = 0xa5, BLOCKS = 16, ENTRIES = 63 * BLOCKS, CHAIN = 33, SINGLE = 32768 };
 
-static uint8_t stack[STACK], wide[512 * BLOCKS], chain[512], groups[512], out[1024 * BLOCKS];
+static uint8_t stack[STACK], wide[512 * BLOCKS], chain[512], groups[1024 * BLOCKS], out[1024 * BLOCKS];
 static ucontext_t here, there;
 static uint64_t answer;
 
@@ -47,16 +48,18 @@ static void close_blocks(uint8_t *s, unsigned entries) {
 static void make_inputs(void) {
     for (unsigned n = 1; n <= ENTRIES; n++)
         put_entry(wide, n, 3, 0, n * 397 % 1009, 1);
-    for (unsigned n = 1; n <= CHAIN; n++) {
-        put_entry(chain, n, 5, n - 1, 1, 0);
-        put_entry(groups, n, 7, n - 1, 1, 0);
+    for (unsigned n = 1; n <= CHAIN; n++)
+        put_entry(chain, n, 5, n - 1, n == 1 ? 1 : SINGLE, 0);
+    for (unsigned n = 1; n <= 2 * ENTRIES; n++) {
+        unsigned first = n % CHAIN == 1;
+        put_entry(groups, n, 7, first ? 0 : n - 1, first ? 1 : SINGLE, 0);
     }
     put_entry(chain, CHAIN + 1, 2, 0, 7, 0);
     put_entry(chain, CHAIN + 2, 2, CHAIN - 1, 7, 0);
     put_entry(chain, CHAIN + 3, 4, CHAIN - 1, 1, 9);
     close_blocks(wide, ENTRIES);
     close_blocks(chain, CHAIN + 3);
-    close_blocks(groups, CHAIN);
+    close_blocks(groups, 2 * ENTRIES);
 }
 
 static void read_description(void) { answer = gx_read_description(wide, sizeof wide); }

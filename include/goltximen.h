@@ -17,6 +17,9 @@
  * Descriptions have 1 to 16 blocks of 512 bytes, 63 entries to a block, specimens 1 to 32; k entries take GX_BYTES(k) bytes.
  * docs/FORMAT.md says what stands in a block, and examples/build.c makes one.
  *
+ * Links from 32,768 up lead to one item only: a finite record keeps the rule that no item has two items by one of them. What a
+ * yes, a no and a normal form promise is about such records.
+ *
  * The answer is one number of 64 bits, answer + 256 * number + 65,536 * first + 4,294,967,296 * second:
  *
  *     case            answer       number              first                 second
@@ -28,7 +31,7 @@
  *     a count         1            0                   0                     the count
  *
  * The refusals, of which the first that applies is answered, input 1 before input 2 and both before 7; in one input 1, then
- * the lowest block that breaks 2 or 3, 2 before 3, then the lowest entry that breaks 4, 5 or 6, in that order:
+ * the lowest block that breaks 2 or 3, 2 before 3, then the lowest entry that breaks 4, 5, 6 or 9, in that order:
  *
  *     number   when                                                                              place
  *     1        an input's length is 0, no multiple of 512, or over the limit                     0
@@ -41,6 +44,7 @@
  *              entry of kind 5 (description) or 7 (specimen)                                     entry
  *     6        an entry's depth is over 32                                                       entry
  *     7        the output is too short                                                           0
+ *     9        a specimen's group brings its owner a second item by a link from 32,768 up        entry
  *
  * Blocks and entries count from 1. The input is 1 or 2, in the order of the arguments; it is 0 for number 7.
  *
@@ -88,7 +92,7 @@ extern "C" {
 /* Reads the description d: a count, its number of entries; or refused. */
 uint64_t gx_read_description(const uint8_t *d, size_t d_len);
 
-/* Reads the specimen s: a count, its number of entries; or refused. */
+/* Reads the specimen s: a count, its number of entries; or refused. Only specimens are refused with 9, here and in gx_fit. */
 uint64_t gx_read_specimen(const uint8_t *s, size_t s_len);
 
 /* Whether the top item of the specimen s, input 1, fits the description d, input 2: yes or no; or refused. */
@@ -96,15 +100,17 @@ uint64_t gx_fit(const uint8_t *s, size_t s_len, const uint8_t *d, size_t d_len);
 
 /*
  * Writes the normal form of the description d in blocks from the start of out: a count, the number of entries written; or
- * refused. Later bytes of out stay. Refused with 7 where out is shorter than d. Where refused, out is unchanged.
+ * refused. In every finite record that keeps the rule that links from 32,768 up never lead to two items, the same items fit
+ * both. Later bytes of out stay. Refused with 7 where out is shorter than d. Where refused, out is unchanged.
  */
 uint64_t gx_normal(const uint8_t *d, size_t d_len, uint8_t *out, size_t out_len);
 
 /*
- * Whether in every finite record each item that fits the description c, input 1, fits the description d, input 2: contained
- * or not contained; or refused. Not contained comes with the number of the first entry of d that fails, and with a specimen,
- * whose top item fits c and not d: its blocks are written from the start of out, and later bytes of out stay. Refused with 7
- * where out is shorter than c and d together. Where contained or refused, out is unchanged.
+ * Whether in every finite record that keeps the rule that links from 32,768 up never lead to two items each item that fits the
+ * description c, input 1, fits the description d, input 2: contained or not contained; or refused. Not contained comes with
+ * the number of the first entry of d that fails, and with a specimen, which keeps the rule and whose top item fits c and not
+ * d: its blocks are written from the start of out, and later bytes of out stay. Refused with 7 where out is shorter than c and
+ * d together. Where contained or refused, out is unchanged.
  */
 uint64_t gx_compare(const uint8_t *c, size_t c_len, const uint8_t *d, size_t d_len, uint8_t *out, size_t out_len);
 

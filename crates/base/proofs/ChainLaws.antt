@@ -8,7 +8,7 @@ use mathlib.Core.Logic.{_≢_}
 use mathlib.Core.Path.{_∙_, _≡_, ap, refl, sym}
 use native.Mathlib.Numerals.{sub-one}
 use native.Mathlib.Omega.{arith}
-use Rattle.base.proofs.Tests.{bool-cases, eq-cases, eq-eqb, eqb-eq, tests}
+use Rattle.base.proofs.Tests.{bool-cases, eq-cases, eq-eqb, eqb-eq, ne-eqb, tests}
 use Rattle.base.specs.Chain.{Chains, OnChain, lastWhere}
 
 -- ---- the last number of a bucket
@@ -33,6 +33,12 @@ module _ (c : ℕ → ℕ) where
       bool-cases (eqb (c (suc n)) b)
       (λ q. let z : suc n ≡ 0 = rw (lastWhere, q) at e in absurd (omega arith))
       (λ q. eq-cases k (suc n) (λ z. rw z q) (λ z. last-none b n (rw (lastWhere, q) at e) k lo (omega arith)))
+
+  -- where no number is, there is none
+  last-absent : (b n : ℕ) → ((k : ℕ) → 1 ≤ k → k ≤ n → c k ≢ b) → lastWhere c b n ≡ 0
+  unfolding lastWhere
+  last-absent b zero h = refl
+  last-absent b (suc n) h = rw (ne-eqb (h (suc n) (omega arith) (omega arith))) (last-absent b n (λ k lo hi. h k lo (omega arith)))
 
   -- a number of the bucket is the last down from itself
   pub last-here : (b k : ℕ) → k ≢ 0 → c k ≡ b → lastWhere c b k ≡ k
@@ -102,6 +108,17 @@ chains-same {c} {c′} {next} {head} {most} {n} same C = record {
   last = λ b h. C .last b h ∙ sym (last-same c c′ b n (λ k lo hi. same k));
   previous = λ k lo hi. C .previous k lo hi ∙ rw (same k) (sym (last-same c c′ (c k) (k - 1) (λ j a d. same j)));
 }
+
+-- a new number that no chain has: its bucket is past the table, and its own
+pub chains-skip : {c next head : ℕ → ℕ} {most n m : ℕ} → Chains c next head most n → m ≡ suc n → most ≤ c m
+    → ((k : ℕ) → 1 ≤ k → k ≤ n → c k ≢ c m) → next m ≡ 0 → Chains c next head most m
+chains-skip {c} {next} {head} {most} {n} {m} C is past own none =
+    rw is (record {
+      last = λ b h. let other : eqb (c (suc n)) b ≡ false = omega (tests, ap c is) in C .last b h ∙ sym (last-other c b n other);
+      previous = λ k lo hi. eq-cases k (suc n)
+          (λ z. rw (z, sub-one) ((rw is at none) ∙ sym (last-absent c (c (suc n)) n (λ j a d. rw is at (own j a d)))))
+          (λ z. C .previous k lo (omega arith));
+    })
 
 -- a new number put in front of its chain
 pub chains-more : {c c′ next next′ head head′ : ℕ → ℕ} {most n m b : ℕ} → Chains c next head most n → m ≡ suc n

@@ -20,6 +20,8 @@ pub mod Sums
 pub mod Exchanges
 -- Sums modulo 65,536: which multiples of a difference leave them the same.
 pub mod Multiples
+-- The first number that fails a test: the least one, and 0 exactly where none fails.
+pub mod SearchLaws
 -- Laws of stores in a row.
 pub mod StoresLaws
 -- Sorting a list, and why it does not matter how.

@@ -18,6 +18,12 @@ unfolding sum
 sum-split f m zero = rw add-zero (omega arith)
 sum-split f m (suc n) = rw add-suc (omega (arith, sum-split f m n))
 
+-- the first term, and the rest
+pub sum-front : (f : ℕ → ℕ) (n : ℕ) → sum f (suc n) ≡ f 0 + sum (λ k. f (suc k)) n
+unfolding sum
+sum-front f zero = omega arith
+sum-front f (suc n) = omega (arith, sum-front f n)
+
 -- terms of 0 add nothing
 pub sum-past : (f : ℕ → ℕ) (m n : ℕ) → ((k : ℕ) → m ≤ k → f k ≡ 0) → sum f (m + n) ≡ sum f m
 unfolding sum

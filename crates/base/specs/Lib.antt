@@ -10,3 +10,5 @@ pub mod Search
 pub mod Ascending
 -- Numbers from 1 on, in buckets: the last of a bucket, and the chain on which each number points to the one before it in its bucket.
 pub mod Chain
+-- Which links lead to one item only.
+pub mod Links

@@ -1,5 +1,5 @@
 // What every layer cites: general definitions and lemmas, in specs/ and proofs/ (tests on numbers, ranges, lists, searches, chains, stores),
-// and three small functions that several crates need. No word of the product.
+// and three small functions that several crates need. Of the product they know which links lead to one item only, and no more.
 ghost use mathlib.Core.Path.{_≡_};
 ghost use Prim.Native.Nat.{_<_, max};
 

@@ -10,8 +10,20 @@ pub mod FirstFault
 pub mod BlockLaws
 -- Owners, depths, and the table of levels that stands in for them.
 pub mod LevelLaws
--- Lists of entries that break none of numbers 4 to 6 of the table of refusals.
+-- Lists of lines of the table of refusals.
+pub mod RowLaws
+-- Lists of entries that break none of numbers 4 to 6 of the table of refusals, nor a further line of their schema.
 pub mod Legal
+-- Groups by links that lead to one item only: which entries break number 9.
+pub mod SingleLaws
+-- The table of the groups met, by which number 9 is looked for.
+pub mod SingleTable
+-- The search for number 9 begins at the first group by a link that leads to one item only.
+pub mod SingleSearch
+-- Number 9 looked for apart from numbers 4 to 6.
+pub mod SingleFirst
+-- Number 9 by examples.
+pub mod SingleExamples
 -- An encoding is made of bytes, and the fields of entries read from bytes fit theirs.
 pub mod Bounds
 -- The ways that reading goes, for one input and for two.

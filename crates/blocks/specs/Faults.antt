@@ -8,8 +8,10 @@ use lib.Dec.{eqb, ltb}
 use Rattle.blocks.specs.Frame.{Frame, plain, blocksIn, checkWrong, frameWrong}
 use Rattle.blocks.specs.Entries.{limitOf, formOk, nth, entriesOf}
 use Rattle.blocks.specs.Owners.{ownerOk, depthOk}
+use Rattle.blocks.specs.Single.{singleOk}
 use Rattle.blocks.specs.declared.Entry.{Entry}
 use Rattle.blocks.specs.declared.Schema.{Schema}
+use Rattle.blocks.specs.declared.Schema.the-variants.{Description, Specimen}
 use Rattle.blocks.specs.declared.Finding.{Finding}
 use Rattle.blocks.specs.declared.Finding.the-variants.{Clean, Faulty}
 
@@ -32,11 +34,32 @@ blockFaults F s n i zero = []
 blockFaults F s n i (suc left) =
     fault (checkWrong s i) 2 (suc i) ∷ fault (frameWrong F s n i) 3 (suc i) ∷ blockFaults F s n (suc i) left
 
--- numbers 4, 5 and 6 of `left` entries from entry n on: "the lowest entry that breaks 4, 5 or 6, in that order"
+-- the lines of entry n by the entries, one for each number
+abbrev pub formRow : Schema → List Entry → ℕ → Fault
+formRow σ es n = fault (not (formOk σ (nth es n))) 4 n
+
+abbrev pub ownerRow : Schema → List Entry → ℕ → Fault
+ownerRow σ es n = fault (not (ownerOk σ es n)) 5 n
+
+abbrev pub depthRow : List Entry → ℕ → Fault
+depthRow es n = fault (not (depthOk es n)) 6 n
+
+abbrev pub singleRow : List Entry → ℕ → Fault
+singleRow es n = fault (not (singleOk es n)) 9 n
+
+-- the lines that an entry of each schema may break, in their order: "4, 5 or 6, in that order", and 9 "after 6 at the same entry"
+abbrev pub entryRows : Schema → List Entry → ℕ → List Fault
+entryRows Description es n = formRow Description es n ∷ ownerRow Description es n ∷ depthRow es n ∷ []
+entryRows Specimen es n = formRow Specimen es n ∷ ownerRow Specimen es n ∷ depthRow es n ∷ singleRow es n ∷ []
+
+-- the lines of `left` entries from entry n on, by the lines of each
+unfoldable pub rowsFrom : (ℕ → List Fault) → ℕ → ℕ → List Fault
+rowsFrom rows n zero = []
+rowsFrom rows n (suc left) = rows n ++ rowsFrom rows (suc n) left
+
+-- "the lowest entry that breaks 4, 5 or 6, in that order", or a further line of the schema
 unfoldable pub entryFaults : Schema → List Entry → ℕ → ℕ → List Fault
-entryFaults σ es n zero = []
-entryFaults σ es n (suc left) =
-    fault (not (formOk σ (nth es n))) 4 n ∷ fault (not (ownerOk σ es n)) 5 n ∷ fault (not (depthOk es n)) 6 n ∷ entryFaults σ es (suc n) left
+entryFaults σ es n left = rowsFrom (entryRows σ es) n left
 
 -- "In one input: 1; then the lowest block .., then the lowest entry .."
 unfoldable pub faults : Schema → List ℕ → List Fault

@@ -6,6 +6,8 @@ pub mod Frame
 pub mod Entries
 -- Owners and depths of the entries of a list.
 pub mod Owners
+-- Number 9 of the table of refusals: groups by a link that leads to one item only.
+pub mod Single
 -- The table of refusals: one predicate for each number, listed in the order in which they are looked for.
 pub mod Faults
 -- What reading an input answers.

@@ -8,7 +8,9 @@ use mathlib.Core.Path.{_≡_}
 use Rattle.blocks.specs.Entries.{formOk, nth}
 use Rattle.blocks.specs.Faults.{Fault, fault}
 use Rattle.blocks.specs.Owners.{depthOk, ownerOk}
+use Rattle.blocks.specs.Single.{singleOk}
 use Rattle.blocks.specs.declared.Entry.{Entry}
+use Rattle.blocks.specs.declared.Schema.the-variants.{Description, Specimen}
 use Rattle.blocks.specs.declared.Schema.{Schema}
 
 -- none of the faults applies
@@ -28,3 +30,13 @@ pub record Legal (σ : Schema) (es : List Entry) : Type 0 where
   pub form : (n : ℕ) → 1 ≤ n → n ≤ length es → formOk σ (nth es n) ≡ true
   pub owner : (n : ℕ) → 1 ≤ n → n ≤ length es → ownerOk σ es n ≡ true
   pub depth : (n : ℕ) → 1 ≤ n → n ≤ length es → depthOk es n ≡ true
+
+-- no group brings its owner above one item by a link that leads to one item only. Apart from `Legal`: what a record of a legal list
+-- keeps is a reason for this.
+pub record Single (es : List Entry) : Type 0 where
+  pub each : (n : ℕ) → 1 ≤ n → n ≤ length es → singleOk es n ≡ true
+
+-- what the schema's lines after 4, 5 and 6 ask
+abbrev pub Further : Schema → List Entry → Type 0
+Further Description es = Unit {0}
+Further Specimen es = Single es

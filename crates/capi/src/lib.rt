@@ -7,6 +7,7 @@ ghost use Rattle.blocks.specs.Reading.{readingOf};
 ghost use Rattle.blocks.specs.declared.Schema.{Schema};
 ghost use Rattle.packing.specs.Packing.{packComparison, packFit, packNormal, packReading};
 ghost use Rattle.compare.specs.Answer.{compareOf, outputOf};
+ghost use Rattle.logic.specs.Background.{standing};
 ghost use Rattle.fit.specs.Answer.{fitOf};
 ghost use Rattle.normal.specs.Answer.{normaliseOf, normalisedOf};
 use packing::pack_comparison;
@@ -41,7 +42,7 @@ pub extern "C" fn gx_fit(s: &[u8], d: &[u8]) -> u64
 // Writes the normal form of a description from the start of the output: its number of entries, or the refusal.
 #[no_mangle]
 pub extern "C" fn gx_normal(d: &[u8], out: &mut [u8]) -> u64
-    ensures { λ r. ⌜ (r ≡ packNormal (normaliseOf (now (d .entry)) (now (out .entry)))) × (now (out .exit) ≡ normalisedOf (now (d .entry)) (now (out .entry))) ⌝ }
+    ensures { λ r. ⌜ (r ≡ packNormal (normaliseOf standing (now (d .entry)) (now (out .entry)))) × (now (out .exit) ≡ normalisedOf standing (now (d .entry)) (now (out .entry))) ⌝ }
 {
     pack_normal(normal::normalise(d, out))
 }
@@ -50,7 +51,7 @@ pub extern "C" fn gx_normal(d: &[u8], out: &mut [u8]) -> u64
 // refusal.
 #[no_mangle]
 pub extern "C" fn gx_compare(c: &[u8], d: &[u8], out: &mut [u8]) -> u64
-    ensures { λ r. ⌜ (r ≡ packComparison (compareOf (now (c .entry)) (now (d .entry)) (now (out .entry)))) × (now (out .exit) ≡ outputOf (now (c .entry)) (now (d .entry)) (now (out .entry))) ⌝ }
+    ensures { λ r. ⌜ (r ≡ packComparison (compareOf standing (now (c .entry)) (now (d .entry)) (now (out .entry)))) × (now (out .exit) ≡ outputOf standing (now (c .entry)) (now (d .entry)) (now (out .entry))) ⌝ }
 {
     pack_comparison(compare::compare(c, d, out))
 }

@@ -19,36 +19,37 @@ use Rattle.blocks.specs.declared.Reading.the-variants as reading
 use Rattle.blocks.specs.declared.Schema.the-variants.{Description}
 use Rattle.compare.specs.Answer.{compareOf, returned, verdict}
 use Rattle.compare.specs.declared.Comparison.the-variants.{Contained, NotContained, Refused}
+use Rattle.logic.specs.Background.{Background}
 use Rattle.meaning.specs.Failing.{failing, specimenOf}
 use Rattle.compare.specs.Promise.{Comparable}
 
 -- ---- the ways to an answer
 
-module _ (c d out : List ℕ) where
+module _ (b : Background) (c d out : List ℕ) where
   -- "input 1 in full"
-  pub first-refused : {k i p : ℕ} → readingOf Description 1 c ≡ reading.Refused k i p → compareOf c d out ≡ Refused k i p
+  pub first-refused : {k i p : ℕ} → readingOf Description 1 c ≡ reading.Refused k i p → compareOf b c d out ≡ Refused k i p
   unfolding compareOf
   first-refused e = rw (compareOf, e)
 
   -- "input 2 in full"
   pub second-refused : {n k i p : ℕ} → readingOf Description 1 c ≡ reading.Accepted n → readingOf Description 2 d ≡ reading.Refused k i p
-      → compareOf c d out ≡ Refused k i p
+      → compareOf b c d out ≡ Refused k i p
   unfolding compareOf
   second-refused e f = rw (compareOf, e, f)
 
   -- "then 7"
   pub too-short : {n m : ℕ} → readingOf Description 1 c ≡ reading.Accepted n → readingOf Description 2 d ≡ reading.Accepted m
-      → length out < length c + length d → compareOf c d out ≡ Refused 7 0 0
+      → length out < length c + length d → compareOf b c d out ≡ Refused 7 0 0
   unfolding compareOf
   too-short e f h = rw (compareOf, e, f, lt-ltb h)
 
   -- the two lists of entries are compared
-  pub compared : Comparable c d out → compareOf c d out ≡ verdict (entriesOf c) (entriesOf d)
+  pub compared : Comparable c d out → compareOf b c d out ≡ verdict b (entriesOf c) (entriesOf d)
   unfolding compareOf
   compared r = rw (compareOf, r .first-read, r .second-read, ge-ltb (r .room))
 
   -- refused, or compared
-  pub compare-cases : {X : Type 0} → ((k i p : ℕ) → compareOf c d out ≡ Refused k i p → X) → (Comparable c d out → X) → X
+  pub compare-cases : {X : Type 0} → ((k i p : ℕ) → compareOf b c d out ≡ Refused k i p → X) → (Comparable c d out → X) → X
   compare-cases f g =
       readings-cases (readingOf Description 1 c) (readingOf Description 2 d)
       (λ k i p e. f k i p (first-refused e))
@@ -58,29 +59,29 @@ module _ (c d out : List ℕ) where
       (λ h. g (record { first = n; second = m; first-read = e; second-read = e′; room = h })))
 
   -- what is contained or not contained was compared
-  pub contained-ready : compareOf c d out ≡ Contained → Comparable c d out
+  pub contained-ready : compareOf b c d out ≡ Contained → Comparable c d out
   contained-ready e = compare-cases (λ k i p q. let z : _≡_ {A = ℕ} 0 1 = cc in absurd (omega arith)) (λ r. r)
 
-  pub not-contained-ready : {j k : ℕ} → compareOf c d out ≡ NotContained j k → Comparable c d out
+  pub not-contained-ready : {j k : ℕ} → compareOf b c d out ≡ NotContained j k → Comparable c d out
   not-contained-ready e = compare-cases (λ k i p q. let z : _≡_ {A = ℕ} 0 1 = cc in absurd (omega arith)) (λ r. r)
 
 -- ---- the paper's numbers for the refusals
 
-module _ (c d out : List ℕ) where
+module _ (b : Background) (c d out : List ℕ) where
   -- "In one input: .." of input 1
   pub returned-first : {k p : ℕ} → FirstOf (faults Description c) k p
-      → returned (compareOf c d out) ≡ record { contained = none; entry = 0; entries = 0; number = k; input = 1; place = p }
-  returned-first f = ap returned (first-refused c d out (refused-by-first Description 1 c f))
+      → returned (compareOf b c d out) ≡ record { contained = none; entry = 0; entries = 0; number = k; input = 1; place = p }
+  returned-first f = ap returned (first-refused b c d out (refused-by-first Description 1 c f))
 
   -- of input 2, where input 1 is accepted
   pub returned-second : {k p : ℕ} → None (faults Description c) → FirstOf (faults Description d) k p
-      → returned (compareOf c d out) ≡ record { contained = none; entry = 0; entries = 0; number = k; input = 2; place = p }
-  returned-second n f = ap returned (second-refused c d out (accepted-by-none Description 1 c n) (refused-by-first Description 2 d f))
+      → returned (compareOf b c d out) ≡ record { contained = none; entry = 0; entries = 0; number = k; input = 2; place = p }
+  returned-second n f = ap returned (second-refused b c d out (accepted-by-none Description 1 c n) (refused-by-first Description 2 d f))
 
   -- "then 7", "0 for number 7"
   pub returned-short : None (faults Description c) → None (faults Description d) → length out < length c + length d
-      → returned (compareOf c d out) ≡ record { contained = none; entry = 0; entries = 0; number = 7; input = 0; place = 0 }
-  returned-short n m h = ap returned (too-short c d out (accepted-by-none Description 1 c n) (accepted-by-none Description 2 d m) h)
+      → returned (compareOf b c d out) ≡ record { contained = none; entry = 0; entries = 0; number = 7; input = 0; place = 0 }
+  returned-short n m h = ap returned (too-short b c d out (accepted-by-none Description 1 c n) (accepted-by-none Description 2 d m) h)
 
   -- otherwise the two are compared
   pub none-comparable : None (faults Description c) → None (faults Description d) → length c + length d ≤ length out → Comparable c d out
@@ -95,23 +96,23 @@ module _ (c d out : List ℕ) where
 
 -- ---- two lists of entries
 
-module _ (c d : List Entry) where
+module _ (b : Background) (c d : List Entry) where
   -- "All hold: 'contained'"
-  pub verdict-contained : failing c d ≡ 0 → verdict c d ≡ Contained
+  pub verdict-contained : failing b c d ≡ 0 → verdict b c d ≡ Contained
   unfolding verdict
   verdict-contained e = rw (verdict, eq-eqb e)
 
-  pub verdict-not : failing c d ≢ 0 → verdict c d ≡ NotContained (failing c d) (length (specimenOf c d))
+  pub verdict-not : failing b c d ≢ 0 → verdict b c d ≡ NotContained (failing b c d) (length (specimenOf b c d))
   unfolding verdict
   verdict-not z = rw (verdict, ne-eqb z)
 
-  pub contained-verdict : verdict c d ≡ Contained → failing c d ≡ 0
+  pub contained-verdict : verdict b c d ≡ Contained → failing b c d ≡ 0
   contained-verdict e =
-      eq-cases (failing c d) 0 (λ z. z)
+      eq-cases (failing b c d) 0 (λ z. z)
       (λ z. let f = verdict-not z in let y : _≡_ {A = ℕ} 0 1 = cc in absurd (omega arith))
 
-  pub not-verdict : {j k : ℕ} → verdict c d ≡ NotContained j k → (failing c d ≢ 0) × (failing c d ≡ j) × (length (specimenOf c d) ≡ k)
+  pub not-verdict : {j k : ℕ} → verdict b c d ≡ NotContained j k → (failing b c d ≢ 0) × (failing b c d ≡ j) × (length (specimenOf b c d) ≡ k)
   not-verdict {j} {k} e =
-      eq-cases (failing c d) 0
+      eq-cases (failing b c d) 0
       (λ z. let f = verdict-contained z in let y : _≡_ {A = ℕ} 0 1 = cc in absurd (omega arith))
       (λ z. let f = verdict-not z in (z, cc, cc))

@@ -1,6 +1,6 @@
 -- Demand 3 as one statement: an answer for all accepted inputs, each exactly as the finite records have it; and when 7 is answered.
 -- Assumes nothing.
-use Prim.Native.Nat.{_+_, _<_, ℕ}
+use Prim.Native.Nat.{_+_, ℕ}
 use lib.ListN.{length}
 use mathlib.Core.List.{List}
 use mathlib.Core.Logic.{_⊎_, _↔_, inl, inr}
@@ -18,67 +18,71 @@ use Rattle.compare.proofs.PromiseKept.{contained-exactly, not-contained
 use Rattle.compare.specs.Answer.{compareOf}
 use Rattle.compare.specs.Promise.{AnswersNot, Comparable, Countermodel, Decided, TooShort}
 use Rattle.compare.specs.declared.Comparison.the-variants.{Contained, Refused}
-use Rattle.meaning.proofs.Verdicts.NotContained.{not-contained-shown}
+use Rattle.logic.specs.Background.{Background, Ruled}
+use Rattle.meaning.proofs.Verdicts.NotContained.{not-contained-keeps, not-contained-shown}
 use Rattle.meaning.specs.Failing.{failing, specimenOf}
 use Rattle.meaning.specs.Specimen.{recordOf}
 
-module _ (c d out : List ℕ) (r : Comparable c d out) where
+module _ {b : Background} (R : Ruled b) (c d out : List ℕ) (r : Comparable c d out) where
   -- one of the two answers is given
-  answered : (compareOf c d out ≡ Contained) ⊎ AnswersNot c d out
+  answered : (compareOf b c d out ≡ Contained) ⊎ AnswersNot b c d out
   answered =
-      eq-cases (failing (entriesOf c) (entriesOf d)) 0
-      (λ z. inl (compared c d out r ∙ verdict-contained (entriesOf c) (entriesOf d) z))
-      (λ z. inr (record { entry = _; entries = _; answer = compared c d out r ∙ verdict-not (entriesOf c) (entriesOf d) z }))
+      eq-cases (failing b (entriesOf c) (entriesOf d)) 0
+      (λ z. inl (compared b c d out r ∙ verdict-contained b (entriesOf c) (entriesOf d) z))
+      (λ z. inr (record { entry = _; entries = _; answer = compared b c d out r ∙ verdict-not b (entriesOf c) (entriesOf d) z }))
 
   -- a countermodel shuts 'contained' out
-  model-answers : Countermodel c d → AnswersNot c d out
+  model-answers : Countermodel b c d → AnswersNot b c d out
   model-answers x = by answered
     where
-      by : (compareOf c d out ≡ Contained) ⊎ AnswersNot c d out → AnswersNot c d out
-      by (inl e) = absurd (both-ways (contained-exactly c d out r .0 e (x .shown) (x .item) (x .inside) (x .fitting)) (x .missing))
+      by : (compareOf b c d out ≡ Contained) ⊎ AnswersNot b c d out → AnswersNot b c d out
+      by (inl e) = absurd (both-ways (contained-exactly R c d out r .0 e (x .shown) (x .keeps) (x .item) (x .inside) (x .fitting)) (x .missing))
       by (inr y) = y
 
   -- the specimen is one
-  answers-model : AnswersNot c d out → Countermodel c d
+  answers-model : AnswersNot b c d out → Countermodel b c d
   unfolding recordOf
   answers-model x =
-      let v = not-verdict (entriesOf c) (entriesOf d) (sym (compared c d out r) ∙ x .answer) in
-      let s = not-contained-shown (entriesOf c) (entriesOf d) (sound-of-accepted Description 1 c (r .first-read) .entries) (sound-of-accepted Description 2 d (r .second-read) .entries) (v .0) in
-      record { shown = recordOf (specimenOf (entriesOf c) (entriesOf d)); item = 0; inside = omega arith; fitting = s .fitting; missing = s .missing }
+      let v = not-verdict b (entriesOf c) (entriesOf d) (sym (compared b c d out r) ∙ x .answer) in
+      let Lc = sound-of-accepted Description 1 c (r .first-read) .entries in
+      let Ld = sound-of-accepted Description 2 d (r .second-read) .entries in
+      let s = not-contained-shown (R .lawful) (entriesOf c) (entriesOf d) Lc Ld (v .0) in
+      let k = not-contained-keeps (R .lawful) (entriesOf c) (entriesOf d) Lc Ld (v .0) in
+      record { shown = recordOf (specimenOf b (entriesOf c) (entriesOf d)); keeps = k; item = 0; inside = omega arith; fitting = s .fitting; missing = s .missing }
 
-  pub decided : Decided c d out
+  pub decided : Decided b c d out
   decided =
       record {
         answers = answered;
-        contained = contained-exactly c d out r;
+        contained = contained-exactly R c d out r;
         not-contained = (answers-model, model-answers);
-        refuted = not-contained-means c d out;
+        refuted = not-contained-means R c d out;
       }
 
 -- ---- number 7
 
-module _ (c d out : List ℕ) where
-  seven-short : {i p : ℕ} → compareOf c d out ≡ Refused 7 i p → TooShort c d out
+module _ (b : Background) (c d out : List ℕ) where
+  seven-short : {i p : ℕ} → compareOf b c d out ≡ Refused 7 i p → TooShort c d out
   seven-short {i} {p} e =
       readings-cases (readingOf Description 1 c) (readingOf Description 2 d)
       (λ k j q f.
-      let g : Refused k j q ≡ Refused 7 i p = sym (first-refused c d out f) ∙ e in
+      let g : Refused k j q ≡ Refused 7 i p = sym (first-refused b c d out f) ∙ e in
       let z : k ≡ 7 = cc in
-      absurd (omega (arith, reading-number Description 1 c f .0)))
+      absurd (reading-number Description 1 c f .0 z))
       (λ n k j q a f.
-      let g : Refused k j q ≡ Refused 7 i p = sym (second-refused c d out a f) ∙ e in
+      let g : Refused k j q ≡ Refused 7 i p = sym (second-refused b c d out a f) ∙ e in
       let z : k ≡ 7 = cc in
-      absurd (omega (arith, reading-number Description 2 d f .0)))
-      (λ n m a b. lt-cases (length out) (length c + length d)
-      (λ h. (none-of-accepted Description 1 c a .0, none-of-accepted Description 2 d b .0, h))
-      (λ h. absurd (not-refused (record { first = n; second = m; first-read = a; second-read = b; room = h }))))
+      absurd (reading-number Description 2 d f .0 z))
+      (λ n m a e′. lt-cases (length out) (length c + length d)
+      (λ h. (none-of-accepted Description 1 c a .0, none-of-accepted Description 2 d e′ .0, h))
+      (λ h. absurd (not-refused (record { first = n; second = m; first-read = a; second-read = e′; room = h }))))
     where
       not-refused : Comparable c d out → ⊥
       not-refused r =
-          eq-cases (failing (entriesOf c) (entriesOf d)) 0
-          (λ z. let g : Contained ≡ Refused 7 i p = sym (compared c d out r ∙ verdict-contained (entriesOf c) (entriesOf d) z) ∙ e in let w : _≡_ {A = ℕ} 0 1 = cc in omega arith)
-          (λ z. let g = sym (compared c d out r ∙ verdict-not (entriesOf c) (entriesOf d) z) ∙ e in let w : _≡_ {A = ℕ} 0 1 = cc in omega arith)
+          eq-cases (failing b (entriesOf c) (entriesOf d)) 0
+          (λ z. let g : Contained ≡ Refused 7 i p = sym (compared b c d out r ∙ verdict-contained b (entriesOf c) (entriesOf d) z) ∙ e in let w : _≡_ {A = ℕ} 0 1 = cc in omega arith)
+          (λ z. let g = sym (compared b c d out r ∙ verdict-not b (entriesOf c) (entriesOf d) z) ∙ e in let w : _≡_ {A = ℕ} 0 1 = cc in omega arith)
 
   -- "then 7": exactly if both inputs are accepted and the output is shorter than both together
-  pub seven-exactly : (compareOf c d out ≡ Refused 7 0 0) ↔ TooShort c d out
-  seven-exactly = (seven-short, λ h. too-short c d out (accepted-by-none Description 1 c (h .0)) (accepted-by-none Description 2 d (h .1)) (h .2))
+  pub seven-exactly : (compareOf b c d out ≡ Refused 7 0 0) ↔ TooShort c d out
+  seven-exactly = (seven-short, λ h. too-short b c d out (accepted-by-none Description 1 c (h .0)) (accepted-by-none Description 2 d (h .1)) (h .2))

@@ -34,11 +34,15 @@ use Rattle.compare.specs.declared.Comparison.the-variants.{Contained, No
 use Rattle.fit.proofs.AnswerLaws.{first-accepted, second-no, second-yes}
 use Rattle.fit.specs.Answer.{fitOf, topFits}
 use Rattle.fit.specs.declared.FitAnswer.the-variants.{No, Yes}
+use Rattle.logic.proofs.Records.Kept.{keeps-standing}
+use Rattle.logic.specs.Background.{Background, Keeps, Ruled}
+use Rattle.meaning.proofs.Specimens.SingleKeeps.{keeps-single}
 use Rattle.meaning.proofs.Specimens.SpecimenAscends.{specimen-ascends}
 use Rattle.meaning.proofs.Verdicts.Contained.{contained-all, failing-first}
-use Rattle.meaning.proofs.Verdicts.NotContained.{not-contained-bounded, not-contained-shown}
+use Rattle.meaning.proofs.Verdicts.NotContained.{not-contained-bounded, not-contained-keeps, not-contained-shown}
 use Rattle.meaning.specs.Failing.{failing, normalOf, specimenOf}
 use Rattle.meaning.specs.RowEntries.{entryBefore}
+use Rattle.meaning.specs.Specimen.{recordOf}
 use Rattle.meaning.specs.Promise.{Shown}
 
 -- ---- the fit answer for accepted inputs
@@ -55,7 +59,7 @@ module _ (s d : List ℕ) {n : ℕ} (a : readingOf Specimen 1 s ≡ reading.Acce
 
 -- ---- inputs that were compared
 
-module _ (c d out : List ℕ) (r : Comparable c d out) where
+module _ {b : Background} (R : Ruled b) (c d out : List ℕ) (r : Comparable c d out) where
   abbrev supplier : Sound Description c
   supplier = sound-of-accepted Description 1 c (r .first-read)
 
@@ -63,19 +67,22 @@ module _ (c d out : List ℕ) (r : Comparable c d out) where
   service = sound-of-accepted Description 2 d (r .second-read)
 
   -- contained exactly if every item of every finite record that fits C fits D
-  pub contained-exactly : (compareOf c d out ≡ Contained) ↔ ContainedInAll c d
+  pub contained-exactly : (compareOf b c d out ≡ Contained) ↔ ContainedInAll b c d
   contained-exactly =
-      let w = contained-all (entriesOf c) (entriesOf d) (service .entries) in (
-        λ e. w .0 (contained-verdict (entriesOf c) (entriesOf d) (sym (compared c d out r) ∙ e)),
-        λ f. compared c d out r ∙ verdict-contained (entriesOf c) (entriesOf d) (w .1 f),
+      let w = contained-all (R .lawful) (entriesOf c) (entriesOf d) (service .entries) in (
+        λ e. w .0 (contained-verdict b (entriesOf c) (entriesOf d) (sym (compared b c d out r) ∙ e)),
+        λ f. compared b c d out r ∙ verdict-contained b (entriesOf c) (entriesOf d) (w .1 f),
       )
 
-  module _ (z : failing (entriesOf c) (entriesOf d) ≢ 0) where
+  module _ (z : failing b (entriesOf c) (entriesOf d) ≢ 0) where
     abbrev shown : List Entry
-    shown = specimenOf (entriesOf c) (entriesOf d)
+    shown = specimenOf b (entriesOf c) (entriesOf d)
 
     is-shown : Shown (entriesOf c) (entriesOf d) shown
-    is-shown = not-contained-shown (entriesOf c) (entriesOf d) (supplier .entries) (service .entries) z
+    is-shown = not-contained-shown (R .lawful) (entriesOf c) (entriesOf d) (supplier .entries) (service .entries) z
+
+    shown-keeps : Keeps b (recordOf shown)
+    shown-keeps = not-contained-keeps (R .lawful) (entriesOf c) (entriesOf d) (supplier .entries) (service .entries) z
 
     -- the specimen's blocks are no more than those of C and D
     shown-room : 512 * blocksFor plain (length shown) ≤ length out
@@ -91,7 +98,7 @@ module _ (c d out : List ℕ) (r : Comparable c d out) where
     shown-few = omega (arith, is-shown .size, entries-limit (supplier .blocks), entries-limit (service .blocks))
 
     shown-read : readingOf Specimen 1 (encode shown) ≡ reading.Accepted (length shown)
-    shown-read = encoded-accepted Specimen 1 shown (is-shown .legal) shown-few
+    shown-read = encoded-accepted Specimen 1 shown (is-shown .legal) (keeps-single (is-shown .legal) (keeps-standing R shown-keeps)) shown-few
 
     shown-yes : fitOf (encode shown) c ≡ Yes
     unfolding topFits
@@ -103,68 +110,69 @@ module _ (c d out : List ℕ) (r : Comparable c d out) where
 
     shown-ascending : Sorted entryBefore (entriesOf (encode shown))
     unfolding specimenOf
-    shown-ascending = rw (decode-encode shown) (specimen-ascends (normalOf (entriesOf c)) (entriesOf d) (failing (entriesOf c) (entriesOf d)))
+    shown-ascending = rw (decode-encode shown) (specimen-ascends (normalOf b (entriesOf c)) (entriesOf d) (failing b (entriesOf c) (entriesOf d)))
 
-    shown-output : outputOf c d out ≡ encode shown ++ drop (512 * blocksFor plain (length shown)) out
+    shown-output : outputOf b c d out ≡ encode shown ++ drop (512 * blocksFor plain (length shown)) out
     unfolding outputOf
-    shown-output = ap (outputAfter c d out) (compared c d out r ∙ verdict-not (entriesOf c) (entriesOf d) z)
+    shown-output = ap (outputAfter b c d out) (compared b c d out r ∙ verdict-not b (entriesOf c) (entriesOf d) z)
 
-    shown-length : length (outputOf c d out) ≡ length out
+    shown-length : length (outputOf b c d out) ≡ length out
     shown-length = rw shown-output (simp (length-append, length-drop) (omega (arith, length-encode shown, shown-room)))
 
-    refuted : {j k : ℕ} → failing (entriesOf c) (entriesOf d) ≡ j → length shown ≡ k → Refuted c d out j k
+    refuted : {j k : ℕ} → failing b (entriesOf c) (entriesOf d) ≡ j → length shown ≡ k → Refuted b c d out j k
     refuted e f =
         let n : ℕ = 512 * blocksFor plain (length shown) in
         let later : List ℕ = drop n out in
-        let front : firstBlocks (length shown) (outputOf c d out) ≡ encode shown = rw shown-output (take-at (encode shown) later n (length-encode shown)) in
+        let front : firstBlocks (length shown) (outputOf b c d out) ≡ encode shown = rw shown-output (take-at (encode shown) later n (length-encode shown)) in
         rw (← f)
         (record {
-          number = failing-first (entriesOf c) (entriesOf d) e (λ y. z (e ∙ y));
+          number = failing-first (R .lawful) (entriesOf c) (entriesOf d) e (λ y. z (e ∙ y));
           room = shown-room;
           later = rw shown-output (drop-at (encode shown) later n (length-encode shown));
           blocks = front;
           accepted = rw front shown-read;
           few = is-shown .size;
+          keeps = rw (front, decode-encode shown) shown-keeps;
           ascending = rw front shown-ascending;
           yes = rw front shown-yes;
           no = rw front shown-no;
         })
 
   -- the specimen's blocks are bytes, and its entries' fields fit them
-  pub specimen-bytes : Bytes c → Bytes d → failing (entriesOf c) (entriesOf d) ≢ 0
-      → AllBounded (specimenOf (entriesOf c) (entriesOf d)) × Bytes (encode (specimenOf (entriesOf c) (entriesOf d)))
+  pub specimen-bytes : Bytes c → Bytes d → failing b (entriesOf c) (entriesOf d) ≢ 0
+      → AllBounded (specimenOf b (entriesOf c) (entriesOf d)) × Bytes (encode (specimenOf b (entriesOf c) (entriesOf d)))
   specimen-bytes bc bd z =
       let few : length (entriesOf c) + length (entriesOf d) ≤ 2016 = omega (arith, entries-limit (supplier .blocks), entries-limit (service .blocks)) in
-      let bound = not-contained-bounded (entriesOf c) (entriesOf d) (supplier .entries) (service .entries) z (entries-bounded bc) (entries-bounded bd) (omega arith) in
+      let bound = not-contained-bounded (R .lawful) (entriesOf c) (entriesOf d) (supplier .entries) (service .entries) z (entries-bounded bc) (entries-bounded bd) (omega arith) in
       let blocks = blocks-limit plain plain-lawful (length (shown z)) 32 (omega arith) (shown-few z) in
-      (bound, encode-bytes (specimenOf (entriesOf c) (entriesOf d)) bound (omega arith))
+      (bound, encode-bytes (specimenOf b (entriesOf c) (entriesOf d)) bound (omega arith))
 
 -- ---- any inputs and output
 
-module _ (c d out : List ℕ) where
+-- a refusal leaves the output
+pub refused-output : (b : Background) (c d out : List ℕ) {k i p : ℕ} → compareOf b c d out ≡ Refused k i p → outputOf b c d out ≡ out
+unfolding outputOf
+refused-output b c d out e = ap (outputAfter b c d out) e
+
+module _ {b : Background} (R : Ruled b) (c d out : List ℕ) where
   -- 'contained' says that every item of every finite record that fits C fits D, and leaves the output
-  pub contained-means : compareOf c d out ≡ Contained → ContainedInAll c d × (outputOf c d out ≡ out)
+  pub contained-means : compareOf b c d out ≡ Contained → ContainedInAll b c d × (outputOf b c d out ≡ out)
   unfolding outputOf
-  contained-means e = (contained-exactly c d out (contained-ready c d out e) .0 e, ap (outputAfter c d out) e)
+  contained-means e = (contained-exactly R c d out (contained-ready b c d out e) .0 e, ap (outputAfter b c d out) e)
 
   -- 'not contained' shows a specimen that fits C and does not fit D
-  pub not-contained-means : {j k : ℕ} → compareOf c d out ≡ NotContained j k → Refuted c d out j k
+  pub not-contained-means : {j k : ℕ} → compareOf b c d out ≡ NotContained j k → Refuted b c d out j k
   not-contained-means e =
-      let r = not-contained-ready c d out e in
-      let v = not-verdict (entriesOf c) (entriesOf d) (sym (compared c d out r) ∙ e) in
-      refuted c d out r (v .0) (v .1) (v .2)
-
-  -- a refusal leaves the output
-  pub refused-output : {k i p : ℕ} → compareOf c d out ≡ Refused k i p → outputOf c d out ≡ out
-  unfolding outputOf
-  refused-output e = ap (outputAfter c d out) e
+      let r = not-contained-ready b c d out e in
+      let v = not-verdict b (entriesOf c) (entriesOf d) (sym (compared b c d out r) ∙ e) in
+      refuted R c d out r (v .0) (v .1) (v .2)
 
   -- the output's length never changes
-  pub output-length : length (outputOf c d out) ≡ length out
+  pub output-length : length (outputOf b c d out) ≡ length out
   unfolding outputOf
   output-length =
-      compare-cases c d out
-      (λ k i p e. ap length (refused-output e))
-      (λ r. eq-cases (failing (entriesOf c) (entriesOf d)) 0
-      (λ z. ap length (contained-means (compared c d out r ∙ verdict-contained (entriesOf c) (entriesOf d) z) .1))
-      (λ z. shown-length c d out r z))
+      compare-cases b c d out
+      (λ k i p e. ap length (refused-output b c d out e))
+      (λ r. eq-cases (failing b (entriesOf c) (entriesOf d)) 0
+      (λ z. ap length (contained-means (compared b c d out r ∙ verdict-contained b (entriesOf c) (entriesOf d) z) .1))
+      (λ z. shown-length R c d out r z))

@@ -1,4 +1,4 @@
--- The comparison's answer, and its output.
+-- The comparison's answer, and its output, for the records that keep a background.
 -- Assumes nothing.
 use Prim.Native.Nat.{_*_, _+_, ℕ}
 use lib.Dec.{eqb, ltb}
@@ -15,40 +15,41 @@ use Rattle.blocks.specs.declared.Reading.{Reading}
 use Rattle.blocks.specs.declared.Schema.the-variants.{Description}
 use Rattle.compare.specs.declared.Comparison.{Comparison}
 use Rattle.compare.specs.declared.Comparison.the-variants.{Contained, NotContained, Refused}
+use Rattle.logic.specs.Background.{Background}
 use Rattle.meaning.specs.Failing.{failing, specimenOf}
 
 -- ---- two lists of entries
 
 -- "All hold: 'contained' .. Otherwise 'not contained', the number of the first e that fails, the number of specimen entries"
-unfoldable pub verdict : List Entry → List Entry → Comparison
-verdict c d = cond (eqb (failing c d) 0) Contained (NotContained (failing c d) (length (specimenOf c d)))
+unfoldable pub verdict : Background → List Entry → List Entry → Comparison
+verdict b c d = cond (eqb (failing b c d) 0) Contained (NotContained (failing b c d) (length (specimenOf b c d)))
 
 -- ---- two inputs
 
 -- "the output is at least as long as both"; 7 otherwise, "0 for number 7"
-abbrev pub roomOf : List ℕ → List ℕ → List ℕ → Comparison
-roomOf c d out = cond (ltb (length out) (length c + length d)) (Refused 7 0 0) (verdict (entriesOf c) (entriesOf d))
+abbrev pub roomOf : Background → List ℕ → List ℕ → List ℕ → Comparison
+roomOf b c d out = cond (ltb (length out) (length c + length d)) (Refused 7 0 0) (verdict b (entriesOf c) (entriesOf d))
 
 -- the answer where C is accepted, by what reading D answers
-abbrev pub secondOf : List ℕ → List ℕ → List ℕ → Reading → Comparison
-secondOf c d out r = unlessRefused Refused r (roomOf c d out)
+abbrev pub secondOf : Background → List ℕ → List ℕ → List ℕ → Reading → Comparison
+secondOf b c d out r = unlessRefused Refused r (roomOf b c d out)
 
-abbrev pub firstOf : List ℕ → List ℕ → List ℕ → Reading → Comparison
-firstOf c d out r = unlessRefused Refused r (secondOf c d out (readingOf Description 2 d))
+abbrev pub firstOf : Background → List ℕ → List ℕ → List ℕ → Reading → Comparison
+firstOf b c d out r = unlessRefused Refused r (secondOf b c d out (readingOf Description 2 d))
 
 -- "Input 1 is C, input 2 is D"; "input 1 in full, input 2 in full, then 7"
-unfoldable pub compareOf : List ℕ → List ℕ → List ℕ → Comparison
-compareOf c d out = firstOf c d out (readingOf Description 1 c)
+unfoldable pub compareOf : Background → List ℕ → List ℕ → List ℕ → Comparison
+compareOf b c d out = firstOf b c d out (readingOf Description 1 c)
 
 -- the output after each answer: "contained, output unchanged"; "the specimen in blocks from the start, later bytes unchanged"; a
 -- refusal leaves it "unchanged"
-abbrev pub outputAfter : List ℕ → List ℕ → List ℕ → Comparison → List ℕ
-outputAfter c d out Contained = out
-outputAfter c d out (NotContained j k) = encode (specimenOf (entriesOf c) (entriesOf d)) ++ drop (512 * blocksFor plain k) out
-outputAfter c d out (Refused k i p) = out
+abbrev pub outputAfter : Background → List ℕ → List ℕ → List ℕ → Comparison → List ℕ
+outputAfter b c d out Contained = out
+outputAfter b c d out (NotContained j k) = encode (specimenOf b (entriesOf c) (entriesOf d)) ++ drop (512 * blocksFor plain k) out
+outputAfter b c d out (Refused k i p) = out
 
-unfoldable pub outputOf : List ℕ → List ℕ → List ℕ → List ℕ
-outputOf c d out = outputAfter c d out (compareOf c d out)
+unfoldable pub outputOf : Background → List ℕ → List ℕ → List ℕ → List ℕ
+outputOf b c d out = outputAfter b c d out (compareOf b c d out)
 
 -- The paper's numbers for each case: whether C is contained in D, and neither where an input is refused or the output too short; the number
 -- of the first entry that fails and the number of specimen entries; the number returned, the input and the place. 0 where a case has none.

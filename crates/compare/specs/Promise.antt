@@ -21,12 +21,13 @@ use Rattle.compare.specs.declared.Comparison.{Comparison}
 use Rattle.compare.specs.declared.Comparison.the-variants.{Contained, NotContained}
 use Rattle.fit.specs.Answer.{fitOf}
 use Rattle.fit.specs.declared.FitAnswer.the-variants.{No, Yes}
-use Rattle.logic.specs.Background.{unrestricted}
+use Rattle.logic.specs.Background.{Background, Keeps}
 use Rattle.logic.specs.Record.{Record, fits}
 use Rattle.meaning.specs.Description.{placeOf}
 use Rattle.meaning.specs.Failing.{specimenOf}
-use Rattle.meaning.specs.Promise.{FirstNotEntailed}
+use Rattle.meaning.specs.Promise.{FirstNotEntailed, Subsumed}
 use Rattle.meaning.specs.RowEntries.{entryBefore}
+use Rattle.meaning.specs.Specimen.{recordOf}
 use Rattle.normal.specs.Promise.{NormalisedAs}
 use Rattle.meaning.specs.StarredCases.{Line, Outcome, compares, impossible, inside, normalises, outside}
 
@@ -42,48 +43,50 @@ pub record Comparable (c d out : List ℕ) : Type 0 where
 abbrev pub TooShort : List ℕ → List ℕ → List ℕ → Type 0
 TooShort c d out = None (faults Description c) × None (faults Description d) × (length out < length c + length d)
 
--- every item that fits C fits D, in every finite record
-abbrev pub ContainedInAll : List ℕ → List ℕ → Type 0
-ContainedInAll c d = (r : Record) (x : ℕ) → x < r .size → fits r (placeOf (entriesOf c) 0) x ≡ true → fits r (placeOf (entriesOf d) 0) x ≡ true
+-- every item that fits C fits D, in every finite record that keeps the background
+abbrev pub ContainedInAll : Background → List ℕ → List ℕ → Type 0
+ContainedInAll b c d = Subsumed b (placeOf (entriesOf c) 0) (placeOf (entriesOf d) 0)
 
--- an item of a finite record that fits C and misses D: in the field's terms, a countermodel of the subsumption
-pub record Countermodel (c d : List ℕ) : Type 0 where
+-- an item of a finite record that keeps the background, which fits C and misses D: in the field's terms, a countermodel of the subsumption
+pub record Countermodel (b : Background) (c d : List ℕ) : Type 0 where
   pub shown : Record
+  pub keeps : Keeps b shown
   pub item : ℕ
   pub inside : item < shown .size
   pub fitting : fits shown (placeOf (entriesOf c) 0) item ≡ true
   pub missing : fits shown (placeOf (entriesOf d) 0) item ≡ false
 
 -- the answer is 'not contained', with an entry's number and the specimen's number of entries
-pub record AnswersNot (c d out : List ℕ) : Type 0 where
+pub record AnswersNot (b : Background) (c d out : List ℕ) : Type 0 where
   pub entry : ℕ
   pub entries : ℕ
-  pub answer : compareOf c d out ≡ NotContained entry entries
+  pub answer : compareOf b c d out ≡ NotContained entry entries
 
 -- What the answer 'not contained', with the numbers j and k, says of the output.
-pub record Refuted (c d out : List ℕ) (j k : ℕ) : Type 0 where
+pub record Refuted (b : Background) (c d out : List ℕ) (j k : ℕ) : Type 0 where
   -- j is the number of the first entry of D, apart from 'every' entries, that C does not say
-  pub number : FirstNotEntailed unrestricted (placeOf (entriesOf c) 0) (entriesOf d) j
+  pub number : FirstNotEntailed b (placeOf (entriesOf c) 0) (entriesOf d) j
   -- the blocks fit the output, and later bytes are unchanged
   pub room : 512 * blocksFor plain k ≤ length out
-  pub later : drop (512 * blocksFor plain k) (outputOf c d out) ≡ drop (512 * blocksFor plain k) out
-  -- they are a specimen of k entries, no more than C and D have together
-  pub blocks : firstBlocks k (outputOf c d out) ≡ encode (specimenOf (entriesOf c) (entriesOf d))
-  pub accepted : readingOf Specimen 1 (firstBlocks k (outputOf c d out)) ≡ reading.Accepted k
+  pub later : drop (512 * blocksFor plain k) (outputOf b c d out) ≡ drop (512 * blocksFor plain k) out
+  -- they are a specimen of k entries, no more than C and D have together, whose record keeps the background
+  pub blocks : firstBlocks k (outputOf b c d out) ≡ encode (specimenOf b (entriesOf c) (entriesOf d))
+  pub accepted : readingOf Specimen 1 (firstBlocks k (outputOf b c d out)) ≡ reading.Accepted k
   pub few : k ≤ length (entriesOf c) + length (entriesOf d)
+  pub keeps : Keeps b (recordOf (entriesOf (firstBlocks k (outputOf b c d out))))
   -- "Order as in the normal form": so each property of a place, and each group of a place and link, stands once
-  pub ascending : Sorted entryBefore (entriesOf (firstBlocks k (outputOf c d out)))
+  pub ascending : Sorted entryBefore (entriesOf (firstBlocks k (outputOf b c d out)))
   -- whose top item fits C and does not fit D
-  pub yes : fitOf (firstBlocks k (outputOf c d out)) c ≡ Yes
-  pub no : fitOf (firstBlocks k (outputOf c d out)) d ≡ No
+  pub yes : fitOf (firstBlocks k (outputOf b c d out)) c ≡ Yes
+  pub no : fitOf (firstBlocks k (outputOf b c d out)) d ≡ No
 
 -- Demand 3: "the comparison answers 'contained' (no finite record of any size .. has an item that fits the first and misses the second) or
 -- 'not contained' (exactly when such a record exists)", and shows it.
-pub record Decided (c d out : List ℕ) : Type 0 where
-  pub answers : (compareOf c d out ≡ Contained) ⊎ AnswersNot c d out
-  pub contained : (compareOf c d out ≡ Contained) ↔ ContainedInAll c d
-  pub not-contained : AnswersNot c d out ↔ Countermodel c d
-  pub refuted : {j k : ℕ} → compareOf c d out ≡ NotContained j k → Refuted c d out j k
+pub record Decided (b : Background) (c d out : List ℕ) : Type 0 where
+  pub answers : (compareOf b c d out ≡ Contained) ⊎ AnswersNot b c d out
+  pub contained : (compareOf b c d out ≡ Contained) ↔ ContainedInAll b c d
+  pub not-contained : AnswersNot b c d out ↔ Countermodel b c d
+  pub refuted : {j k : ℕ} → compareOf b c d out ≡ NotContained j k → Refuted b c d out j k
 
 -- the answer, and the output after it
 abbrev pub answerOf : Outcome → Comparison
@@ -96,9 +99,9 @@ outputFor (outside n sp) out = encode sp ++ drop (512 * blocksFor plain (length 
 
 -- the entries as blocks give the answer and the output, for each output that is long enough; the normal form is written as the entries given;
 -- every accepted description contains what nothing fits
-abbrev pub Right : Line → Type 0
-Right (compares c d o) =
+abbrev pub Right : Background → Line → Type 0
+Right b (compares c d o) =
     (out : List ℕ) → length (encode c) + length (encode d) ≤ length out
-    → (compareOf (encode c) (encode d) out ≡ answerOf o) × (outputOf (encode c) (encode d) out ≡ outputFor o out)
-Right (normalises c n) = NormalisedAs c n
-Right (impossible c) = (d out : List ℕ) → Comparable (encode c) d out → compareOf (encode c) d out ≡ Contained
+    → (compareOf b (encode c) (encode d) out ≡ answerOf o) × (outputOf b (encode c) (encode d) out ≡ outputFor o out)
+Right b (normalises c n) = NormalisedAs b c n
+Right b (impossible c) = (d out : List ℕ) → Comparable (encode c) d out → compareOf b (encode c) d out ≡ Contained

@@ -6,6 +6,7 @@ ghost use Prim.Native.Nat.{_*_, _+_, _≤_};
 ghost use lib.Dec.{leb, ltb};
 ghost use lib.ListN.{length, replicate};
 ghost use mathlib.Core.Bool.{_&&_};
+ghost use Rattle.logic.specs.Background.{standing};
 ghost use Rattle.compare.specs.Answer.{compareOf, outputOf};
 ghost use Rattle.compare.specs.code.Prepared.{Agreed, Failed, Roomy, Showable, shownAfter, shownBy};
 use crate::Comparison;
@@ -92,8 +93,8 @@ fn are_small(c: &[u8], d: &[u8]) -> bool
 
 // Shows that entry n fails, where the slots of the first description stand in the table.
 fn show(c: &[u8], d: &[u8], n: usize, table: &[u64], out: &mut [u8]) -> Comparison
-    requires { ⌜ Failed (now c) (now d) n (now table) × (length (now c) + length (now d) ≤ length (now out)) ⌝ }
-    ensures { λ r. ⌜ (r ≡ compareOf (now (c .entry)) (now (d .entry)) (now (out .entry))) × (now (out .exit) ≡ outputOf (now (c .entry)) (now (d .entry)) (now (out .entry))) ⌝ }
+    requires { ⌜ Failed standing (now c) (now d) n (now table) × (length (now c) + length (now d) ≤ length (now out)) ⌝ }
+    ensures { λ r. ⌜ (r ≡ compareOf standing (now (c .entry)) (now (d .entry)) (now (out .entry))) × (now (out .exit) ≡ outputOf standing (now (c .entry)) (now (d .entry)) (now (out .entry))) ⌝ }
 {
     if are_small(c, d) {
         return Comparison::NotContained(n as u16, show_few(table, d, n, out) as u16);
@@ -111,8 +112,8 @@ fn is_short(c: &[u8], d: &[u8], out: &[u8]) -> bool
 
 // The answer where all entries hold: 7 where the output is shorter than both descriptions together.
 fn agree(c: &[u8], d: &[u8], out: &[u8]) -> Comparison
-    requires { ⌜ Agreed (now c) (now d) ⌝ }
-    ensures { λ r. ⌜ (r ≡ compareOf (now (c .entry)) (now (d .entry)) (now (out .entry))) × (now (out .entry) ≡ outputOf (now (c .entry)) (now (d .entry)) (now (out .entry))) ⌝ }
+    requires { ⌜ Agreed standing (now c) (now d) ⌝ }
+    ensures { λ r. ⌜ (r ≡ compareOf standing (now (c .entry)) (now (d .entry)) (now (out .entry))) × (now (out .entry) ≡ outputOf standing (now (c .entry)) (now (d .entry)) (now (out .entry))) ⌝ }
 {
     if is_short(c, d, out) {
         return Comparison::Refused(7, 0, 0);
@@ -122,8 +123,8 @@ fn agree(c: &[u8], d: &[u8], out: &[u8]) -> Comparison
 
 // The answer where entry n fails: 7 where the output is shorter, else the specimen.
 fn deny(c: &[u8], d: &[u8], n: usize, table: &[u64], out: &mut [u8]) -> Comparison
-    requires { ⌜ Failed (now c) (now d) n (now table) ⌝ }
-    ensures { λ r. ⌜ (r ≡ compareOf (now (c .entry)) (now (d .entry)) (now (out .entry))) × (now (out .exit) ≡ outputOf (now (c .entry)) (now (d .entry)) (now (out .entry))) ⌝ }
+    requires { ⌜ Failed standing (now c) (now d) n (now table) ⌝ }
+    ensures { λ r. ⌜ (r ≡ compareOf standing (now (c .entry)) (now (d .entry)) (now (out .entry))) × (now (out .exit) ≡ outputOf standing (now (c .entry)) (now (d .entry)) (now (out .entry))) ⌝ }
 {
     if is_short(c, d, out) {
         return Comparison::Refused(7, 0, 0);
@@ -134,7 +135,7 @@ fn deny(c: &[u8], d: &[u8], n: usize, table: &[u64], out: &mut [u8]) -> Comparis
 // Compares two descriptions, with a lent table for the slots of the first.
 fn compare_in(c: &[u8], d: &[u8], table: &mut [u64], out: &mut [u8]) -> Comparison
     requires { ⌜ Roomy (now c) (now table) ⌝ }
-    ensures { λ r. ⌜ (r ≡ compareOf (now (c .entry)) (now (d .entry)) (now (out .entry))) × (now (out .exit) ≡ outputOf (now (c .entry)) (now (d .entry)) (now (out .entry))) ⌝ }
+    ensures { λ r. ⌜ (r ≡ compareOf standing (now (c .entry)) (now (d .entry)) (now (out .entry))) × (now (out .exit) ≡ outputOf standing (now (c .entry)) (now (d .entry)) (now (out .entry))) ⌝ }
 {
     let holding = slots::first_failing(c, d, table);
     match holding {
@@ -147,14 +148,14 @@ fn compare_in(c: &[u8], d: &[u8], table: &mut [u64], out: &mut [u8]) -> Comparis
 // The same with a table of its own, where the first description is of one block, and where it is any.
 fn compare_few(c: &[u8], d: &[u8], out: &mut [u8]) -> Comparison
     requires { ⌜ length (now c) ≤ 512 ⌝ }
-    ensures { λ r. ⌜ (r ≡ compareOf (now (c .entry)) (now (d .entry)) (now (out .entry))) × (now (out .exit) ≡ outputOf (now (c .entry)) (now (d .entry)) (now (out .entry))) ⌝ }
+    ensures { λ r. ⌜ (r ≡ compareOf standing (now (c .entry)) (now (d .entry)) (now (out .entry))) × (now (out .exit) ≡ outputOf standing (now (c .entry)) (now (d .entry)) (now (out .entry))) ⌝ }
 {
     let mut table = [0u64; 64];
     compare_in(c, d, &mut table, out)
 }
 
 fn compare_many(c: &[u8], d: &[u8], out: &mut [u8]) -> Comparison
-    ensures { λ r. ⌜ (r ≡ compareOf (now (c .entry)) (now (d .entry)) (now (out .entry))) × (now (out .exit) ≡ outputOf (now (c .entry)) (now (d .entry)) (now (out .entry))) ⌝ }
+    ensures { λ r. ⌜ (r ≡ compareOf standing (now (c .entry)) (now (d .entry)) (now (out .entry))) × (now (out .exit) ≡ outputOf standing (now (c .entry)) (now (d .entry)) (now (out .entry))) ⌝ }
 {
     let mut table = [0u64; 1009];
     compare_in(c, d, &mut table, out)
@@ -165,7 +166,7 @@ fn compare_many(c: &[u8], d: &[u8], out: &mut [u8]) -> Comparison
 // second description that fails and the specimen's number of entries; later bytes stay. The output is at least as long as both
 // descriptions; where it is shorter or a description is refused, the refusal is returned. Nothing is written but a specimen.
 pub fn compare(c: &[u8], d: &[u8], out: &mut [u8]) -> Comparison
-    ensures { λ r. ⌜ (r ≡ compareOf (now (c .entry)) (now (d .entry)) (now (out .entry))) × (now (out .exit) ≡ outputOf (now (c .entry)) (now (d .entry)) (now (out .entry))) ⌝ }
+    ensures { λ r. ⌜ (r ≡ compareOf standing (now (c .entry)) (now (d .entry)) (now (out .entry))) × (now (out .exit) ≡ outputOf standing (now (c .entry)) (now (d .entry)) (now (out .entry))) ⌝ }
 {
     if are_small(c, d) {
         return compare_few(c, d, out);

@@ -6,12 +6,14 @@ use mathlib.Core.List.{List, List·Memᴰ, List·Memᴰ·cases-cons, List·Mem�
 use mathlib.Core.Logic.{⊎-elim}
 use mathlib.Core.Path.{_∙_, _≡_, refl}
 use Rattle.base.proofs.Tests.{and-left, and-right, false-of-not}
+use Rattle.base.specs.Range.{sum}
 use Rattle.blocks.proofs.Refusing.FirstFault.{clean-none}
 use Rattle.blocks.proofs.Refusing.Legal.{none-legal}
 use Rattle.blocks.specs.Entries.{formOk, nameOk, nth, numberOk}
-use Rattle.blocks.specs.Faults.{entryFaults, first}
+use Rattle.blocks.specs.Faults.{entryFaults, first, rowsFrom}
 use Rattle.blocks.specs.Owners.{chain, depthOf, depthOk, ownerOf, ownerOk}
 use Rattle.blocks.specs.Promise.{Legal}
+use Rattle.blocks.specs.Single.{itemsUpTo, singleOk}
 use Rattle.blocks.specs.declared.Entry.{Entry}
 use Rattle.blocks.specs.declared.Finding.{Finding}
 use Rattle.blocks.specs.declared.Finding.the-variants.{Clean, Faulty}
@@ -83,5 +85,5 @@ all-show (b ∷ cs) e c m =
 
 -- every desk example is shown by its specimen
 pub cases-show : (c : Case) → List·Memᴰ c cases → Shows c
-unfolding cases everyIn first entryFaults formOk nameOk numberOk ownerOk ownerOf nth depthOk depthOf chain allWhere sumWhere hasProperty totalBy groupsBy meetsEntry
+unfolding cases everyIn first entryFaults rowsFrom singleOk itemsUpTo sum formOk nameOk numberOk ownerOk ownerOf nth depthOk depthOf chain allWhere sumWhere hasProperty totalBy groupsBy meetsEntry
 cases-show = all-show cases refl

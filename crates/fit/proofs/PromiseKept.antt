@@ -67,11 +67,11 @@ module _ (s d : List ℕ) where
       (λ k j q f.
       let g : Refused k j q ≡ Refused 7 i p = first-refused s d refl f ∙ e in
       let z : k ≡ 7 = cc in
-      omega (arith, reading-number Specimen 1 s f .0))
+      reading-number Specimen 1 s f .0 z)
       (λ n k j q a f.
       let g : Refused k j q ≡ Refused 7 i p = first-accepted s d refl a (second-refused s d refl f) ∙ e in
       let z : k ≡ 7 = cc in
-      omega (arith, reading-number Description 2 d f .0))
+      reading-number Description 2 d f .0 z)
       (λ n m a f.
       let r : Judgeable s d = record { first = n; second = m; first-read = a; second-read = f } in
       bool-cases (topFits s d)

@@ -2,7 +2,5 @@
 
 -- One meaning, one normal form: two normal places that the same items fit are equal.
 pub mod Unique
--- Where nothing is capped or excluded: the same in all records.
-pub mod Plain
 -- A normal form holds exactly the atoms that it says, in the records that keep the background.
 pub mod HoldsExactly

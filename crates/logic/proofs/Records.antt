@@ -4,5 +4,5 @@
 pub mod Counting
 -- Passing along a path of links.
 pub mod Along
--- Where there are no caps and no exclusions, every record keeps them.
+-- What every record keeps is lawful.
 pub mod Kept

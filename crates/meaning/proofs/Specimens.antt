@@ -6,6 +6,8 @@ pub mod Items
 pub mod SpecimenRecord
 -- The record of a specimen that was written from a tree keeps a background if the tree does.
 pub mod SpecimenKeeps
+-- A legal specimen breaks number 9 nowhere exactly where its record keeps the standing rule.
+pub mod SingleKeeps
 -- A comparison's specimen as entries: they are legal, their fields fit their bytes, and they are no more than those of C and D.
 pub mod SpecimenLegal
 -- The entries of a comparison's specimen ascend by owner, then kind, then name.

@@ -15,6 +15,7 @@ use Rattle.blocks.specs.Promise.{FirstOf, None}
 use Rattle.blocks.specs.Reading.{readingOf}
 use Rattle.blocks.specs.declared.Reading.the-variants as reading
 use Rattle.blocks.specs.declared.Schema.the-variants.{Description}
+use Rattle.logic.specs.Background.{Background}
 use Rattle.meaning.specs.NormalEntries.{normalEntries}
 use Rattle.normal.specs.Answer.{normaliseOf, normalisedOf, outputAfter, returned}
 use Rattle.normal.specs.declared.NormalAnswer.the-variants.{Normalised, Refused}
@@ -25,21 +26,21 @@ pub record Ready (d out : List ℕ) : Type 0 where
   pub read : readingOf Description 1 d ≡ reading.Accepted total
   pub room : length d ≤ length out
 
-module _ (d out : List ℕ) where
+module _ (b : Background) (d out : List ℕ) where
   -- ---- the ways to an answer
 
   -- "input 1 in full"
-  pub input-refused : {k i p : ℕ} → readingOf Description 1 d ≡ reading.Refused k i p → normaliseOf d out ≡ Refused k i p
+  pub input-refused : {k i p : ℕ} → readingOf Description 1 d ≡ reading.Refused k i p → normaliseOf b d out ≡ Refused k i p
   unfolding normaliseOf
   input-refused e = rw (normaliseOf, e)
 
   -- "then 7"
-  pub too-short : {n : ℕ} → readingOf Description 1 d ≡ reading.Accepted n → length out < length d → normaliseOf d out ≡ Refused 7 0 0
+  pub too-short : {n : ℕ} → readingOf Description 1 d ≡ reading.Accepted n → length out < length d → normaliseOf b d out ≡ Refused 7 0 0
   unfolding normaliseOf
   too-short e h = rw (normaliseOf, e, lt-ltb h)
 
   -- the normal form is written
-  pub normalised : Ready d out → normaliseOf d out ≡ Normalised (length (normalEntries (entriesOf d)))
+  pub normalised : Ready d out → normaliseOf b d out ≡ Normalised (length (normalEntries b (entriesOf d)))
   unfolding normaliseOf
   normalised r = rw (normaliseOf, r .read, ge-ltb (r .room))
 
@@ -51,7 +52,7 @@ module _ (d out : List ℕ) where
       (λ n q. lt-cases (length out) (length d) (λ h. s n q h) (λ h. g (record { total = n; read = q; room = h })))
 
   -- what was normalised was accepted, and its answer is the number of entries of its normal form
-  pub normalised-ready : {k : ℕ} → normaliseOf d out ≡ Normalised k → Ready d out × (length (normalEntries (entriesOf d)) ≡ k)
+  pub normalised-ready : {k : ℕ} → normaliseOf b d out ≡ Normalised k → Ready d out × (length (normalEntries b (entriesOf d)) ≡ k)
   normalised-ready {k} e =
       normalise-cases
       (λ j i p q. let y = input-refused q in let z : _≡_ {A = ℕ} 0 1 = cc in absurd (omega arith))
@@ -61,43 +62,43 @@ module _ (d out : List ℕ) where
   -- ---- refusals
 
   -- a refusal is that of reading the input, or 7 for an output that is too short
-  pub refused-why : {k i p : ℕ} → normaliseOf d out ≡ Refused k i p
+  pub refused-why : {k i p : ℕ} → normaliseOf b d out ≡ Refused k i p
       → (readingOf Description 1 d ≡ reading.Refused k i p) ⊎ ((k ≡ 7) × (i ≡ 0) × (p ≡ 0) × None (faults Description d) × (length out < length d))
   refused-why {k} {i} {p} e =
       normalise-cases
       (λ k′ i′ p′ q.
       let y = input-refused q in
       let a : k′ ≡ k = cc in
-      let b : i′ ≡ i = cc in
+      let o : i′ ≡ i = cc in
       let c : p′ ≡ p = cc in
-      inl (q ∙ rw (a, b, c)))
+      inl (q ∙ rw (a, o, c)))
       (λ n q h.
       let y = too-short q h in
       let a : k ≡ 7 = cc in
-      let b : i ≡ 0 = cc in
+      let o : i ≡ 0 = cc in
       let c : p ≡ 0 = cc in
-      inr (a, b, c, none-of-accepted Description 1 d q .0, h))
+      inr (a, o, c, none-of-accepted Description 1 d q .0, h))
       (λ r. let y = normalised r in let z : _≡_ {A = ℕ} 0 1 = cc in absurd (omega arith))
 
   -- a refusal leaves the output
-  pub refused-output : {k i p : ℕ} → normaliseOf d out ≡ Refused k i p → normalisedOf d out ≡ out
+  pub refused-output : {k i p : ℕ} → normaliseOf b d out ≡ Refused k i p → normalisedOf b d out ≡ out
   unfolding normalisedOf
-  refused-output e = ap (outputAfter d out) e
+  refused-output e = ap (outputAfter b d out) e
 
   -- ---- the paper's numbers
 
   -- "In one input: .."
   pub returned-refusal : {k p : ℕ} → FirstOf (faults Description d) k p
-      → returned (normaliseOf d out) ≡ record { entries = 0; number = k; input = 1; place = p }
+      → returned (normaliseOf b d out) ≡ record { entries = 0; number = k; input = 1; place = p }
   returned-refusal f = ap returned (input-refused (refused-by-first Description 1 d f))
 
   -- "then 7", "0 for number 7"
   pub returned-short : None (faults Description d) → length out < length d
-      → returned (normaliseOf d out) ≡ record { entries = 0; number = 7; input = 0; place = 0 }
+      → returned (normaliseOf b d out) ≡ record { entries = 0; number = 7; input = 0; place = 0 }
   returned-short n h = ap returned (too-short (accepted-by-none Description 1 d n) h)
 
   -- "The answer is the number of entries."
   pub returned-entries : None (faults Description d) → length d ≤ length out
-      → returned (normaliseOf d out) ≡ record { entries = length (normalEntries (entriesOf d)); number = 0; input = 0; place = 0 }
+      → returned (normaliseOf b d out) ≡ record { entries = length (normalEntries b (entriesOf d)); number = 0; input = 0; place = 0 }
   returned-entries n h =
       ap returned (normalised (record { total = length (entriesOf d); read = accepted-by-none Description 1 d n; room = h }))

@@ -14,7 +14,7 @@ use Rattle.blocks.specs.Encoding.{bytesWritten, written}
 use Rattle.blocks.specs.Entries.{entriesOf, packed}
 use Rattle.blocks.specs.declared.Entry.{Entry}
 use Rattle.blocks.specs.declared.Schema.the-variants.{Description}
-use Rattle.logic.specs.Background.{unrestricted}
+use Rattle.logic.specs.Background.{Background, LawfulBackground}
 use Rattle.logic.specs.Layout.{write}
 use Rattle.logic.specs.Normal.{nf}
 use Rattle.logic.specs.Place.{Atom, Place}
@@ -47,30 +47,30 @@ written-front out rows n h =
     let front : take n (take n rows) ≡ take n rows = take-all n (take n rows) (omega arith) in
     rw (written, written, bytesWritten, bytesWritten, front, size, le-leb h, leb-self n)
 
-module _ (d out : List ℕ) (r : Ready d out) (b : AllBounded (entriesOf d)) where
+module _ {b : Background} (law : LawfulBackground b) (d out : List ℕ) (r : Ready d out) (small : AllBounded (entriesOf d)) where
   abbrev form : List Entry
-  form = normalEntries (entriesOf d)
+  form = normalEntries b (entriesOf d)
 
   -- a table whose first n numbers are the packed rows of the normal form: as many are written as were answered, and they are its blocks
-  pub normal-written : (rows : List ℕ) (n : ℕ) → n ≤ length rows → take n rows ≡ map rowNumber (write (nf unrestricted (placeOf (entriesOf d) 0)))
-      → (normaliseOf d out ≡ Normalised n) × (written out rows n ≡ normalisedOf d out)
+  pub normal-written : (rows : List ℕ) (n : ℕ) → n ≤ length rows → take n rows ≡ map rowNumber (write (nf b (placeOf (entriesOf d) 0)))
+      → (normaliseOf b d out ≡ Normalised n) × (written out rows n ≡ normalisedOf b d out)
   unfolding normalEntries normalisedOf
   normal-written rows n h e =
-      let t : Place = nf unrestricted (placeOf (entriesOf d) 0) in
+      let t : Place = nf b (placeOf (entriesOf d) 0) in
       let packs : take n rows ≡ map packed form = e ∙ rows-packed (write t) in
       let size : n ≡ length form = sym (length-take-le n rows h) ∙ ap length packs ∙ length-map form packed in
-      let m = normalised-means d out (normalised d out r) in
+      let m = normalised-means law d out (normalised b d out r) in
       let input = sound-of-accepted Description 1 d (r .read) in
-      let bound = normal-bounded (entriesOf d) (input .entries) b (omega (arith, entries-limit (input .blocks))) in
-      let few : length form ≤ 2016 = omega (arith, normal-fewer (entriesOf d), entries-limit (input .blocks)) in (
-        normalised d out r ∙ ap Normalised (sym size),
+      let bound = normal-bounded b (entriesOf d) (input .entries) small (omega (arith, entries-limit (input .blocks))) in
+      let few : length form ≤ 2016 = omega (arith, normal-fewer b (entriesOf d), entries-limit (input .blocks)) in (
+        normalised b d out r ∙ ap Normalised (sym size),
         written-front out rows n h ∙ ap (λ (q : List ℕ). written out q n) packs ∙ ap (written out (map packed form)) size
-            ∙ written-encodes out form bound few (m .room) ∙ sym (ap (outputAfter d out) (normalised d out r)),
+            ∙ written-encodes out form bound few (m .room) ∙ sym (ap (outputAfter b d out) (normalised b d out r)),
       )
 
 -- ---- an accepted description, whose slots stand in the tables
 
-module _ {d : List ℕ} {used : ℕ} {t bad full : List ℕ} (S : Standing d used t bad full) where
+module _ {b : Background} (law : LawfulBackground b) {d : List ℕ} {used : ℕ} {t bad full : List ℕ} (S : Standing b d used t bad full) where
   entries-few : length (entriesOf d) ≤ 1008
   entries-few = omega (arith, entries-limit (sound-of-accepted Description 1 d (S .read) .blocks))
 
@@ -78,12 +78,12 @@ module _ {d : List ℕ} {used : ℕ} {t bad full : List ℕ} (S : Standing d use
   abbrev front : List ℕ
   front = take (used + 1) t
 
-  rows-are : tableRows front bad full ≡ write (nf unrestricted (placeOf (entriesOf d) 0))
-  rows-are = rows-normal (front-settled (S .slots-settled)) entries-few
+  rows-are : tableRows front bad full ≡ write (nf b (placeOf (entriesOf d) 0))
+  rows-are = rows-normal law (front-settled (S .slots-settled)) entries-few
 
   -- its rows are no more than its entries
   standing-rows : length (tableRows front bad full) ≤ length (entriesOf d)
-  standing-rows = rw rows-are (rows-few d)
+  standing-rows = rw rows-are (rows-few law d)
 
   -- and there is room for them, as for the slots
   module _ {last before order rows below : List ℕ} (R : Roomy d t bad full last before order rows below) where
@@ -115,7 +115,7 @@ module _ {d : List ℕ} {used : ℕ} {t bad full : List ℕ} (S : Standing d use
     rows-held R = omega (arith, pushed-total (tableRows front bad full) P, standing-few R)
 
     -- they are written as answered
-    pub rows-written : (out : List ℕ) → r ≤ w → length d ≤ length out → (normaliseOf d out ≡ Normalised r) × (written out rows r ≡ normalisedOf d out)
+    pub rows-written : (out : List ℕ) → r ≤ w → length d ≤ length out → (normaliseOf b d out ≡ Normalised r) × (written out rows r ≡ normalisedOf b d out)
     rows-written out m l =
-        normal-written d out (record { total = S .total; read = S .read; room = l }) (all-bounded d (S .slots-settled .tabled .bounded)) rows r (omega (arith, m, P .size))
+        normal-written law d out (record { total = S .total; read = S .read; room = l }) (all-bounded d (S .slots-settled .tabled .bounded)) rows r (omega (arith, m, P .size))
         (P .held ∙ ap (map rowNumber) rows-are)

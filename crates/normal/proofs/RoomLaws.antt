@@ -13,6 +13,7 @@ use Rattle.blocks.specs.Entries.{entriesOf}
 use Rattle.blocks.specs.Reading.{readingOf}
 use Rattle.blocks.specs.declared.Reading.the-variants as reading
 use Rattle.blocks.specs.declared.Schema.the-variants.{Description}
+use Rattle.logic.specs.Background.{standing}
 use Rattle.normal.specs.code.Emitted.{Roomy}
 use Rattle.slots.proofs.FailingLaws.{accepted-few}
 use Rattle.slots.proofs.PassLaws.{blank-zeros}
@@ -60,12 +61,12 @@ module _ {d t bad full last before order rows below : List ℕ} (R : Roomy d t b
   roomy-again e f g = record { entries = R .entries; slots-room = e ∙ R .slots-room; bad-room = f ∙ R .bad-room; full-room = g ∙ R .full-room; lent = R .lent }
 
   -- where there is room, what is refused is refused by reading
-  pub roomy-refused : {r : Slotting} {k i p : ℕ} → r ≡ slottingOf (roomIn t bad full) d → r ≡ Refused k i p → readingOf Description 1 d ≡ reading.Refused k i p
+  pub roomy-refused : {r : Slotting} {k i p : ℕ} → r ≡ slottingOf standing (roomIn t bad full) d → r ≡ Refused k i p → readingOf Description 1 d ≡ reading.Refused k i p
   unfolding slottingOf
   roomy-refused {r} {k} {i} {p} e f =
       reading-cases (readingOf Description 1 d)
       (λ k′ i′ p′ q.
-      let s : slottingOf (roomIn t bad full) d ≡ Refused k′ i′ p′ = rw (slottingOf, q) in
+      let s : slottingOf standing (roomIn t bad full) d ≡ Refused k′ i′ p′ = rw (slottingOf, q) in
       let a : k′ ≡ k = cc in
       let b : i′ ≡ i = cc in
       let c : p′ ≡ p = cc in
@@ -73,6 +74,6 @@ module _ {d t bad full last before order rows below : List ℕ} (R : Roomy d t b
       (λ n q.
       let more : length (entriesOf d) < roomIn t bad full = omega (arith, R .entries n q, R .slots-room, R .bad-room, R .full-room, accepted-few 1 d q .0) in
       let there : ltb (length (entriesOf d)) (roomIn t bad full) ≡ true = lt-ltb more in
-      let s : slottingOf (roomIn t bad full) d ≡ Filled (length (slotsOf d)) = rw (slottingOf, q, there) in
+      let s : slottingOf standing (roomIn t bad full) d ≡ Filled (length (slotsOf standing d)) = rw (slottingOf, q, there) in
       let z : _≡_ {A = ℕ} 0 1 = cc in
       absurd (omega arith))

@@ -1,4 +1,4 @@
--- The normal form's answer, and its output.
+-- The normal form's answer, and its output, for the records that keep a background.
 -- Assumes nothing.
 use Prim.Native.Nat.{_*_, ℕ}
 use lib.Dec.{ltb}
@@ -11,28 +11,29 @@ use Rattle.blocks.specs.Frame.{plain}
 use Rattle.blocks.specs.Reading.{readingOf, unlessRefused}
 use Rattle.blocks.specs.declared.Reading.{Reading}
 use Rattle.blocks.specs.declared.Schema.the-variants.{Description}
+use Rattle.logic.specs.Background.{Background}
 use Rattle.meaning.specs.NormalEntries.{normalEntries}
 use Rattle.normal.specs.declared.NormalAnswer.{NormalAnswer}
 use Rattle.normal.specs.declared.NormalAnswer.the-variants.{Normalised, Refused}
 
 -- "One input; the output is at least as long"; 7 otherwise, "0 for number 7". "The answer is the number of entries."
-abbrev pub roomOf : List ℕ → List ℕ → NormalAnswer
-roomOf d out = cond (ltb (length out) (length d)) (Refused 7 0 0) (Normalised (length (normalEntries (entriesOf d))))
+abbrev pub roomOf : Background → List ℕ → List ℕ → NormalAnswer
+roomOf b d out = cond (ltb (length out) (length d)) (Refused 7 0 0) (Normalised (length (normalEntries b (entriesOf d))))
 
-abbrev pub readOf : List ℕ → List ℕ → Reading → NormalAnswer
-readOf d out r = unlessRefused Refused r (roomOf d out)
+abbrev pub readOf : Background → List ℕ → List ℕ → Reading → NormalAnswer
+readOf b d out r = unlessRefused Refused r (roomOf b d out)
 
 -- "Order: input 1 in full, .. then 7."
-unfoldable pub normaliseOf : List ℕ → List ℕ → NormalAnswer
-normaliseOf d out = readOf d out (readingOf Description 1 d)
+unfoldable pub normaliseOf : Background → List ℕ → List ℕ → NormalAnswer
+normaliseOf b d out = readOf b d out (readingOf Description 1 d)
 
 -- the output after each answer: "Written in blocks from the start of the output"; "later bytes stay"; a refusal leaves it "unchanged"
-abbrev pub outputAfter : List ℕ → List ℕ → NormalAnswer → List ℕ
-outputAfter d out (Normalised k) = encode (normalEntries (entriesOf d)) ++ drop (512 * blocksFor plain k) out
-outputAfter d out (Refused k i p) = out
+abbrev pub outputAfter : Background → List ℕ → List ℕ → NormalAnswer → List ℕ
+outputAfter b d out (Normalised k) = encode (normalEntries b (entriesOf d)) ++ drop (512 * blocksFor plain k) out
+outputAfter b d out (Refused k i p) = out
 
-unfoldable pub normalisedOf : List ℕ → List ℕ → List ℕ
-normalisedOf d out = outputAfter d out (normaliseOf d out)
+unfoldable pub normalisedOf : Background → List ℕ → List ℕ → List ℕ
+normalisedOf b d out = outputAfter b d out (normaliseOf b d out)
 
 -- The paper's numbers for each case: the number of entries; the number returned, the input and the place. 0 where a case has none.
 pub record Returned : Type 0 where

@@ -1,6 +1,6 @@
 -- What the promises of the normal form speak of: the same items, and what the answer says of the output.
 -- Assumes nothing.
-use Prim.Native.Nat.{_*_, _<_, _≤_, ℕ}
+use Prim.Native.Nat.{_*_, _≤_, ℕ}
 use lib.ListN.{drop, length}
 use mathlib.Core.List.{List, _++_}
 use mathlib.Core.Path.{_≡_}
@@ -12,7 +12,8 @@ use Rattle.blocks.specs.Reading.{readingOf}
 use Rattle.blocks.specs.declared.Entry.{Entry}
 use Rattle.blocks.specs.declared.Reading.the-variants as reading
 use Rattle.blocks.specs.declared.Schema.the-variants.{Description}
-use Rattle.logic.specs.Record.{Record, fits}
+use Rattle.logic.specs.Background.{Background}
+use Rattle.logic.specs.Meaning.{Equivalent}
 use Rattle.meaning.specs.Description.{placeOf}
 use Rattle.meaning.specs.NormalEntries.{normalEntries}
 use Rattle.meaning.specs.NormalExamples.{Line, normalises}
@@ -21,43 +22,43 @@ use Rattle.meaning.specs.Rules.{Applies}
 use Rattle.normal.specs.Answer.{normaliseOf, normalisedOf}
 use Rattle.normal.specs.declared.NormalAnswer.the-variants.{Normalised}
 
--- the same items fit both inputs, in every finite record
-abbrev pub SameItems : List ℕ → List ℕ → Type 0
-SameItems c d = (r : Record) (x : ℕ) → x < r .size → fits r (placeOf (entriesOf c) 0) x ≡ fits r (placeOf (entriesOf d) 0) x
+-- the same items fit both inputs, in every finite record that keeps the background
+abbrev pub SameItems : Background → List ℕ → List ℕ → Type 0
+SameItems b c d = Equivalent b (placeOf (entriesOf c) 0) (placeOf (entriesOf d) 0)
 
 -- What the answer that the normal form has k entries says of the output.
-pub record Normalises (d out : List ℕ) (k : ℕ) : Type 0 where
+pub record Normalises (b : Background) (d out : List ℕ) (k : ℕ) : Type 0 where
   -- the blocks fit the output, are no more than those of the input, and later bytes are unchanged
   pub room : 512 * blocksFor plain k ≤ length out
   pub shorter : 512 * blocksFor plain k ≤ length d
-  pub later : drop (512 * blocksFor plain k) (normalisedOf d out) ≡ drop (512 * blocksFor plain k) out
+  pub later : drop (512 * blocksFor plain k) (normalisedOf b d out) ≡ drop (512 * blocksFor plain k) out
   -- they are a description of k entries, no more than the input has
-  pub blocks : firstBlocks k (normalisedOf d out) ≡ encode (normalEntries (entriesOf d))
-  pub accepted : readingOf Description 1 (firstBlocks k (normalisedOf d out)) ≡ reading.Accepted k
+  pub blocks : firstBlocks k (normalisedOf b d out) ≡ encode (normalEntries b (entriesOf d))
+  pub accepted : readingOf Description 1 (firstBlocks k (normalisedOf b d out)) ≡ reading.Accepted k
   pub few : k ≤ length (entriesOf d)
-  pub ascending : Sorted entryBefore (entriesOf (firstBlocks k (normalisedOf d out)))
+  pub ascending : Sorted entryBefore (entriesOf (firstBlocks k (normalisedOf b d out)))
   -- "none of the nine rules applies" to the entries that are read back from them, nor that equal entries become one
-  pub irreducible : (n : ℕ) → Applies n (entriesOf (firstBlocks k (normalisedOf d out))) → ⊥
+  pub irreducible : (n : ℕ) → Applies b n (entriesOf (firstBlocks k (normalisedOf b d out))) → ⊥
   -- the same items fit them as the input
-  pub same : SameItems (firstBlocks k (normalisedOf d out)) d
+  pub same : SameItems b (firstBlocks k (normalisedOf b d out)) d
   -- they are normalised to themselves, into any output that is as long
   pub again : (out′ : List ℕ) → 512 * blocksFor plain k ≤ length out′
-      → (normaliseOf (firstBlocks k (normalisedOf d out)) out′ ≡ Normalised k)
-      × (firstBlocks k (normalisedOf (firstBlocks k (normalisedOf d out)) out′) ≡ firstBlocks k (normalisedOf d out))
+      → (normaliseOf b (firstBlocks k (normalisedOf b d out)) out′ ≡ Normalised k)
+      × (firstBlocks k (normalisedOf b (firstBlocks k (normalisedOf b d out)) out′) ≡ firstBlocks k (normalisedOf b d out))
 
 -- the entries c as blocks give the number of the entries n, and their blocks at the start of each output that is long enough
-abbrev pub NormalisedAs : List Entry → List Entry → Type 0
-NormalisedAs c n =
+abbrev pub NormalisedAs : Background → List Entry → List Entry → Type 0
+NormalisedAs b c n =
     (out : List ℕ) → length (encode c) ≤ length out
-    → (normaliseOf (encode c) out ≡ Normalised (length n)) × (normalisedOf (encode c) out ≡ encode n ++ drop (512 * blocksFor plain (length n)) out)
+    → (normaliseOf b (encode c) out ≡ Normalised (length n)) × (normalisedOf b (encode c) out ≡ encode n ++ drop (512 * blocksFor plain (length n)) out)
 
 -- what a line of the examples says
-abbrev pub Right : Line → Type 0
-Right (normalises c n) = NormalisedAs c n
+abbrev pub Right : Background → Line → Type 0
+Right b (normalises c n) = NormalisedAs b c n
 
 -- "The rules leave nothing out": what holds of an accepted description whose entries ascend, and to which none of them applies. It is
 -- normalised to its own bytes, into each output that is as long
-abbrev pub OwnNormalForm : List ℕ → Type 0
-OwnNormalForm d =
+abbrev pub OwnNormalForm : Background → List ℕ → Type 0
+OwnNormalForm b d =
     (out : List ℕ) → length d ≤ length out
-    → (normaliseOf d out ≡ Normalised (length (entriesOf d))) × (normalisedOf d out ≡ d ++ drop (length d) out)
+    → (normaliseOf b d out ≡ Normalised (length (entriesOf d))) × (normalisedOf b d out ≡ d ++ drop (length d) out)

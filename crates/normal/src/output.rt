@@ -2,6 +2,7 @@
 ghost use mathlib.Core.Path.{_≡_};
 ghost use Prim.Native.Nat.{_≤_};
 ghost use lib.ListN.{length};
+ghost use Rattle.logic.specs.Background.{standing};
 ghost use Rattle.normal.specs.Answer.{normaliseOf, normalisedOf};
 ghost use Rattle.normal.specs.code.Emitted.{Roomy};
 ghost use Rattle.slots.specs.code.Standing.{Standing};
@@ -23,8 +24,8 @@ fn write_normal(
     below: &mut [u16],
     out: &mut [u8],
 ) -> NormalAnswer
-    requires { ⌜ Standing (now d) used (now table) (now bad) (now full) × Roomy (now d) (now table) (now bad) (now full) (now last) (now before) (now order) (now rows) (now below) ⌝ }
-    ensures { λ r. ⌜ (r ≡ normaliseOf (now (d .entry)) (now (out .entry))) × (now (out .exit) ≡ normalisedOf (now (d .entry)) (now (out .entry))) ⌝ }
+    requires { ⌜ Standing standing (now d) used (now table) (now bad) (now full) × Roomy (now d) (now table) (now bad) (now full) (now last) (now before) (now order) (now rows) (now below) ⌝ }
+    ensures { λ r. ⌜ (r ≡ normaliseOf standing (now (d .entry)) (now (out .entry))) × (now (out .exit) ≡ normalisedOf standing (now (d .entry)) (now (out .entry))) ⌝ }
 {
     if out.len() < d.len() {
         return NormalAnswer::Refused(7, 0, 0);
@@ -57,7 +58,7 @@ fn normalise_in(
     out: &mut [u8],
 ) -> NormalAnswer
     requires { ⌜ Roomy (now d) (now table) (now bad) (now full) (now last) (now before) (now order) (now rows) (now below) ⌝ }
-    ensures { λ r. ⌜ (r ≡ normaliseOf (now (d .entry)) (now (out .entry))) × (now (out .exit) ≡ normalisedOf (now (d .entry)) (now (out .entry))) ⌝ }
+    ensures { λ r. ⌜ (r ≡ normaliseOf standing (now (d .entry)) (now (out .entry))) × (now (out .exit) ≡ normalisedOf standing (now (d .entry)) (now (out .entry))) ⌝ }
 {
     let slotting = slots::fill(d, table, bad, full);
     match slotting {
@@ -81,7 +82,7 @@ fn normalise_in(
 // The answer for a description of one block, or none: small tables are sooner cleared.
 fn normalise_few(d: &[u8], out: &mut [u8]) -> NormalAnswer
     requires { ⌜ length (now d) ≤ 512 ⌝ }
-    ensures { λ r. ⌜ (r ≡ normaliseOf (now (d .entry)) (now (out .entry))) × (now (out .exit) ≡ normalisedOf (now (d .entry)) (now (out .entry))) ⌝ }
+    ensures { λ r. ⌜ (r ≡ normaliseOf standing (now (d .entry)) (now (out .entry))) × (now (out .exit) ≡ normalisedOf standing (now (d .entry)) (now (out .entry))) ⌝ }
 {
     let mut table = [0u64; 64];
     let mut bad = [0u8; 64];
@@ -107,7 +108,7 @@ fn normalise_few(d: &[u8], out: &mut [u8]) -> NormalAnswer
 
 // The same for any.
 fn normalise_many(d: &[u8], out: &mut [u8]) -> NormalAnswer
-    ensures { λ r. ⌜ (r ≡ normaliseOf (now (d .entry)) (now (out .entry))) × (now (out .exit) ≡ normalisedOf (now (d .entry)) (now (out .entry))) ⌝ }
+    ensures { λ r. ⌜ (r ≡ normaliseOf standing (now (d .entry)) (now (out .entry))) × (now (out .exit) ≡ normalisedOf standing (now (d .entry)) (now (out .entry))) ⌝ }
 {
     let mut table = [0u64; 1009];
     let mut bad = [0u8; 1009];
@@ -135,7 +136,7 @@ fn normalise_many(d: &[u8], out: &mut [u8]) -> NormalAnswer
 // returns its number of entries; later bytes stay. Where the description is refused, or the output is shorter, the refusal is returned
 // and no byte changes.
 pub fn normalise(description: &[u8], out: &mut [u8]) -> NormalAnswer
-    ensures { λ r. ⌜ (r ≡ normaliseOf (now (description .entry)) (now (out .entry))) × (now (out .exit) ≡ normalisedOf (now (description .entry)) (now (out .entry))) ⌝ }
+    ensures { λ r. ⌜ (r ≡ normaliseOf standing (now (description .entry)) (now (out .entry))) × (now (out .exit) ≡ normalisedOf standing (now (description .entry)) (now (out .entry))) ⌝ }
 {
     if description.len() <= 512 {
         return normalise_few(description, out);

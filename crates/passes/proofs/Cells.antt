@@ -8,7 +8,11 @@ pub mod WrittenPasses
 pub mod WrittenMeaning
 -- The cells of one place: each name once, and the same in whatever order.
 pub mod CellLaws
--- A place that is written from sorted cells, none of which is broken, is normal.
+-- Which properties are excluded at a place that is written from cells: those that its slots exclude.
+pub mod WrittenExcludes
+-- The cells of slots under a background: where none is broken, all that they say tells something.
+pub mod CellsTell
+-- A place that is written from sorted cells, none of which is broken and all of which tell something, is normal.
 pub mod WrittenNormal
 -- The place that is written from the cells of a place, kind by kind, and its order.
 pub mod CellsWritten

@@ -4,7 +4,7 @@
 pub mod Exact
 -- The fast normal form of small descriptions, by computing.
 pub mod SlotExamples
--- One sorting of all slots sorts the cells of each place.
+-- The tags of a place among those of all slots are its cells.
 pub mod TagParts
 -- The walk over the cells writes the rows of the places, one after the other.
 pub mod WalkRows

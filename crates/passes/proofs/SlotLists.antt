@@ -8,6 +8,12 @@ pub mod SlotBounds
 pub mod SlotMeaning
 -- The first pass: the slots of a description ask of the top what the description asks.
 pub mod BuildSound
+-- Slots that differ in their bounds alone: what goes by places, classes and names is the same of them.
+pub mod SameKeys
+-- Slots under a background have the keys, lower bounds and number of the slots.
+pub mod RestrictLaws
+-- Slots under a background ask what they asked, of the items of the records that keep it.
+pub mod RestrictMeaning
 -- Slots by their numbers: the slot of a key, and what a place lists of it.
 pub mod SlotNumbers
 -- Keys as numbers.

@@ -9,7 +9,7 @@ ghost use Rattle.blocks.specs.Reading.{answer, readingOf};
 ghost use Rattle.blocks.specs.code.ReadingSteps.{blocksRead};
 ghost use Rattle.blocks.specs.declared.Schema.{Schema};
 use crate::frame::first_block_fault;
-use crate::rules::first_entry_fault;
+use crate::single::first_entry_fault;
 use blocks::Finding;
 use blocks::Reading;
 use blocks::Schema;

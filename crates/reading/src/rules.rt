@@ -3,9 +3,9 @@ ghost use mathlib.Core.Path.{_≡_};
 ghost use Prim.Native.Nat.{_+_, _*_, _/_, _≤_, _<_};
 ghost use lib.ListN.{length};
 ghost use Rattle.blocks.specs.Entries.{kindOk, nameOk, numberOk, formOk, owningKind, entriesOf, entryFrom};
-ghost use Rattle.blocks.specs.Faults.{entryFaults, first};
+ghost use Rattle.blocks.specs.Faults.{first};
 ghost use Rattle.blocks.specs.code.Blockwise.{InBlock, Whole};
-ghost use Rattle.blocks.specs.code.ReadingSteps.{Levels, levelBy, entryRefusal, levelUnder};
+ghost use Rattle.blocks.specs.code.ReadingSteps.{Levels, levelBy, entryRefusal, levelUnder, ruleFaults};
 ghost use Rattle.blocks.specs.declared.Finding.{Finding};
 use blocks::Entry;
 use blocks::Finding;
@@ -14,7 +14,7 @@ use blocks::entry_of_bytes;
 use blocks::next_count;
 
 // The entry whose 8 bytes start at an index: a pass over a block knows that they are there.
-fn entry_from(s: &[u8], at: usize) -> Entry
+pub(crate) fn entry_from(s: &[u8], at: usize) -> Entry
     requires { ⌜ at + 8 ≤ length (now s) ⌝ }
     ensures { λ r. ⌜ r ≡ entryFrom (now (s .entry)) at ⌝ }
 {
@@ -133,7 +133,7 @@ fn fault_in_block(
     level: &mut [u8],
 ) -> Finding
     requires { ⌜ (length (entriesOf (now s)) ≤ 2016) × InBlock (now s) from count done × Levels schema (entriesOf (now s)) (now level) (done + 1) ⌝ }
-    ensures { λ r. ⌜ (r ≡ first (entryFaults schema (entriesOf (now (s .entry))) (done + 1) count))
+    ensures { λ r. ⌜ (r ≡ first (ruleFaults schema (entriesOf (now (s .entry))) (done + 1) count))
         × (r ≡ Finding.Clean → Levels schema (entriesOf (now (s .entry))) (now (level .exit)) (done + count + 1)) ⌝ }
 {
     let mut i: usize = 0;
@@ -155,7 +155,7 @@ fn fault_in_block(
 // The lowest of `total` entries that breaks number 4, 5 or 6, block by block, with a table of levels that has a number for each.
 fn fault_by_levels(s: &[u8], schema: Schema, total: usize, level: &mut [u8]) -> Finding
     requires { ⌜ (total ≡ length (entriesOf (now s))) × (total ≤ 2016) × Whole (now s) total × (total < length (now level)) ⌝ }
-    ensures { λ r. ⌜ r ≡ first (entryFaults schema (entriesOf (now (s .entry))) 1 total) ⌝ }
+    ensures { λ r. ⌜ r ≡ first (ruleFaults schema (entriesOf (now (s .entry))) 1 total) ⌝ }
 {
     level[0] = 1;
     let mut n: usize = 0;
@@ -179,7 +179,7 @@ fn fault_by_levels(s: &[u8], schema: Schema, total: usize, level: &mut [u8]) -> 
 // The same with a table of its own, for at most 63 entries.
 fn few_entries_fault(s: &[u8], schema: Schema, total: usize) -> Finding
     requires { ⌜ (total ≡ length (entriesOf (now s))) × (total < 64) × Whole (now s) total ⌝ }
-    ensures { λ r. ⌜ r ≡ first (entryFaults schema (entriesOf (now (s .entry))) 1 total) ⌝ }
+    ensures { λ r. ⌜ r ≡ first (ruleFaults schema (entriesOf (now (s .entry))) 1 total) ⌝ }
 {
     let mut level = [0u8; 64];
     fault_by_levels(s, schema, total, &mut level)
@@ -188,16 +188,16 @@ fn few_entries_fault(s: &[u8], schema: Schema, total: usize) -> Finding
 // The same for any number.
 fn many_entries_fault(s: &[u8], schema: Schema, total: usize) -> Finding
     requires { ⌜ (total ≡ length (entriesOf (now s))) × (total ≤ 2016) × Whole (now s) total ⌝ }
-    ensures { λ r. ⌜ r ≡ first (entryFaults schema (entriesOf (now (s .entry))) 1 total) ⌝ }
+    ensures { λ r. ⌜ r ≡ first (ruleFaults schema (entriesOf (now (s .entry))) 1 total) ⌝ }
 {
     let mut level = [0u8; 2017];
     fault_by_levels(s, schema, total, &mut level)
 }
 
 // The lowest of `total` entries that breaks number 4, 5 or 6. Few entries take a small table, which is sooner cleared.
-pub(crate) fn first_entry_fault(s: &[u8], schema: Schema, total: usize) -> Finding
+pub(crate) fn first_rule_fault(s: &[u8], schema: Schema, total: usize) -> Finding
     requires { ⌜ (total ≡ length (entriesOf (now s))) × (total ≤ 2016) × (512 * ((total + 62) / 63) ≤ length (now s)) ⌝ }
-    ensures { λ r. ⌜ r ≡ first (entryFaults schema (entriesOf (now (s .entry))) 1 total) ⌝ }
+    ensures { λ r. ⌜ r ≡ first (ruleFaults schema (entriesOf (now (s .entry))) 1 total) ⌝ }
 {
     if total < 64 {
         return few_entries_fault(s, schema, total);

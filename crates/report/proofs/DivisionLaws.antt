@@ -14,6 +14,7 @@ use Rattle.blocks.specs.Frame.{blocksIn}
 use Rattle.blocks.specs.Words.{wordAt}
 use Rattle.compare.specs.Answer.{compareOf, outputOf}
 use Rattle.compare.specs.declared.Comparison.{Comparison}
+use Rattle.logic.specs.Background.{standing}
 use Rattle.report.specs.Division.{divisionFrom, firstLength, firstPart, secondPart}
 
 module _ (s : List ℕ) where
@@ -39,8 +40,8 @@ module _ (s : List ℕ) where
 
 -- what the code compares, cut at the length of the first part, are the two parts
 pub parts-compared : (s out : List ℕ) {f : ℕ} {r : Comparison} {o : List ℕ} → f ≡ firstLength s
-    → (r ≡ compareOf (take (f - 0) (drop 0 s)) (take (length s - f) (drop f s)) out) × (o ≡ outputOf (take (f - 0) (drop 0 s)) (take (length s - f) (drop f s)) out)
-    → (r ≡ compareOf (firstPart s) (secondPart s) out) × (o ≡ outputOf (firstPart s) (secondPart s) out)
+    → (r ≡ compareOf standing (take (f - 0) (drop 0 s)) (take (length s - f) (drop f s)) out) × (o ≡ outputOf standing (take (f - 0) (drop 0 s)) (take (length s - f) (drop f s)) out)
+    → (r ≡ compareOf standing (firstPart s) (secondPart s) out) × (o ≡ outputOf standing (firstPart s) (secondPart s) out)
 parts-compared s out {f} e p =
     let all : take (length s - f) (drop f s) ≡ drop f s = ap (λ (k : ℕ). take k (drop f s)) (sym (length-drop f s)) ∙ take-length (drop f s) in
     rw (← e) (rw (all, sub-zero f) at p)

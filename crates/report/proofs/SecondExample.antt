@@ -10,6 +10,7 @@ use Rattle.blocks.specs.Encoding.{blocksFor, encode}
 use Rattle.blocks.specs.declared.Entry.{Entry}
 use Rattle.compare.proofs.AnswerLaws.{not-contained-ready}
 use Rattle.compare.proofs.Cases.{lines-right}
+use Rattle.logic.specs.Background.{standing}
 use Rattle.meaning.specs.StarredCases.{compares, lines, outside}
 use Rattle.report.proofs.Printed.{joined-printed, linesFor, printed}
 use Rattle.report.proofs.PrintedText.{program-text}
@@ -58,7 +59,7 @@ second-example out h =
     let c = encode c₂ in
     let d = encode d₂ in
     let right = lines-right (compares c₂ d₂ (outside 3 shown₂)) (List·Memᴰ·tail (List·Memᴰ·tail (List·Memᴰ·head refl))) out (room-for out h) in
-    let ready = not-contained-ready c d out (right .0) in
+    let ready = not-contained-ready standing c d out (right .0) in
     let shown : linesFor c d out ≡ NotContained 3 ∷ entryLines 1 shown₂ = rw (linesOf, right .0, right .1, lines-written shown₂) in
     ap linesText (joined-printed c d out (ready .first-read) (ready .second-read) ∙ shown) ∙ lines-text
 

@@ -6,6 +6,7 @@ use mathlib.Core.List.{List, [], _++_, _∷_}
 use mathlib.Core.Path.{_≡_}
 use Rattle.compare.specs.Answer.{compareOf, outputOf}
 use Rattle.compare.specs.declared.Comparison.{Comparison}
+use Rattle.logic.specs.Background.{standing}
 use Rattle.report.specs.Division.{Begins, firstPart, secondPart}
 use Rattle.report.specs.Lines.{specimenLines}
 use Rattle.report.specs.Text.{inputBytes, lineOf, lineText}
@@ -50,6 +51,6 @@ lent = replicate inputBytes 0
 pub record Prints (s t : List ℕ) : Type 0 where
   pub answer : Comparison
   pub blocks : List ℕ
-  pub answered : answer ≡ compareOf (firstPart s) (secondPart s) lent
-  pub shown : blocks ≡ outputOf (firstPart s) (secondPart s) lent
+  pub answered : answer ≡ compareOf standing (firstPart s) (secondPart s) lent
+  pub shown : blocks ≡ outputOf standing (firstPart s) (secondPart s) lent
   pub written : Writes answer blocks 0 (suc (specimenLines answer)) t

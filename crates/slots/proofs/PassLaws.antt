@@ -13,11 +13,14 @@ use Rattle.base.proofs.Tests.{bool-cases, eq-cases}
 use Rattle.blocks.proofs.Refusing.Bounds.{AllBounded}
 use Rattle.blocks.specs.Entries.{Bounded, entriesOf, nth, zeroEntry}
 use Rattle.blocks.specs.declared.Entry.{Entry}
+use Rattle.logic.specs.Background.{Background}
 use Rattle.meaning.specs.Description.{rowOf}
-use Rattle.passes.proofs.SlotLists.KeyLaws.{slots-small}
-use Rattle.passes.proofs.SlotLists.SlotLaws.{slots-early}
+use Rattle.passes.proofs.CellPlaces.FormSettled.{settled-keys}
+use Rattle.passes.proofs.SlotLists.RestrictLaws.{under-early, under-small}
+use Rattle.passes.proofs.SlotLists.SameKeys.{same-length}
 use Rattle.passes.specs.code.Keys.{SmallRows, SmallSlots, SmallTop}
-use Rattle.passes.specs.code.Slots.{EarlySlots, Slot, closed, inconsistent, settled, slot, slots}
+use Rattle.passes.specs.code.Restrict.{slotsUnder}
+use Rattle.passes.specs.code.Slots.{EarlySlots, Slot, closed, inconsistent, settled, slot}
 use Rattle.slots.proofs.slots.TableLaws.{length-slots}
 use Rattle.slots.specs.code.Tables.{Blank, Built, Placed, Settled, Settling, Tabled, keyIn, lowPart, slotIn, slotsFrom, slotsOf}
 
@@ -51,9 +54,7 @@ small-settled k [] s = tt
 small-settled k (slot u b n lo hi ∷ ss) s = ((s .0 .0, s .0 .1, small-closed (b && inconsistent (suc k) ss k) hi (s .0 .2)), small-settled (suc k) ss (s .1))
 
 pub length-settled : (k : ℕ) (ss : List Slot) → length (settled k ss) ≡ length ss
-unfolding settled
-length-settled k [] = refl
-length-settled k (slot u b n lo hi ∷ ss) = omega (arith, length-settled (suc k) ss)
+length-settled k ss = same-length (settled k ss) ss (settled-keys k ss)
 
 -- ---- the entries
 
@@ -70,37 +71,41 @@ unfolding nth
 all-bounded d h = record { each = λ k l. h (suc k) (omega arith) (omega arith) }
 
 -- the lower bounds of settled slots in a table
-pub settled-low : {d : List ℕ} {used : ℕ} {t : List ℕ} → Tabled d used t → (j : ℕ) → 1 ≤ j → j ≤ used → lowPart (getD t j 0) < 65536
-settled-low {d} {used} {t} s j lo hi =
+pub settled-low : {b : Background} {d : List ℕ} {used : ℕ} {t : List ℕ} → Tabled b d used t → (j : ℕ) → 1 ≤ j → j ≤ used
+    → lowPart (getD t j 0) < 65536
+settled-low {b} {d} {used} {t} s j lo hi =
     let rs = map rowOf (entriesOf d) in
-    let small = small-settled 1 (slots rs) (slots-small rs (rows-small (entriesOf d) (all-bounded d (s .bounded) .each))) in
+    let small = small-settled 1 (slotsUnder b rs) (under-small b rs (rows-small (entriesOf d) (all-bounded d (s .bounded) .each))) in
     low-at t 1 used (rw (← s .slotted) at small) j lo (omega arith)
 
 -- ---- the first pass and the second
 
-pub built-placed : {d : List ℕ} {used : ℕ} {o t next head : List ℕ} → Built d used o t next head → Placed t used
-built-placed {d} {used} {t = t} b =
-    record { lower = λ j lo hi. early-at t 1 used (rw (b .slotted) at (slots-early (map rowOf (entriesOf d)))) j lo (omega arith) }
+pub built-placed : {ss : List Slot} {d : List ℕ} {used : ℕ} {o t next head : List ℕ} → EarlySlots 1 ss → Built ss d used o t next head
+    → Placed t used
+built-placed {used = used} {t = t} e b =
+    record { lower = λ j lo hi. early-at t 1 used (rw (b .slotted) at e) j lo (omega arith) }
 
 -- as many slots stand in a table as the description has
-slots-counted : (d t : List ℕ) (used : ℕ) → slotsFrom t 1 used ≡ settled 1 (slotsOf d) → used ≡ length (slotsOf d)
-slots-counted d t used e = omega (arith, length-settled 1 (slotsOf d), ap length e, length-slots t 1 used)
+slots-counted : (ss : List Slot) (t : List ℕ) (used : ℕ) → slotsFrom t 1 used ≡ settled 1 ss → used ≡ length ss
+slots-counted ss t used e = omega (arith, length-settled 1 ss, ap length e, length-slots t 1 used)
 
-pub settled-from : {d : List ℕ} {used : ℕ} {o origin next head t bad full : List ℕ} → Built d used o origin next head → Settling origin used 0 t bad full
-    → length (entriesOf d) ≤ 1008 → Settled d used t bad full
-settled-from {d} {used} {t = t} b s few =
+pub settled-from : {b : Background} {d : List ℕ} {used : ℕ} {o origin next head t bad full : List ℕ}
+    → Built (slotsOf b d) d used o origin next head → Settling origin used 0 t bad full → length (entriesOf d) ≤ 1008
+    → Settled b d used t bad full
+settled-from {b} {d} {used} {t = t} k s few =
     let z : used - 0 ≡ used = omega arith in
-    let e = b .slotted in
-    let here : slotsFrom t 1 used ≡ settled 1 (slotsOf d) = rw (z, ← e) at (s .above) in
+    let e = k .slotted in
+    let early : EarlySlots 1 (slotsOf b d) = under-early b (map rowOf (entriesOf d)) in
+    let here : slotsFrom t 1 used ≡ settled 1 (slotsOf b d) = rw (z, ← e) at (s .above) in
     record {
       tabled = record {
-        few = omega (arith, b .few, few);
-        room = rw (s .size) (b .kept .room);
-        counted = slots-counted d t used here;
+        few = omega (arith, k .few, few);
+        room = rw (s .size) (k .kept .room);
+        counted = slots-counted (slotsOf b d) t used here;
         slotted = here;
-        apart = λ i j lo l hi. rw (s .keys i, s .keys j) (b .kept .apart i j lo l hi);
-        lower = λ j lo hi. rw (s .keys j) (built-placed b .lower j lo hi);
-        bounded = b .bounded;
+        apart = λ i j lo l hi. rw (s .keys i, s .keys j) (k .kept .apart i j lo l hi);
+        lower = λ j lo hi. rw (s .keys j) (built-placed early k .lower j lo hi);
+        bounded = k .bounded;
       };
       bads = λ v. rw (z, ← e) at (s .bads v);
       fulls = λ v. rw (z, ← e) at (s .fulls v);

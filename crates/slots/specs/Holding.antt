@@ -9,17 +9,15 @@ use mathlib.Core.Option.{Option, none, some}
 use Rattle.blocks.specs.Entries.{entriesOf}
 use Rattle.blocks.specs.Reading.{readingOf, unlessRefused}
 use Rattle.blocks.specs.declared.Schema.the-variants.{Description}
-use Rattle.logic.specs.Background.{unrestricted}
-use Rattle.logic.specs.Normal.{nf}
-use Rattle.meaning.specs.Description.{placeOf}
-use Rattle.meaning.specs.First.{firstFailing}
+use Rattle.logic.specs.Background.{Background}
+use Rattle.meaning.specs.Failing.{failing}
 use Rattle.slots.specs.code.Tables.{slotsOf}
 use Rattle.slots.specs.declared.Holding.{Holding}
 use Rattle.slots.specs.declared.Holding.the-variants.{All, Fails, Refused}
 
--- the number of the first entry of d that the normal form of c does not hold, 0 where it holds all
-unfoldable pub failingIn : List ℕ → List ℕ → ℕ
-failingIn c d = firstFailing unrestricted (nf unrestricted (placeOf (entriesOf c) 0)) (entriesOf d)
+-- the number of the first entry of d that the normal form of c does not hold, 0 where it holds all, for the records that keep a background
+unfoldable pub failingIn : Background → List ℕ → List ℕ → ℕ
+failingIn b c d = failing b (entriesOf c) (entriesOf d)
 
 -- the answer where both are accepted, by the number of slots and that number
 abbrev pub holdingBy : ℕ → ℕ → Holding
@@ -30,10 +28,10 @@ abbrev pub whereRoom : {A : Type 0} → ℕ → List ℕ → A → A → A
 whereRoom room d short a = cond (ltb (length (entriesOf d)) room) a short
 
 -- "input 1 in full, input 2 in full, then 7", with so many numbers in the lent table
-unfoldable pub holdingOf : ℕ → List ℕ → List ℕ → Holding
-holdingOf room c d =
+unfoldable pub holdingOf : Background → ℕ → List ℕ → List ℕ → Holding
+holdingOf b room c d =
     unlessRefused Refused (readingOf Description 1 c) (unlessRefused Refused (readingOf Description 2 d)
-    (whereRoom room c (Refused 7 0 0) (holdingBy (length (slotsOf c)) (failingIn c d))))
+    (whereRoom room c (Refused 7 0 0) (holdingBy (length (slotsOf b c)) (failingIn b c d))))
 
 -- The paper's numbers for each case: whether all hold, and neither where an input is refused; the number of the first that fails; the
 -- number returned, the input and the place. 0 where a case has none.

@@ -7,7 +7,7 @@ ghost use lib.ListN.{length};
 ghost use Rattle.blocks.specs.Entries.{entriesOf};
 ghost use Rattle.blocks.specs.code.Blockwise.{InBlock};
 ghost use Rattle.meaning.specs.Owned.{Owned};
-ghost use Rattle.slots.specs.code.Tables.{Building, Built, Exact, Readable, Workspace, boundsBase, boundsTimes, highKind, highPart, lowKind, lowPart, noBound};
+ghost use Rattle.slots.specs.code.Tables.{Building, Built, Exact, Readable, Workspace, boundsBase, boundsTimes, builtSlots, highKind, highPart, lowKind, lowPart, noBound};
 use crate::entries::entry_from;
 use crate::slots::enter;
 use crate::slots::entry_key;
@@ -102,7 +102,7 @@ pub(crate) fn build(
     node: &mut [u16],
 ) -> usize
     requires { ⌜ Readable (now d) total × (total < length (now table)) × Workspace total (now next) (now head) (now node) ⌝ }
-    ensures { λ r. ⌜ Built (now (d .entry)) r (now (table .entry)) (now (table .exit)) (now (next .exit)) (now (head .exit)) ⌝ }
+    ensures { λ r. ⌜ Built (builtSlots (now (d .entry))) (now (d .entry)) r (now (table .entry)) (now (table .exit)) (now (next .exit)) (now (head .exit)) ⌝ }
 {
     let mut used: usize = 0;
     let mut n: usize = 0;

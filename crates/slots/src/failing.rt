@@ -5,6 +5,7 @@ ghost use lib.ListN.{length};
 ghost use Rattle.blocks.specs.Reading.{readingOf};
 ghost use Rattle.blocks.specs.declared.Reading.{Reading};
 ghost use Rattle.blocks.specs.declared.Schema.{Schema};
+ghost use Rattle.logic.specs.Background.{standing};
 ghost use Rattle.slots.specs.Holding.{holdingBy, holdingOf};
 ghost use Rattle.slots.specs.code.Standing.{JudgedBy, Judges, tableJudged};
 ghost use Rattle.slots.specs.code.Tables.{Blank, Workspace};
@@ -42,7 +43,7 @@ fn judge(
 ) -> Holding
     requires { ⌜ (readingOf Schema.Description 1 (now c) ≡ Reading.Accepted n) × (readingOf Schema.Description 2 (now d) ≡ Reading.Accepted m) × (n < length (now table))
         × Workspace n (now next) (now head) (now node) × Blank n (now bad) × Blank n (now full) × (m < length (now states)) ⌝ }
-    ensures { λ r. ⌜ Judges (now (c .entry)) (now (d .entry)) (now (table .entry)) r (now (table .exit)) ⌝ }
+    ensures { λ r. ⌜ Judges standing (now (c .entry)) (now (d .entry)) (now (table .entry)) r (now (table .exit)) ⌝ }
 {
     let used = chained_slots(c, n, table, next, head, node, bad, full);
     if bad[0] != 0 {
@@ -55,7 +56,7 @@ fn judge(
 // The same with tables of its own for all but the slots, where both have at most 63 entries.
 fn judge_few(c: &[u8], n: usize, d: &[u8], m: usize, table: &mut [u64]) -> Holding
     requires { ⌜ (readingOf Schema.Description 1 (now c) ≡ Reading.Accepted n) × (readingOf Schema.Description 2 (now d) ≡ Reading.Accepted m) × (n < length (now table)) × (n < 64) × (m < 64) ⌝ }
-    ensures { λ r. ⌜ Judges (now (c .entry)) (now (d .entry)) (now (table .entry)) r (now (table .exit)) ⌝ }
+    ensures { λ r. ⌜ Judges standing (now (c .entry)) (now (d .entry)) (now (table .entry)) r (now (table .exit)) ⌝ }
 {
     let mut next = [0u16; 64];
     let mut head = [0u16; 61];
@@ -81,7 +82,7 @@ fn judge_few(c: &[u8], n: usize, d: &[u8], m: usize, table: &mut [u64]) -> Holdi
 // The same for any two.
 fn judge_many(c: &[u8], n: usize, d: &[u8], m: usize, table: &mut [u64]) -> Holding
     requires { ⌜ (readingOf Schema.Description 1 (now c) ≡ Reading.Accepted n) × (readingOf Schema.Description 2 (now d) ≡ Reading.Accepted m) × (n < length (now table)) ⌝ }
-    ensures { λ r. ⌜ Judges (now (c .entry)) (now (d .entry)) (now (table .entry)) r (now (table .exit)) ⌝ }
+    ensures { λ r. ⌜ Judges standing (now (c .entry)) (now (d .entry)) (now (table .entry)) r (now (table .exit)) ⌝ }
 {
     let mut next = [0u16; 1009];
     let mut head = [0u16; 1021];
@@ -108,7 +109,7 @@ fn judge_many(c: &[u8], n: usize, d: &[u8], m: usize, table: &mut [u64]) -> Hold
 // cleared.
 fn judge_read(c: &[u8], n: usize, d: &[u8], m: usize, table: &mut [u64]) -> Holding
     requires { ⌜ (readingOf Schema.Description 1 (now c) ≡ Reading.Accepted n) × (readingOf Schema.Description 2 (now d) ≡ Reading.Accepted m) ⌝ }
-    ensures { λ r. ⌜ Judges (now (c .entry)) (now (d .entry)) (now (table .entry)) r (now (table .exit)) ⌝ }
+    ensures { λ r. ⌜ Judges standing (now (c .entry)) (now (d .entry)) (now (table .entry)) r (now (table .exit)) ⌝ }
 {
     if table.len() <= n {
         return Holding::Refused(7, 0, 0);
@@ -122,7 +123,7 @@ fn judge_read(c: &[u8], n: usize, d: &[u8], m: usize, table: &mut [u64]) -> Hold
 // Reads the second description, where the first is accepted, with n entries.
 fn second_failing(c: &[u8], n: usize, d: &[u8], table: &mut [u64]) -> Holding
     requires { ⌜ readingOf Schema.Description 1 (now c) ≡ Reading.Accepted n ⌝ }
-    ensures { λ r. ⌜ Judges (now (c .entry)) (now (d .entry)) (now (table .entry)) r (now (table .exit)) ⌝ }
+    ensures { λ r. ⌜ Judges standing (now (c .entry)) (now (d .entry)) (now (table .entry)) r (now (table .exit)) ⌝ }
 {
     let reading = reading::read(d, Schema::Description, 2);
     match reading {
@@ -136,9 +137,9 @@ fn second_failing(c: &[u8], n: usize, d: &[u8], table: &mut [u64]) -> Holding
 // the table has no number for each entry of the first after number 0. Where an input is refused or it is 7, the table stays. Nothing is
 // sorted.
 pub fn first_failing(c: &[u8], d: &[u8], table: &mut [u64]) -> Holding
-    ensures { λ r. ⌜ (r ≡ holdingOf (length (now (table .entry))) (now (c .entry)) (now (d .entry)))
-        × (now (table .exit) ≡ tableJudged (now (c .entry)) (now (d .entry)) (now (table .entry)))
-        × JudgedBy (now (c .entry)) (now (d .entry)) (now (table .exit)) r ⌝ }
+    ensures { λ r. ⌜ (r ≡ holdingOf standing (length (now (table .entry))) (now (c .entry)) (now (d .entry)))
+        × (now (table .exit) ≡ tableJudged standing (now (c .entry)) (now (d .entry)) (now (table .entry)))
+        × JudgedBy standing (now (c .entry)) (now (d .entry)) (now (table .exit)) r ⌝ }
 {
     let reading = reading::read(c, Schema::Description, 1);
     match reading {

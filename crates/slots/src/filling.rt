@@ -3,10 +3,12 @@ ghost use mathlib.Core.Path.{_≡_};
 ghost use Prim.Native.Nat.{_<_, min, ℕ};
 ghost use lib.ListN.{getD, length};
 ghost use Rattle.blocks.specs.Reading.{readingOf};
+ghost use Rattle.logic.specs.Background.{standing};
 ghost use Rattle.slots.specs.code.Tables.{Blank, Chained, Exact, Readable, Settled, Workspace};
 ghost use Rattle.slots.specs.code.Standing.{FilledBy, Fills, badAfter, fullAfter, roomIn, slottingOf, tableAfter};
 use crate::Slotting;
 use crate::build::build;
+use crate::restrict::restrict_slots;
 use crate::settle::settle;
 use blocks::Reading;
 use blocks::Schema;
@@ -23,9 +25,10 @@ pub(crate) fn chained_slots(
     full: &mut [u8],
 ) -> usize
     requires { ⌜ Readable (now d) total × (total < length (now table)) × Workspace total (now next) (now head) (now node) × Blank total (now bad) × Blank total (now full) ⌝ }
-    ensures { λ r. ⌜ Chained (now (d .entry)) r (now (table .entry)) (now (table .exit)) (now (next .exit)) (now (head .exit)) (now (bad .exit)) (now (full .exit)) ⌝ }
+    ensures { λ r. ⌜ Chained standing (now (d .entry)) r (now (table .entry)) (now (table .exit)) (now (next .exit)) (now (head .exit)) (now (bad .exit)) (now (full .exit)) ⌝ }
 {
     let used = build(d, total, table, next, head, node);
+    restrict_slots(table, used);
     settle(table, bad, full, used);
     used
 }
@@ -33,7 +36,7 @@ pub(crate) fn chained_slots(
 // The slots of a description of at most 63 entries, settled, with tables of their own for what only the passes need.
 fn few_slots(d: &[u8], total: usize, table: &mut [u64], bad: &mut [u8], full: &mut [u8]) -> usize
     requires { ⌜ Readable (now d) total × (total < 64) × (total < length (now table)) × Blank total (now bad) × Blank total (now full) ⌝ }
-    ensures { λ r. ⌜ Settled (now (d .entry)) r (now (table .exit)) (now (bad .exit)) (now (full .exit)) × Exact (now (table .entry)) (now (table .exit)) r ⌝ }
+    ensures { λ r. ⌜ Settled standing (now (d .entry)) r (now (table .exit)) (now (bad .exit)) (now (full .exit)) × Exact (now (table .entry)) (now (table .exit)) r ⌝ }
 {
     let mut next = [0u16; 64];
     let mut head = [0u16; 61];
@@ -44,7 +47,7 @@ fn few_slots(d: &[u8], total: usize, table: &mut [u64], bad: &mut [u8], full: &m
 // The slots of any description, in the same way.
 fn many_slots(d: &[u8], total: usize, table: &mut [u64], bad: &mut [u8], full: &mut [u8]) -> usize
     requires { ⌜ Readable (now d) total × (total < length (now table)) × Blank total (now bad) × Blank total (now full) ⌝ }
-    ensures { λ r. ⌜ Settled (now (d .entry)) r (now (table .exit)) (now (bad .exit)) (now (full .exit)) × Exact (now (table .entry)) (now (table .exit)) r ⌝ }
+    ensures { λ r. ⌜ Settled standing (now (d .entry)) r (now (table .exit)) (now (bad .exit)) (now (full .exit)) × Exact (now (table .entry)) (now (table .exit)) r ⌝ }
 {
     let mut next = [0u16; 1009];
     let mut head = [0u16; 1021];
@@ -61,7 +64,7 @@ fn settled_slots(
     full: &mut [u8],
 ) -> usize
     requires { ⌜ Readable (now d) total × (total < length (now table)) × Blank total (now bad) × Blank total (now full) ⌝ }
-    ensures { λ r. ⌜ Settled (now (d .entry)) r (now (table .exit)) (now (bad .exit)) (now (full .exit)) × Exact (now (table .entry)) (now (table .exit)) r ⌝ }
+    ensures { λ r. ⌜ Settled standing (now (d .entry)) r (now (table .exit)) (now (bad .exit)) (now (full .exit)) × Exact (now (table .entry)) (now (table .exit)) r ⌝ }
 {
     if total < 64 {
         return few_slots(d, total, table, bad, full);
@@ -95,7 +98,7 @@ fn fill_accepted(
     full: &mut [u8],
 ) -> Slotting
     requires { ⌜ readingOf Schema.Description 1 (now d) ≡ Reading.Accepted total ⌝ }
-    ensures { λ r. ⌜ Fills (now (d .entry)) (now (table .entry)) (now (bad .entry)) (now (full .entry)) r (now (table .exit)) (now (bad .exit)) (now (full .exit)) ⌝ }
+    ensures { λ r. ⌜ Fills standing (now (d .entry)) (now (table .entry)) (now (bad .entry)) (now (full .entry)) r (now (table .exit)) (now (bad .exit)) (now (full .exit)) ⌝ }
 {
     if smaller(table.len(), smaller(bad.len(), full.len())) <= total {
         return Slotting::Refused(7, 0, 0);
@@ -108,11 +111,11 @@ fn fill_accepted(
 // Reads a description and fills the tables: with its slots, from number 1 on, and with marks, whatever they held. Returns the number of
 // slots; or the refusal, which is 7 where a table has no number for each entry after number 0, and then the tables stay.
 pub fn fill(d: &[u8], table: &mut [u64], bad: &mut [u8], full: &mut [u8]) -> Slotting
-    ensures { λ r. ⌜ (r ≡ slottingOf (roomIn (now (table .entry)) (now (bad .entry)) (now (full .entry))) (now (d .entry)))
-        × (now (table .exit) ≡ tableAfter (roomIn (now (table .entry)) (now (bad .entry)) (now (full .entry))) (now (d .entry)) (now (table .entry)))
-        × (now (bad .exit) ≡ badAfter (roomIn (now (table .entry)) (now (bad .entry)) (now (full .entry))) (now (d .entry)) (now (bad .entry)))
-        × (now (full .exit) ≡ fullAfter (roomIn (now (table .entry)) (now (bad .entry)) (now (full .entry))) (now (d .entry)) (now (full .entry)))
-        × FilledBy (roomIn (now (table .entry)) (now (bad .entry)) (now (full .entry))) (now (d .entry)) (now (table .exit)) (now (bad .exit)) (now (full .exit)) r ⌝ }
+    ensures { λ r. ⌜ (r ≡ slottingOf standing (roomIn (now (table .entry)) (now (bad .entry)) (now (full .entry))) (now (d .entry)))
+        × (now (table .exit) ≡ tableAfter standing (roomIn (now (table .entry)) (now (bad .entry)) (now (full .entry))) (now (d .entry)) (now (table .entry)))
+        × (now (bad .exit) ≡ badAfter standing (roomIn (now (table .entry)) (now (bad .entry)) (now (full .entry))) (now (d .entry)) (now (bad .entry)))
+        × (now (full .exit) ≡ fullAfter standing (roomIn (now (table .entry)) (now (bad .entry)) (now (full .entry))) (now (d .entry)) (now (full .entry)))
+        × FilledBy standing (roomIn (now (table .entry)) (now (bad .entry)) (now (full .entry))) (now (d .entry)) (now (table .exit)) (now (bad .exit)) (now (full .exit)) r ⌝ }
 {
     let reading = reading::read(d, Schema::Description, 1);
     match reading {

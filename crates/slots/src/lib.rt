@@ -10,6 +10,7 @@ mod build;
 mod entries;
 mod failing;
 mod filling;
+mod restrict;
 mod settle;
 mod slots;
 mod states;

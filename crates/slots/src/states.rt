@@ -1,7 +1,7 @@
 // Which entries of a second description hold: one pass over them, with the state of each 'every' in a table, and one look at the slots for
 // an entry. The slots are not sorted.
 ghost use mathlib.Core.Path.{_≡_};
-ghost use mathlib.Core.Bool.{cond, false, true};
+ghost use mathlib.Core.Bool.{_||_, cond, false, true};
 ghost use mathlib.Core.List.{List};
 ghost use Prim.Native.Nat.{_+_, _≤_, _<_};
 ghost use lib.Dec.{eqb};
@@ -9,6 +9,8 @@ ghost use lib.ListN.{getD, length};
 ghost use Rattle.blocks.specs.Entries.{entriesOf};
 ghost use Rattle.blocks.specs.code.Blockwise.{InBlock};
 ghost use Rattle.base.specs.Search.{firstFrom};
+ghost use Rattle.logic.specs.Background.{standing};
+ghost use Rattle.logic.specs.Normal.{atMost};
 ghost use Rattle.meaning.specs.Owned.{Owned};
 ghost use Rattle.passes.specs.code.Slots.{Slot};
 ghost use Rattle.slots.specs.code.States.{Indexed, Searched, Stated, entrySlot, holdsInState, holdsBySlots, slotFor, passed, stateBelow, supportedBy};
@@ -81,16 +83,34 @@ fn bounds(table: &[u64], s: usize) -> u64
     table[s]
 }
 
+// Whether every record has at most so many of a link: "at most 1 or more is always met" of a link from 32,768 up.
+fn always(link: u16, number: u16) -> bool
+    ensures { λ r. ⌜ r ≡ atMost number (standing .cap link) ⌝ }
+{
+    32768 <= link && 1 <= number
+}
+
+// "kind 4 needs at most m with m ≤ n", or that every record keeps it.
+fn most_holds(link: u16, number: u16, hi: u64) -> bool
+    ensures { λ r. ⌜ r ≡ atMost number (highIn hi) || atMost number (standing .cap link) ⌝ }
+{
+    if hi <= number as u64 {
+        return true;
+    }
+    always(link, number)
+}
+
 // Whether a slot's bounds support an entry of this kind and number: "Kinds 1 and 2 need the same entry; kind 3 needs n = 0 or at least m
-// with m ≥ n; kind 4 needs at most m with m ≤ n; kind 5 always holds; kind 6 never does." There are no other kinds.
-fn supported(kind: u8, number: u16, lo: u64, hi: u64) -> bool
-    ensures { λ r. ⌜ r ≡ supportedBy kind number lo (highIn hi) ⌝ }
+// with m ≥ n; kind 4 needs at most m with m ≤ n; kind 5 always holds; kind 6 never does." There are no other kinds. An at most that every
+// record keeps holds too.
+fn supported(kind: u8, name: u16, number: u16, lo: u64, hi: u64) -> bool
+    ensures { λ r. ⌜ r ≡ supportedBy standing false kind name number lo (highIn hi) ⌝ }
 {
     match kind {
         1 => lo != 0,
         2 => hi < NO_BOUND,
         3 => number as u64 <= lo,
-        4 => hi <= number as u64,
+        4 => most_holds(name, number, hi),
         5 => true,
         6 => false,
         _ => false,
@@ -100,7 +120,7 @@ fn supported(kind: u8, number: u16, lo: u64, hi: u64) -> bool
 // Whether an entry holds in a place of this state. An 'every' is not looked up: it holds in any case.
 fn holds(table: &[u64], next: &[u16], head: &[u16], used: usize, state: u64, e: Entry) -> bool
     requires { ⌜ Kept (now table) (now next) (now head) used × (used ≤ 1008) × (state ≤ passed) ⌝ }
-    ensures { λ r. ⌜ ((ss : List Slot) → Indexed ss (now (table .entry)) (now (next .entry)) (now (head .entry)) used → r ≡ holdsInState ss state e) ⌝ }
+    ensures { λ r. ⌜ ((ss : List Slot) → Indexed ss (now (table .entry)) (now (next .entry)) (now (head .entry)) used → r ≡ holdsInState standing ss state e) ⌝ }
 {
     if e.kind == 5 {
         return true;
@@ -109,7 +129,7 @@ fn holds(table: &[u64], next: &[u16], head: &[u16], used: usize, state: u64, e: 
         return true;
     }
     let x = bounds(table, entry_slot(table, next, head, used, state, e));
-    supported(e.kind, e.number, low_in(x), high_in(x))
+    supported(e.kind, e.name, e.number, low_in(x), high_in(x))
 }
 
 // The state that a link leads to from a place of this state.
@@ -155,7 +175,7 @@ fn failing_in_block(
 ) -> usize
     requires { ⌜ Kept (now table) (now next) (now head) used × (used ≤ 1008) × Owned (entriesOf (now d)) × (length (entriesOf (now d)) ≤ 1008)
         × InBlock (now d) from count done × Stated (now d) (now table) (now next) (now head) used done (now states) ⌝ }
-    ensures { λ r. ⌜ Searched (now (d .entry)) (now (table .entry)) (now (next .entry)) (now (head .entry)) used done count (now (states .exit)) r ⌝ }
+    ensures { λ r. ⌜ Searched standing (now (d .entry)) (now (table .entry)) (now (next .entry)) (now (head .entry)) used done count (now (states .exit)) r ⌝ }
 {
     let mut i: usize = 0;
     loop {
@@ -184,7 +204,7 @@ pub(crate) fn first_failing_entry(
     states: &mut [u16],
 ) -> usize
     requires { ⌜ Kept (now table) (now next) (now head) used × (used ≤ 1008) × Readable (now d) total × (total < length (now states)) ⌝ }
-    ensures { λ r. ⌜ (r ≤ total) × ((ss : List Slot) → Indexed ss (now (table .entry)) (now (next .entry)) (now (head .entry)) used → r ≡ firstFrom (holdsBySlots ss (entriesOf (now (d .entry)))) 1 total) ⌝ }
+    ensures { λ r. ⌜ (r ≤ total) × ((ss : List Slot) → Indexed ss (now (table .entry)) (now (next .entry)) (now (head .entry)) used → r ≡ firstFrom (holdsBySlots standing ss (entriesOf (now (d .entry)))) 1 total) ⌝ }
 {
     states[0] = 0;
     let mut n: usize = 0;

@@ -45,6 +45,9 @@ pub enum Shape {
 /// The links of a chain.
 const CHAIN: usize = 32;
 
+/// The first link that leads to one item only.
+const SINGLE: u16 = 32_768;
+
 /// A specimen and the entries that a description may have of it, one for one: a chain of groups and 'every' entries, and then
 /// for each entry owner, name and number.
 pub struct Model {
@@ -55,7 +58,7 @@ pub struct Model {
 }
 
 impl Model {
-    /// A model of this many entries. No two names are equal.
+    /// A model of this many entries. No two names are equal, and no link leads to one item only.
     pub fn new(entries: usize, shape: Shape, chance: &mut Chance) -> Model {
         let links = match shape {
             Shape::Wide => 0,
@@ -100,7 +103,7 @@ impl Model {
     /// and at most.
     pub fn specimen(&self) -> Vec<Entry> {
         let rows = self.rows.iter().map(|&(owner, kind, name, number)| {
-            // The model's names are at most 60,000, so these are others.
+            // The model's names are at most 32,767, so these are others.
             let other = 60_001 + name % 5_000;
             match kind {
                 1 => entry(1, owner, name, 0),
@@ -128,7 +131,7 @@ impl Model {
 fn distinct_names(count: usize, chance: &mut Chance) -> Vec<u16> {
     let mut names = Vec::new();
     while names.len() < count {
-        let name = chance.name(60_000);
+        let name = chance.name(32_767);
         if !names.contains(&name) {
             names.push(name);
         }
@@ -165,4 +168,22 @@ pub fn worst_fit() -> (Vec<u8>, Vec<u8>) {
     let owned = (1..=1007).map(|link| entry(4, 1, link, 0));
     let every: Vec<Entry> = std::iter::once(entry(5, 0, 1, 0)).chain(owned).collect();
     (encode(&groups), encode(&every))
+}
+
+/// A specimen of 2,016 groups, of which all but 62 are by one link that leads to one item only, each with an owner of its own:
+/// chains of 32 below groups by another link. And a description of 65 entries that goes down the chains, at most 1 of that link at
+/// each place.
+pub fn single_links() -> (Vec<u8>, Vec<u8>) {
+    let groups = (0..2016).map(|before| match before % 33 {
+        0 => entry(7, 0, 1, 0),
+        _ => entry(7, before, SINGLE, 0),
+    });
+    let every = (0..=CHAIN).map(|owner| {
+        let link = if owner == 0 { 1 } else { SINGLE };
+        entry(5, owner, link, 0)
+    });
+    let at_most = (1..=CHAIN).map(|owner| entry(4, owner, SINGLE, 1));
+    let groups: Vec<Entry> = groups.collect();
+    let description: Vec<Entry> = every.chain(at_most).collect();
+    (encode(&groups), encode(&description))
 }

@@ -5,7 +5,7 @@
 use std::hint::black_box;
 use std::time::Instant;
 
-use bench::inputs::{entry, with_first, with_last, worst_fit, Chance, Model, Shape};
+use bench::inputs::{entry, single_links, with_first, with_last, worst_fit, Chance, Model, Shape};
 use bench::plain;
 use reference::{encode, Entry};
 
@@ -18,6 +18,8 @@ const ROUNDS: usize = 50;
 const ROUND_NANOSECONDS: u128 = 20_000;
 /// A name that no model has, as a property and as a link.
 const STRANGE: u16 = 65_500;
+/// A specimen whose groups are by a link that leads to one item only.
+const SINGLE_LINK: &str = "link to one item";
 
 fn main() {
     println!(
@@ -40,9 +42,14 @@ fn main() {
         fit_rows(*size, *shape, model, &mut chance);
     }
     worst_fit_row();
+    let (specimen, description) = single_links();
+    let times = fit_times(&specimen, &description, true);
+    print_row("fit", "2,016 and 65", SINGLE_LINK, "yes", times);
     for (size, shape, model) in &models {
         read_rows(*size, *shape, model);
     }
+    let times = read_times(product_specimen, plain_specimen, &specimen, 2016);
+    print_row("read specimen", "2,016", SINGLE_LINK, "accepted", times);
 }
 
 /// The best times of two calls in nanoseconds; the two take turns.
@@ -221,12 +228,27 @@ fn read_rows(size: usize, shape: Shape, model: &Model) {
         &description,
     );
     let specimen = encode(&model.specimen());
-    row.print(
-        "read specimen",
-        |bytes| goltximen::read_specimen(bytes).ok().map(usize::from),
-        |bytes| plain::read_specimen(bytes).ok(),
-        &specimen,
-    );
+    row.print("read specimen", product_specimen, plain_specimen, &specimen);
+}
+
+fn product_specimen(bytes: &[u8]) -> Option<usize> {
+    goltximen::read_specimen(bytes).ok().map(usize::from)
+}
+
+fn plain_specimen(bytes: &[u8]) -> Option<usize> {
+    plain::read_specimen(bytes).ok()
+}
+
+/// Both sides read the bytes, and find this many entries.
+fn read_times(
+    product: impl Fn(&[u8]) -> Option<usize>,
+    plain: impl Fn(&[u8]) -> Option<usize>,
+    bytes: &[u8],
+    entries: usize,
+) -> (f64, f64) {
+    assert_eq!(product(bytes), Some(entries));
+    assert_eq!(plain(bytes), Some(entries));
+    best(|| product(black_box(bytes)), || plain(black_box(bytes)))
 }
 
 /// The inputs of a row that reads.
@@ -244,9 +266,7 @@ impl ReadRow {
         plain: impl Fn(&[u8]) -> Option<usize>,
         bytes: &[u8],
     ) {
-        assert_eq!(product(bytes), Some(self.size));
-        assert_eq!(plain(bytes), Some(self.size));
-        let times = best(|| product(black_box(bytes)), || plain(black_box(bytes)));
+        let times = read_times(product, plain, bytes, self.size);
         let (size, shape) = (grouped(self.size), shape_name(self.shape));
         print_row(call, &size, shape, "accepted", times);
     }

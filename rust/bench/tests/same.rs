@@ -1,6 +1,6 @@
 //! The plain Rust gives the same answers and output bytes as the reference, and so does the proved library.
 
-use bench::inputs::{entry, worst_fit, Chance, Model, Shape};
+use bench::inputs::{entry, single_links, worst_fit, Chance, Model, Shape};
 use bench::plain;
 use reference::{encode, Entry};
 
@@ -10,6 +10,8 @@ const FILL: u8 = 0xa5;
 struct Draw {
     kinds: &'static [u8],
     owner_kind: u8,
+    /// The names begin after this.
+    after: u16,
     names: usize,
     numbers: usize,
     /// One entry in so many owns, where another kind was drawn.
@@ -19,6 +21,7 @@ struct Draw {
 const DESCRIPTIONS: Draw = Draw {
     kinds: &[1, 1, 2, 3, 3, 4, 4, 5, 5, 5],
     owner_kind: 5,
+    after: 0,
     names: 4,
     numbers: 4,
     deeper: 4,
@@ -27,12 +30,13 @@ const DESCRIPTIONS: Draw = Draw {
 const SPECIMENS: Draw = Draw {
     kinds: &[1, 7],
     owner_kind: 7,
+    after: 0,
     names: 4,
     numbers: 3,
     deeper: 4,
 };
 
-/// Random entries that are accepted.
+/// Random entries that are accepted, but for a few groups that bring their owner a second item by a link that leads to one only.
 fn draw(rules: &Draw, entries: usize, chance: &mut Chance) -> Vec<Entry> {
     let mut drawn: Vec<Entry> = Vec::new();
     let mut owners = vec![(0, 0)];
@@ -50,8 +54,19 @@ fn draw(rules: &Draw, entries: usize, chance: &mut Chance) -> Vec<Entry> {
         } else {
             0
         };
-        drawn.push(entry(kind, owner, chance.name(rules.names), amount as u16));
-        if kind == rules.owner_kind && depth < 32 {
+        let mut one = entry(
+            kind,
+            owner,
+            rules.after + chance.name(rules.names),
+            amount as u16,
+        );
+        let same = |e: &Entry| (e.kind, e.owner, e.name) == (7, one.owner, one.name);
+        let second = amount > 0 || drawn.iter().any(same);
+        if kind == 7 && one.name >= 32_768 && second && chance.below(200) > 0 {
+            one = entry(1, owner, one.name, 0);
+        }
+        drawn.push(one);
+        if one.kind == rules.owner_kind && depth < 32 {
             owners.push((number, depth + 1));
         }
     }
@@ -111,9 +126,24 @@ fn mend_first(block: &mut [u8]) {
     block[510..].copy_from_slice(&(sum as u16).to_le_bytes());
 }
 
+/// Where names begin and how many there are: few and many, and such that links on both sides of 32,768 are among them.
+const NAMES: [(u16, usize); 9] = [
+    (0, 1),
+    (0, 2),
+    (0, 4),
+    (0, 40),
+    (0, 65_535),
+    (32_767, 1),
+    (32_766, 2),
+    (32_765, 4),
+    (32_747, 40),
+];
+
 fn drawn(rules: &Draw, chance: &mut Chance) -> Vec<u8> {
+    let (after, names) = NAMES[chance.below(NAMES.len())];
     let wider = Draw {
-        names: [1, 2, 4, 40, 65_535][chance.below(5)],
+        after,
+        names,
         numbers: [2, 4, 65_536][chance.below(3)],
         ..*rules
     };
@@ -349,6 +379,50 @@ fn fit() {
     assert!(yes > 100);
 }
 
+/// Groups by links around those that lead to one item only, one item or two, at two owners: each list of up to three.
+#[test]
+fn second_items() {
+    let one = |n: usize| {
+        let (link, owner, number) = ([32_767, 32_768, 65_535][n % 3], n / 3 % 2, n / 6);
+        entry(7, owner, link, number as u16)
+    };
+    let first = entry(7, 0, 1, 4);
+    for a in 0..12 {
+        same_reading(&encode(&[first, one(a)]));
+        for b in 0..12 {
+            same_reading(&encode(&[first, one(a), one(b)]));
+            for c in 0..12 {
+                let bytes = encode(&[first, one(a), one(b), one(c)]);
+                same_reading(&bytes);
+                same_fit(&bytes, &encode(&[entry(4, 0, 32_768, 0)]));
+            }
+        }
+    }
+}
+
+/// As many groups as a specimen may have, the last of which brings a second item to each of the others' owners in turn.
+#[test]
+fn second_items_at_the_limit() {
+    let (specimen, _) = single_links();
+    let groups = reference::decode(&specimen);
+    for owner in (0..2016).step_by(31) {
+        let mut groups = groups.clone();
+        groups[2015] = entry(7, owner, 32_768, 0);
+        same_reading(&encode(&groups));
+    }
+    // Different links of one owner, and the first of them again.
+    let mut links: Vec<Entry> = (0..2016).map(|n| entry(7, 0, 32_768 + n, 0)).collect();
+    same_reading(&encode(&links));
+    links[2015].name = 32_768;
+    same_reading(&encode(&links));
+    for entries in [63, 64, 252, 253] {
+        same_reading(&encode(&links[..entries]));
+        let mut again = links[..entries].to_vec();
+        again[entries - 1] = again[0];
+        same_reading(&encode(&again));
+    }
+}
+
 #[test]
 fn inputs_of_the_benchmark() {
     let mut chance = Chance::new(1);
@@ -364,6 +438,10 @@ fn inputs_of_the_benchmark() {
             assert_eq!(same_fit(&specimen, &looser), Some(true));
         }
     }
+    let (groups, every) = single_links();
+    assert_eq!(same_fit(&groups, &every), Some(true));
+    same_reading(&groups);
+    assert_eq!(reference::read_specimen(&groups), Ok(2016));
     let (groups, every) = worst_fit();
     let shipped = include_bytes!("../../../crates/fits/stdin");
     assert!([&groups[..], &every[..]].concat() == shipped);

@@ -7,6 +7,9 @@
 //! first check, which is the sum of all words before it. Any bytes may be handed over; those that break a rule are refused. No
 //! call panics, allocates or keeps anything. `docs/FORMAT.md` has each byte and each refusal.
 //!
+//! Links from 32,768 up lead to one item only. Every promise here is about records that keep this rule: in them no item has two
+//! items by such a link.
+//!
 //! `k` entries take `512 * k.div_ceil(63).max(1)` bytes, `GX_BYTES(k)` of the C header: a call that writes `k` entries writes
 //! just those bytes, from the start of the output.
 //!
@@ -52,10 +55,11 @@ pub enum Fit {
 /// The answer of the comparison.
 #[derive(Clone, Copy, Debug, PartialEq, Eq, Hash)]
 pub enum Comparison {
-    /// In every finite record each item that fits the first description fits the second.
+    /// In every finite record that keeps the rule that links from 32,768 up never lead to two items, each item that fits the
+    /// first description fits the second.
     Contained,
-    /// Some item of some finite record fits the first and not the second. The output begins with the blocks of a specimen
-    /// whose top item is one.
+    /// Some item of some such record fits the first and not the second. The output begins with the blocks of a specimen whose
+    /// top item is one.
     NotContained {
         /// The number of the first entry of the second description that fails, counted from 1.
         entry: u16,
@@ -102,6 +106,17 @@ pub fn read_description(d: &[u8]) -> Result<u16, Refusal> {
 /// s[510] = 1 + 1 + 1 + 7 + s[508];
 /// assert_eq!(read_specimen(&s), Ok(1));
 /// assert_eq!(read_specimen(&[]).unwrap_err().reason, Reason::Length);
+///
+/// // A group of two items by link 32,768, which leads to one item only. Byte 9 is the high byte of the name, and byte 10 is
+/// // one less than the items: the low byte of word 6.
+/// (s[4], s[8], s[9], s[10]) = (7, 0, 128, 1);
+/// let second = 1 + 2 * 1 + 3 * 7 + 5 * 32_768 + 6 * 1;
+/// let first = 1 + 1 + 7 + 32_768 + 1 + second;
+/// s[508..510].copy_from_slice(&(second as u16).to_le_bytes());
+/// s[510..512].copy_from_slice(&(first as u16).to_le_bytes());
+/// let refusal = read_specimen(&s).unwrap_err();
+/// assert_eq!(refusal.reason, Reason::SecondItem);
+/// assert_eq!(refusal.to_string(), "refused 9 input 1 place 1");
 /// ```
 ///
 /// # Errors
@@ -168,7 +183,8 @@ pub fn normal_form(description: &[u8], out: &mut [u8]) -> Result<u16, Refusal> {
     packed::count(ffi::normal(description, out))
 }
 
-/// Compares two descriptions: whether in every finite record each item that fits `c`, input 1, fits `d`, input 2.
+/// Compares two descriptions: whether in every finite record that keeps the rule that links from 32,768 up never lead to two
+/// items, each item that fits `c`, input 1, fits `d`, input 2.
 ///
 /// Where one does not, the blocks of a specimen that shows it are written from the start of the output. Later bytes stay.
 /// Where the answer is [`Comparison::Contained`] the output is unchanged.

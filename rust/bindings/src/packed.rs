@@ -54,7 +54,7 @@ mod tests {
 
     #[test]
     fn each_refusal_has_its_number() {
-        for number in 1..=7 {
+        for number in [1, 2, 3, 4, 5, 6, 7, 9] {
             let packed = 256 * u64::from(number) + 65_536 * 2 + 4_294_967_296 * 2016;
             let refusal = fields(packed).unwrap_err();
             assert_eq!(refusal.reason.number(), number);

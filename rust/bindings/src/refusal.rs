@@ -21,10 +21,12 @@ pub enum Reason {
     Depth,
     /// 7: the output is too short.
     Output,
+    /// 9: a group of a specimen brings its owner a second item by a link that leads to one item only, one from 32,768 up.
+    SecondItem,
 }
 
 impl Reason {
-    /// The reason with a number of the table. The library answers no other number than 1 to 7.
+    /// The reason with a number of the table. The library answers no other number than 1 to 7 and 9.
     pub(crate) fn from_number(number: u8) -> Reason {
         match number {
             1 => Reason::Length,
@@ -33,11 +35,12 @@ impl Reason {
             4 => Reason::Form,
             5 => Reason::Owner,
             6 => Reason::Depth,
+            9 => Reason::SecondItem,
             _ => Reason::Output,
         }
     }
 
-    /// The number in the table of refusals, 1 to 7.
+    /// The number in the table of refusals, 1 to 7 or 9.
     pub fn number(self) -> u8 {
         match self {
             Reason::Length => 1,
@@ -47,6 +50,7 @@ impl Reason {
             Reason::Owner => 5,
             Reason::Depth => 6,
             Reason::Output => 7,
+            Reason::SecondItem => 9,
         }
     }
 }

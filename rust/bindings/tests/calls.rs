@@ -205,6 +205,38 @@ fn refusals_of_inputs() {
     );
 }
 
+/// Links from 32,768 up lead to one item only.
+#[test]
+fn second_items() {
+    let second = |place| refusal(Reason::SecondItem, 1, place);
+    assert_eq!(read_specimen(&blocks(&[[7, 0, 32_767, 1]])), Ok(1));
+    assert_eq!(read_specimen(&blocks(&[[7, 0, 32_768, 0]])), Ok(1));
+    assert_eq!(read_specimen(&blocks(&[[7, 0, 32_768, 1]])), second(1));
+    let twice = [[7, 0, 1, 3], [7, 1, 65_535, 0], [7, 1, 65_535, 0]];
+    assert_eq!(read_specimen(&blocks(&twice[..2])), Ok(2));
+    assert_eq!(read_specimen(&blocks(&twice)), second(3));
+    let refused: Result<Fit, Refusal> = refusal(Reason::SecondItem, 1, 3);
+    assert_eq!(fit(&blocks(&twice), &blocks(&[])), refused);
+    assert_eq!(fit(&blocks(&twice), &[]), refused);
+}
+
+#[test]
+fn descriptions_with_links_to_one_item() {
+    let yes = (Comparison::Contained, vec![]);
+    assert_eq!(compared(&[], &[[4, 0, 32_768, 1]]), yes);
+    assert_eq!(compared(&[[3, 0, 32_768, 2]], &[[6, 0, 0, 0]]), yes);
+    assert_eq!(
+        compared(&[], &[[4, 0, 32_768, 0]]),
+        shown(1, &[[7, 0, 32_768, 0]])
+    );
+    let mut out = [FILL; 512];
+    let d = blocks(&[[5, 0, 1, 0], [4, 1, 32_768, 9]]);
+    assert_eq!(normal_form(&d, &mut out), Ok(0));
+    let d = blocks(&[[5, 0, 1, 0], [3, 1, 32_768, 2]]);
+    assert_eq!(normal_form(&d, &mut out), Ok(1));
+    assert_eq!(out[..], blocks(&[[4, 0, 1, 0]]));
+}
+
 /// Two entries that changed places: told by the second check, unless their word sums are equal.
 #[test]
 fn exchanged_entries() {
@@ -246,10 +278,20 @@ fn call_all() {
         .collect();
     let wide = blocks(&wide);
     let chain = |kind| blocks(&(0..33).map(|owner| [kind, owner, 1, 0]).collect::<Vec<_>>());
+    // Chains of 32 groups by a link that leads to one item only, below groups by another.
+    let single: Vec<[u16; 4]> = (0..2016)
+        .map(|before| match before % 33 {
+            0 => [7, 0, 1, 0],
+            _ => [7, before, 32_768, 0],
+        })
+        .collect();
+    let single = blocks(&single);
     let mut out = vec![0; wide.len() + 512];
     assert_eq!(read_description(&wide), Ok(1008));
     assert_eq!(read_specimen(&chain(7)), Ok(33));
     assert_eq!(fit(&chain(7), &chain(5)), Ok(Fit::Yes));
+    assert_eq!(read_specimen(&single), Ok(2016));
+    assert_eq!(fit(&single, &chain(5)), Ok(Fit::Yes));
     assert_eq!(normal_form(&wide, &mut out), Ok(1008));
     assert_eq!(
         compare(&wide, &chain(5), &mut out),

@@ -1,4 +1,4 @@
-//! Bytes with one fault or several, for refusals 1 to 6.
+//! Bytes with one fault or several, for refusals 1 to 6 and 9.
 
 use reference::notation::entry;
 use reference::{encode, Entry};
@@ -37,28 +37,29 @@ impl Sort {
 /// The entries as bytes, with one to four faults.
 pub fn damaged(chance: &mut Chance, sort: Sort, entries: &[Entry]) -> Vec<u8> {
     let mut entries = entries.to_vec();
-    let mut faults: Vec<usize> = (0..=chance.below(4)).map(|_| chance.below(18)).collect();
+    let mut faults: Vec<usize> = (0..=chance.below(4)).map(|_| chance.below(20)).collect();
     faults.sort_unstable();
     for fault in &faults {
         match fault {
             0..=3 => break_form(chance, &mut entries),
             4..=6 => break_owner(chance, &mut entries),
             7..=8 => break_depth(chance, sort, &mut entries),
+            9..=10 => lead_to_two(chance, sort, &mut entries),
             _ => (),
         }
     }
-    let mut bytes = if faults.contains(&9) {
+    let mut bytes = if faults.contains(&11) {
         uneven(chance, &entries)
     } else {
         encode(&entries)
     };
     for fault in faults {
         match fault {
-            10..=11 => break_frame(chance, &mut bytes),
-            12 => exchange_words(chance, &mut bytes),
-            13 => exchange_entries(chance, &mut bytes),
-            14..=16 => break_check(chance, &mut bytes),
-            17 => break_length(chance, sort, &mut bytes),
+            12..=13 => break_frame(chance, &mut bytes),
+            14 => exchange_words(chance, &mut bytes),
+            15 => exchange_entries(chance, &mut bytes),
+            16..=18 => break_check(chance, &mut bytes),
+            19 => break_length(chance, sort, &mut bytes),
             _ => (),
         }
     }
@@ -113,6 +114,48 @@ pub fn break_depth(chance: &mut Chance, sort: Sort, entries: &mut Vec<Entry>) {
         let back = chance.up_to(6);
         entries.push(entry(1, owner.saturating_sub(back), 7, 0));
     }
+}
+
+/// Entries of links around those that lead to one item only. In a specimen a group brings its owner a second item by such a link,
+/// or just not: the link may lead to several, or the second item is another owner's. A description may have all of them.
+pub fn lead_to_two(chance: &mut Chance, sort: Sort, entries: &mut Vec<Entry>) {
+    entries.truncate(sort.most() - 4);
+    let owner = any_owner(chance, sort, entries);
+    let link = chance.one_of([32_768, 32_769, 50_000, 65_535]);
+    let number = chance.one_of([1, 1, 2, 65_535]);
+    if sort == Sort::Description {
+        entries.push(entry(chance.one_of([3, 4]), owner, link, number));
+        return;
+    }
+    let one = entry(7, owner, link, 0);
+    match chance.below(6) {
+        0 => entries.push(Entry { number, ..one }),
+        1 => entries.extend([one, one]),
+        2 => entries.extend([one, entry(1, owner, 7, 0), one]),
+        3 => {
+            let groups: Vec<usize> = (0..entries.len())
+                .filter(|&at| entries[at].kind == 7)
+                .collect();
+            match chance.any(&groups) {
+                Some(at) => (entries[at].name, entries[at].number) = (link, number),
+                None => entries.push(Entry { number, ..one }),
+            }
+        }
+        4 => entries.extend([entry(7, owner, 32_767, number); 2]),
+        _ => {
+            let other = any_owner(chance, sort, entries);
+            entries.extend([one, entry(7, other, link, 0)]);
+        }
+    }
+}
+
+/// The top, or an entry that owns a place.
+fn any_owner(chance: &mut Chance, sort: Sort, entries: &[Entry]) -> u16 {
+    let numbered = (1..).zip(entries);
+    let owning = numbered.filter(|(_, e)| e.kind == sort.owner_kind());
+    let mut owners: Vec<u16> = owning.map(|(number, _)| number).collect();
+    owners.push(0);
+    chance.any(&owners).unwrap_or(0)
 }
 
 /// Writes both checks that are right for the block.

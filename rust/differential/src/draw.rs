@@ -1,7 +1,9 @@
 //! Accepted descriptions and specimens of many shapes.
 
+use std::collections::BTreeSet;
+
 use reference::notation::entry;
-use reference::Entry;
+use reference::{Entry, Link};
 
 use crate::chance::Chance;
 use crate::{word, MOST_DEPTH, MOST_DESCRIPTION, MOST_SPECIMEN};
@@ -11,18 +13,35 @@ use crate::{word, MOST_DEPTH, MOST_DESCRIPTION, MOST_SPECIMEN};
 pub enum Names {
     /// 1, 2, 3, ...
     Low,
-    /// 65,535, 65,534, ...
+    /// 65,535, 65,534, ...: all links lead to one item only.
     High,
+    /// 32,768, 32,767, 32,769, 32,766, ...: in turn a link that leads to one item only and one that may lead to several.
+    Middle,
     /// All over the two bytes.
     Spread,
 }
 
 impl Names {
+    /// Any of them, those with links that lead to one item only more often than not.
+    pub fn any(chance: &mut Chance) -> Names {
+        chance.one_of([
+            Names::Low,
+            Names::Low,
+            Names::High,
+            Names::Middle,
+            Names::Middle,
+            Names::Spread,
+        ])
+    }
+
     /// The name of the property or link with this number, from 1. No two have the same.
-    fn name(self, number: u16) -> u16 {
+    pub fn name(self, number: u16) -> u16 {
+        let half = number / 2;
         match self {
             Names::Low => number,
             Names::High => u16::MAX - (number - 1),
+            Names::Middle if number % 2 == 1 => 32_768 + half,
+            Names::Middle => 32_768 - half,
             Names::Spread => word(usize::from(number) * 40_507 % 65_535 + 1),
         }
     }
@@ -142,7 +161,7 @@ pub fn shape(chance: &mut Chance) -> Shape {
     let chosen = chance.one_of([SMALL, WIDE, DEEP, MERGING, CONFLICTING, REPEATING]);
     Shape {
         entries: chance.below(chosen.entries + 1),
-        names: chance.one_of([Names::Low, Names::High, Names::Spread]),
+        names: Names::any(chance),
         ..chosen
     }
 }
@@ -153,6 +172,7 @@ pub fn full_shape(chance: &mut Chance) -> Shape {
     Shape {
         entries: MOST_DESCRIPTION,
         conflicts: chosen.conflicts.min(4),
+        names: Names::any(chance),
         ..chosen
     }
 }
@@ -165,6 +185,8 @@ struct Growing {
     depths: Vec<usize>,
     /// The owners of places, 0 for the top.
     owners: Vec<u16>,
+    /// Owners and links of the groups by a link that leads to one item only.
+    led: BTreeSet<(u16, Link)>,
 }
 
 impl Growing {
@@ -175,7 +197,17 @@ impl Growing {
             entries: Vec::new(),
             depths: Vec::new(),
             owners: vec![0],
+            led: BTreeSet::new(),
         }
+    }
+
+    /// Whether the list stays one that is accepted with this entry: a group may bring its owner no second item by a link that
+    /// leads to one item only.
+    fn takes(&self, entry: &Entry) -> bool {
+        let (owner, link) = (entry.owner, Link(entry.name));
+        entry.kind != 7
+            || !link.is_single()
+            || entry.number == 0 && !self.led.contains(&(owner, link))
     }
 
     /// The owner of a drawn place.
@@ -196,6 +228,9 @@ impl Growing {
             .map_or(0, |depth| depth + 1);
         self.entries.push(entry);
         self.depths.push(depth);
+        if entry.kind == 7 && Link(entry.name).is_single() {
+            self.led.insert((entry.owner, Link(entry.name)));
+        }
         if entry.kind == self.owner_kind && depth < self.depth {
             self.owners.push(word(self.entries.len()));
         }
@@ -219,7 +254,8 @@ pub fn full_specimen(chance: &mut Chance) -> Vec<Entry> {
     specimen(chance, &Shape { entries, ..shape })
 }
 
-/// Draws entries: those that own a place have the owner's kind, the others are drawn by `leaf`.
+/// Draws entries: those that own a place have the owner's kind, the others are drawn by `leaf`, which also stands in for a group
+/// that would be refused.
 fn grown(
     chance: &mut Chance,
     shape: &Shape,
@@ -229,24 +265,33 @@ fn grown(
     let mut growing = Growing::new(owner_kind, shape.depth);
     while growing.entries.len() < shape.entries {
         if chance.of_16(shape.repeats) {
-            if let Some(entry) = chance.any(&growing.entries) {
+            let again = chance.any(&growing.entries);
+            if let Some(entry) = again.filter(|entry| growing.takes(entry)) {
                 growing.push(entry);
                 continue;
             }
         }
         let owner = growing.owner(chance, shape);
-        growing.push(if chance.of_16(shape.owners) {
-            let number = if owner_kind == 7 {
-                chance.up_to(shape.numbers)
-            } else {
-                0
-            };
-            entry(owner_kind, owner, link(chance, shape), number)
-        } else {
-            leaf(chance, shape, owner)
+        let owning = chance
+            .of_16(shape.owners)
+            .then(|| owning(chance, shape, owner_kind, owner));
+        growing.push(match owning.filter(|entry| growing.takes(entry)) {
+            Some(entry) => entry,
+            None => leaf(chance, shape, owner),
         });
     }
     growing.entries
+}
+
+/// An 'every' or a group; a group by a link that leads to one item only has one.
+fn owning(chance: &mut Chance, shape: &Shape, kind: u8, owner: u16) -> Entry {
+    let link = link(chance, shape);
+    let number = if kind == 7 && !Link(link).is_single() {
+        chance.up_to(shape.numbers)
+    } else {
+        0
+    };
+    entry(kind, owner, link, number)
 }
 
 fn link(chance: &mut Chance, shape: &Shape) -> u16 {
@@ -260,7 +305,8 @@ fn property(chance: &mut Chance, shape: &Shape, owner: u16) -> Entry {
 }
 
 /// An entry of kind 1, 2, 3, 4 or 6. Most are drawn so that they do not contradict each other: has for the odd properties and
-/// lacks for the even ones, at least below the middle of the numbers and at most above it.
+/// lacks for the even ones, at least below the middle of the numbers and at most above it. Of links that lead to one item only
+/// it is at least 1 for the odd ones and at most 0 for the even ones, besides those that say nothing.
 fn fact(chance: &mut Chance, shape: &Shape, owner: u16) -> Entry {
     let free = chance.below(256) < shape.conflicts;
     if free && chance.once_in(4) {
@@ -268,8 +314,13 @@ fn fact(chance: &mut Chance, shape: &Shape, owner: u16) -> Entry {
     }
     let kind = chance.one_of([1, 2, 3, 4]);
     if kind > 2 {
-        let number = count(chance, shape, kind, free);
-        return entry(kind, owner, link(chance, shape), number);
+        let link = link(chance, shape);
+        let number = if Link(link).is_single() && !free {
+            single_count(chance, shape, kind, link)
+        } else {
+            count(chance, shape, kind, free)
+        };
+        return entry(kind, owner, link, number);
     }
     let drawn = chance.from_1_to(shape.properties);
     let number = match (free, kind) {
@@ -278,6 +329,17 @@ fn fact(chance: &mut Chance, shape: &Shape, owner: u16) -> Entry {
         (false, _) => (drawn + 1) & !1,
     };
     entry(kind, owner, shape.names.name(number), 0)
+}
+
+/// The number of an at least (kind 3) or an at most of a link that leads to one item only.
+fn single_count(chance: &mut Chance, shape: &Shape, kind: u8, link: u16) -> u16 {
+    let odd = link % 2 == 1;
+    match (kind, odd) {
+        (3, true) => chance.up_to(1),
+        (3, false) => 0,
+        (_, false) if chance.once_in(2) => 0,
+        _ => chance.from_1_to(shape.numbers),
+    }
 }
 
 /// The number of an at least (kind 3) or an at most.

@@ -18,16 +18,16 @@ const MOST_DRAWN: usize = 100_000;
 /// The most bytes of the inputs of a drawn vector together.
 const MOST_BYTES: usize = 5 * BLOCK;
 
-/// The sorts of answers that are not refusals 1 to 6, and how many are wanted of each.
+/// The sorts of answers that are not refusals 1 to 6 and 9, and how many are wanted of each.
 const ANSWERS: [(&str, usize); 9] = [
     ("description accepted", 12),
     ("specimen accepted", 12),
-    ("fit yes", 22),
-    ("fit no", 22),
-    ("normal form", 22),
+    ("fit yes", 18),
+    ("fit no", 18),
+    ("normal form", 18),
     ("normal form refused 7 input 0", 10),
-    ("compare contained", 22),
-    ("compare not contained", 22),
+    ("compare contained", 18),
+    ("compare not contained", 18),
     ("compare refused 7 input 0", 10),
 ];
 /// The calls and their numbers of inputs.
@@ -47,6 +47,9 @@ const REFUSALS: [(u8, usize, usize); 6] = [
     (5, 2, 3),
     (6, 0, 4),
 ];
+
+/// How many are wanted of refusal 9 of each call that takes a specimen: at place 1, and at a later one.
+const SECOND_ITEMS: (usize, usize) = (2, 4);
 
 /// What a sort of answer is followed by if it is a refusal at a later place than 1.
 const LATER: &str = " later";
@@ -70,6 +73,11 @@ fn wanted() -> BTreeMap<String, usize> {
             wanted.insert(format!("{sort}{LATER}"), later);
             wanted.insert(sort, first);
         }
+    }
+    for call in ["specimen", "fit"] {
+        let sort = format!("{call} refused 9 input 1");
+        wanted.insert(format!("{sort}{LATER}"), SECOND_ITEMS.1);
+        wanted.insert(sort, SECOND_ITEMS.0);
     }
     wanted
 }

@@ -2,12 +2,13 @@
 //!
 //! Drawn descriptions and specimens are handed to both. Answers, places and every byte of the outputs have to be the same. What
 //! the paper says of an answer is looked at as well, without the reference: a specimen has to show its 'not contained', a normal
-//! form has to be its own normal form, and 'contained' has to be true in small records.
+//! form has to be its own normal form, and 'contained' has to be true in small records. Records and specimens keep the rule that links
+//! from 32,768 up never lead to two items.
 //!
 //! | Module | Subject |
 //! |---|---|
 //! | [`chance`] | drawn numbers, the same for the same seed |
-//! | [`draw`] | accepted descriptions and specimens of many shapes |
+//! | [`draw`] | accepted descriptions and specimens of many shapes, with links on both sides of 32,768 |
 //! | [`pairs`] | descriptions made from others: weaker, in another order, wrong by one entry |
 //! | [`damage`] | bytes with one fault or several |
 //! | [`exchange`] | two entries of one block exchanged, and whether the checks tell |
@@ -15,7 +16,7 @@
 //! | [`small`] | small records, to look for an item by trying all |
 //! | [`rounds`] | rounds of cases, and how often each answer came |
 //! | [`vectors`] | calls with their bytes, and the line that the reference gives for each |
-//! | [`named`] | vectors of the paper's cases and of the report's examples |
+//! | [`named`] | vectors of the paper's cases, of the requests' statements and of the report's examples |
 //! | [`drawn`] | drawn vectors, so many of each sort of answer |
 
 #![forbid(unsafe_code)]

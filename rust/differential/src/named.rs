@@ -351,6 +351,143 @@ fn exchanges() -> Vec<Vector> {
     vectors
 }
 
+/// The cases of links that lead to one item only, which are those from 32,768 up: what is impossible, what is always met, what
+/// stays, what a specimen may not have, and what is as it was.
+pub fn single_links() -> Vec<Vector> {
+    [
+        more_than_one(),
+        always_met(),
+        one_or_none(),
+        second_items(),
+        order_of_9(),
+        counted_as_before(),
+    ]
+    .concat()
+}
+
+/// At least 2 of such a link: no reader refuses it, its place is impossible, and so on upward.
+fn more_than_one() -> Vec<Vector> {
+    vec![
+        Vector::description(blocks("3,32768,2; 3,65535,65535; 5,40000 [3,50000,9]")),
+        normal_form("3,32768,2"),
+        normal_form("3,65535,65535"),
+        normal_form("3,32767,2"),
+        normal_form("3,32768,2; 4,32768,5"),
+        normal_form("5,1 [3,32768,2]; 1,8"),
+        normal_form("5,32768 [3,32768,2]; 5,32768 [1,7]"),
+        normal_form("5,1 [3,32768,1; 5,32768 [3,2,1; 5,2 [3,65535,2]]]"),
+        normal_form("5,1 [5,32768 [3,2,1; 5,2 [3,65535,2]]]"),
+        normal_form("3,32768,1; 5,32768 [6]"),
+        compare("3,32768,2", "6"),
+        compare("5,1 [3,32768,2]", "4,1,0"),
+        compare("4,1,0", "5,1 [3,32768,2]"),
+        compare("", "3,32768,2"),
+        compare("3,32768,1", "3,32768,2"),
+    ]
+}
+
+/// At most 1 or more of such a link: no normal form has it, and it holds, also where nothing is said of its place.
+fn always_met() -> Vec<Vector> {
+    vec![
+        normal_form("4,32768,1"),
+        normal_form("4,65535,65535"),
+        normal_form("4,32767,1"),
+        normal_form("4,32768,1; 4,32768,0; 5,32768 [1,7]"),
+        normal_form("3,32768,1; 4,32768,1"),
+        normal_form("4,32768,1; 5,32768 [1,7]"),
+        normal_form("5,1 [5,32768 [4,40000,9]]; 1,7"),
+        normal_form_bytes(encode(&[entry(4, 0, 32_768, 1); 64])),
+        compare("", "4,32768,1"),
+        compare("1,7", "5,9 [5,32768 [4,65535,65535]]"),
+        compare("4,32768,0", "4,32768,1"),
+        compare("", "4,32767,1"),
+    ]
+}
+
+/// At least 1 and at most 0 say something. A specimen has one item by such a link or none.
+fn one_or_none() -> Vec<Vector> {
+    let c = "3,32768,1; 5,32768 [3,2,4; 1,7]";
+    let d = "5,32768 [2,8]";
+    vec![
+        normal_form("4,32768,0"),
+        normal_form("5,32768 [1,7]; 3,32768,1"),
+        compare("", "3,32768,1"),
+        compare("4,32768,1", "4,32768,0"),
+        compare(c, d),
+        fit("7,32768 [1,7; 1,8; 7,2,3]", c),
+        fit("7,32768 [1,7; 1,8; 7,2,3]", d),
+        compare("5,32768 [3,65535,1]", "5,32768 [5,65535 [4,65535,0]]"),
+    ]
+}
+
+/// Reading of a specimen.
+fn specimen(text: &str) -> Vector {
+    Vector::specimen(blocks(text))
+}
+
+/// Three chains of such groups below groups of four, and then one more group with this owner.
+fn chains(owner: u16) -> Vec<u8> {
+    let mut entries = Vec::new();
+    for _ in 0..3 {
+        let first = crate::word(entries.len());
+        entries.push(entry(7, 0, 1, 3));
+        entries.extend((1..=32).map(|step| entry(7, first + step, 32_768, 0)));
+    }
+    entries.push(entry(7, owner, 32_768, 0));
+    encode(&entries)
+}
+
+/// Groups that bring their owner a second item by such a link, and groups that just do not: the items of one owner's groups by
+/// one link add up, whatever the owner's own number.
+fn second_items() -> Vec<Vector> {
+    vec![
+        specimen("7,32768"),
+        specimen("7,32768,1"),
+        specimen("7,65535,65535"),
+        specimen("7,32767,65535; 7,32767,65535"),
+        specimen("7,32768; 7,32769; 7,65535"),
+        specimen("7,32768; 1,7; 7,32769; 7,32768"),
+        specimen("7,1,3 [7,32768]; 7,1 [7,32768]"),
+        specimen("7,1,3 [7,32768; 7,32768]"),
+        specimen("7,32768 [7,32768 [7,32768]]"),
+        specimen("1,32768; 1,32768; 7,32768 [1,32768; 1,32768]"),
+        Vector::specimen(chains(0)),
+        Vector::specimen(chains(32)),
+        Vector::specimen(chains(67)),
+        fit("7,32768,1", ""),
+        fit("7,32768; 7,32768", "9"),
+        Vector::fit(chains(1), Vec::new()),
+    ]
+}
+
+/// After 4, 5 and 6 at one entry; the lowest entry decides, and blocks come before entries.
+fn order_of_9() -> Vec<Vector> {
+    let two = entry(7, 0, 32_768, 1);
+    let chain: Vec<Entry> = (0..33).map(|owner| entry(7, owner, 32_768, 0)).collect();
+    let then = |last: Entry| Vector::specimen(encode(&[&chain[..], &[last]].concat()));
+    vec![
+        Vector::specimen(encode(&[Entry { zero: 1, ..two }])),
+        Vector::specimen(encode(&[Entry { owner: 1, ..two }])),
+        then(Entry { owner: 33, ..two }),
+        then(Entry { owner: 32, ..two }),
+        specimen("7,32768; 7,32768; 9"),
+        specimen("9; 7,32768,1"),
+        Vector::specimen(in_last_block(chains(32), |block| change(block, 508))),
+    ]
+}
+
+/// The fit answer counts, and foresees nothing.
+fn counted_as_before() -> Vec<Vector> {
+    vec![
+        fit("7,32768", "3,32768,1; 4,32768,1"),
+        fit("7,32768", "3,32768,2"),
+        fit("7,32768", "4,32768,0"),
+        fit("", "4,32768,0; 5,32768 [6]"),
+        fit("7,1,3 [7,32768 [1,7]]", "5,1 [5,32768 [1,7]]"),
+        fit("7,1,3 [7,32768 [1,7]]", "5,1 [5,32768 [2,7]]"),
+    ]
+}
+
 /// The starred cases in the paper's order, each normal form before what it is compared with, and after a specimen that is named
 /// what it fits.
 pub fn desk() -> Vec<Vector> {

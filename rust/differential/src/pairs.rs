@@ -1,7 +1,7 @@
 //! Descriptions made from others: weaker, in another order, wrong by one entry.
 
 use reference::notation::entry;
-use reference::Entry;
+use reference::{Entry, Link};
 
 use crate::chance::Chance;
 use crate::{word, MOST_DEPTH, MOST_DESCRIPTION};
@@ -40,8 +40,11 @@ pub fn weaker(chance: &mut Chance, c: &[Entry]) -> Vec<Entry> {
     d
 }
 
-/// An entry that every item meets.
+/// An entry that every item meets: of a link that leads to one item only also at most 1 or more.
 fn says_nothing(chance: &mut Chance, owner: u16, link: u16) -> Entry {
+    if Link(link).is_single() && chance.once_in(2) {
+        return entry(4, owner, link, chance.one_of([1, 1, 2, 65_535]));
+    }
     entry(chance.one_of([3, 5]), owner, link, 0)
 }
 
@@ -83,7 +86,7 @@ pub fn missed(chance: &mut Chance, d: &[Entry]) -> Vec<Entry> {
     let mut d = d.to_vec();
     let at = chance.below(d.len());
     let (near, far) = (chance.from_1_to(3), chance.word().max(1));
-    let fresh = chance.one_of([near, far]);
+    let fresh = chance.one_of([near, far, 32_766 + near]);
     let turn = chance.once_in(2);
     match d.get_mut(at) {
         Some(e) if e.kind == 3 => e.number = e.number.saturating_add(1),

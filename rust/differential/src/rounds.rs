@@ -9,7 +9,7 @@ use reference::{encode, Entry};
 use crate::agree::{self, Answer, Difference};
 use crate::chance::Chance;
 use crate::damage::{damaged, Sort};
-use crate::draw::{self, Shape};
+use crate::draw::{self, Names, Shape};
 use crate::exchange;
 use crate::pairs;
 use crate::small::{confirm, confirm_fit, Pool, Size};
@@ -52,12 +52,21 @@ impl fmt::Display for Tally {
 }
 
 /// So many items, two properties and two links.
-fn size(items: usize) -> Size {
+fn size(names: Names, items: usize) -> Size {
     Size {
         items,
         properties: 2,
         links: 2,
+        names,
     }
+}
+
+/// All records of one or two items with these names.
+fn pool(names: Names) -> Pool {
+    let mut pool = Pool::empty();
+    pool.add_all(size(names, 1));
+    pool.add_all(size(names, 2));
+    pool
 }
 
 /// A run of rounds.
@@ -66,19 +75,17 @@ pub struct Rounds {
     pub chance: Chance,
     /// How often each answer came.
     pub tally: Tally,
-    pool: Pool,
+    pools: [(Names, Pool); 3],
 }
 
 impl Rounds {
-    /// A run with this seed, and with a pool of all records of one or two items.
+    /// A run with this seed, and with pools of all records of one or two items: with links that may lead to several items, with
+    /// one of each sort, and with links that lead to one item only.
     pub fn from_seed(seed: u64) -> Rounds {
-        let mut pool = Pool::empty();
-        pool.add_all(size(1));
-        pool.add_all(size(2));
         Rounds {
             chance: Chance::from_seed(seed),
             tally: Tally::default(),
-            pool,
+            pools: [Names::Low, Names::Middle, Names::High].map(|names| (names, pool(names))),
         }
     }
 
@@ -338,8 +345,11 @@ impl Rounds {
     pub fn small(&mut self) -> Found {
         let chance = &mut self.chance;
         let entries = chance.below(draw::SMALL.entries + 1);
+        let (names, pool) = &self.pools[chance.below(3)];
+        let names = *names;
         let shape = Shape {
             entries,
+            names,
             ..draw::SMALL
         };
         let c = draw::description(chance, &shape);
@@ -347,15 +357,16 @@ impl Rounds {
         let missed = pairs::missed(chance, &weaker);
         let other = draw::description(chance, &shape);
         let s = draw::specimen(chance, &shape);
-        let mut pool = self.pool.some(chance, 1000);
-        pool.add_drawn(chance, size(3), 1000);
+        let more = with_one_more(chance, &s);
+        let mut pool = pool.some(chance, 1000);
+        pool.add_drawn(chance, size(names, 3), 1000);
         for d in [&weaker, &missed, &other] {
             let answer = self.compare_entries(&c, d)?;
             confirm(&pool, &c, d, answer)?;
         }
         let made = self.specimen_for(&c);
         let changed = changed(&mut self.chance, &made);
-        for s in [&s, &made, &changed] {
+        for s in [&s, &more, &made, &changed] {
             let answer = self.fit(&encode(s), &encode(&c))?;
             confirm_fit(s, &c, answer)?;
         }
@@ -383,12 +394,24 @@ impl Rounds {
     }
 }
 
+/// The specimen with one item more in a drawn group, or in a group beside it.
+fn with_one_more(chance: &mut Chance, s: &[Entry]) -> Vec<Entry> {
+    let mut s = s.to_vec();
+    let groups: Vec<usize> = (0..s.len()).filter(|&at| s[at].kind == 7).collect();
+    match chance.any(&groups) {
+        Some(at) if chance.once_in(2) => s[at].number = s[at].number.saturating_add(1),
+        Some(at) => s.push(Entry { number: 0, ..s[at] }),
+        None => s.push(entry(7, 0, 32_768, 1)),
+    }
+    s
+}
+
 /// The specimen with one entry changed, or with one entry more.
 fn changed(chance: &mut Chance, s: &[Entry]) -> Vec<Entry> {
     let mut s = s.to_vec();
     let at = chance.below(s.len());
     match s.get_mut(at) {
-        Some(e) if chance.once_in(3) => e.name = chance.from_1_to(3),
+        Some(e) if chance.once_in(3) => e.name = chance.one_of([1, 2, 3, 32_767, 32_768]),
         Some(e) if e.kind == 7 && chance.once_in(2) => e.number = e.number.saturating_sub(1),
         Some(e) => {
             let more = *e;

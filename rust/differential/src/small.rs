@@ -1,21 +1,26 @@
 //! Small records, to look for an item by trying all. They have cycles, and items that are linked to by several.
 
+use std::collections::BTreeSet;
+
 use reference::notation::entry;
 use reference::record::{fits, specimen_record, Record};
 use reference::{encode, Entry, Link, Property};
 
 use crate::agree::{found, Answer, Difference};
 use crate::chance::Chance;
+use crate::draw::Names;
 
 /// How many items, properties and links a record has.
 #[derive(Clone, Copy, Debug)]
 pub struct Size {
     /// The items.
     pub items: usize,
-    /// The properties, named from 1.
+    /// The properties.
     pub properties: u16,
-    /// The links, named from 1.
+    /// The links.
     pub links: u16,
+    /// The names of both.
+    pub names: Names,
 }
 
 impl Size {
@@ -25,7 +30,7 @@ impl Size {
     }
 }
 
-/// A list of records.
+/// A list of records, which keep the rule on links that lead to one item only.
 pub struct Pool {
     records: Vec<Record>,
 }
@@ -38,20 +43,24 @@ impl Pool {
         }
     }
 
-    /// Adds all records of this size, of which there are at most 65,536.
-    pub fn add_all(&mut self, size: Size) {
-        for pattern in 0..1 << size.bits().min(16) {
-            self.records.push(record(size, pattern));
-        }
+    /// How many records there are.
+    pub fn count(&self) -> usize {
+        self.records.len()
     }
 
-    /// Adds drawn records of this size.
+    /// Adds all records of this size that keep the rule, of at most 65,536.
+    pub fn add_all(&mut self, size: Size) {
+        let all = (0..1 << size.bits().min(16)).map(|pattern| record(size, pattern));
+        self.records.extend(all.filter(Record::keeps_the_rule));
+    }
+
+    /// Adds drawn records of this size, in which an item keeps one item by a link that leads to one item only.
     pub fn add_drawn(&mut self, chance: &mut Chance, size: Size, count: usize) {
         for _ in 0..count {
             // Of three patterns: about half of the pairs linked, fewer, more.
             let (one, other) = (chance.number(), chance.number());
             let pattern = chance.one_of([one, one & other, one | other]);
-            self.records.push(record(size, pattern));
+            self.records.push(kept(record(size, pattern)));
         }
     }
 
@@ -81,6 +90,15 @@ impl Pool {
     }
 }
 
+/// The record without the pairs that break the rule.
+fn kept(mut record: Record) -> Record {
+    for (link, pairs) in &mut record.links {
+        let mut led = BTreeSet::new();
+        pairs.retain(|&(item, _)| led.insert(item) || !link.is_single());
+    }
+    record
+}
+
 /// The record of this size with the properties and pairs that the bits of the pattern say.
 fn record(size: Size, pattern: u64) -> Record {
     let mut record = Record::of_items(size.items);
@@ -93,13 +111,13 @@ fn record(size: Size, pattern: u64) -> Record {
     for item in 0..size.items {
         for property in 1..=size.properties {
             if set() {
-                record.add_property(Property(property), item);
+                record.add_property(Property(size.names.name(property)), item);
             }
         }
         for link in 1..=size.links {
             for to in 0..size.items {
                 if set() {
-                    record.add_link(Link(link), item, to);
+                    record.add_link(Link(size.names.name(link)), item, to);
                 }
             }
         }
@@ -107,29 +125,56 @@ fn record(size: Size, pattern: u64) -> Record {
     record
 }
 
-/// All descriptions of at most two entries over one property and one link, with numbers up to 2.
-pub fn tiny_descriptions() -> Vec<Vec<Entry>> {
-    let firsts = tiny_entries(0);
+/// All descriptions of at most two entries over one property and so many links, with numbers up to 2.
+pub fn tiny_descriptions(names: Names, links: u16) -> Vec<Vec<Entry>> {
+    let firsts = tiny_entries(names, links, 0);
     let mut all = vec![Vec::new()];
     for &first in &firsts {
         all.push(vec![first]);
         all.extend(firsts.iter().map(|&second| vec![first, second]));
         if first.kind == 5 {
-            let below = tiny_entries(1);
+            let below = tiny_entries(names, links, 1);
             all.extend(below.iter().map(|&second| vec![first, second]));
         }
     }
     all
 }
 
-/// All entries of this owner over one property and one link, with numbers up to 2.
-fn tiny_entries(owner: u16) -> Vec<Entry> {
-    let mut all: Vec<Entry> = [1, 2, 5].map(|kind| entry(kind, owner, 1, 0)).to_vec();
-    for number in 0..=2 {
-        all.extend([3, 4].map(|kind| entry(kind, owner, 1, number)));
+/// All entries of this owner over one property and so many links, with numbers up to 2.
+fn tiny_entries(names: Names, links: u16, owner: u16) -> Vec<Entry> {
+    let property = names.name(1);
+    let mut all: Vec<Entry> = [1, 2].map(|kind| entry(kind, owner, property, 0)).to_vec();
+    for link in (1..=links).map(|link| names.name(link)) {
+        all.push(entry(5, owner, link, 0));
+        for number in 0..=2 {
+            all.extend([3, 4].map(|kind| entry(kind, owner, link, number)));
+        }
     }
     all.push(entry(6, owner, 0, 0));
     all
+}
+
+/// All lists of so many groups by these links, each with one item or with two and owned by the top or an earlier group.
+pub fn tiny_groups(links: &[u16], groups: u16) -> Vec<Vec<Entry>> {
+    let mut all = vec![Vec::new()];
+    for owners in 0..groups {
+        let mut longer = Vec::new();
+        for (shorter, &link) in all.iter().flat_map(|s| links.iter().map(move |l| (s, l))) {
+            for (owner, number) in (0..=owners).flat_map(|owner| [(owner, 0), (owner, 1)]) {
+                let mut entries: Vec<Entry> = shorter.clone();
+                entries.push(entry(7, owner, link, number));
+                longer.push(entries);
+            }
+        }
+        all = longer;
+    }
+    all
+}
+
+/// The first entry of a list of groups and properties whose record, item by item, breaks the rule on links that lead to one item
+/// only; the counts are small.
+pub fn first_that_breaks(s: &[Entry]) -> Option<usize> {
+    (1..=s.len()).find(|&count| !specimen_record(&s[..count]).keeps_the_rule())
 }
 
 /// Looks at an answer of the comparison in records: 'contained' is so in each of the pool, 'not contained' in the specimen's.
@@ -149,7 +194,8 @@ pub fn confirm(pool: &Pool, c: &[Entry], d: &[Entry], answer: Answer) -> Result<
             let again = goltximen::compare(&c_bytes, &d_bytes, &mut out);
             let shown = reference::decode(out.get(..crate::length_of(entries)).unwrap_or(&[]));
             let record = specimen_record(&shown);
-            if again.is_ok() && fits(&record, 0, c, 0) && !fits(&record, 0, d, 0) {
+            let shows = fits(&record, 0, c, 0) && !fits(&record, 0, d, 0);
+            if again.is_ok() && record.keeps_the_rule() && shows {
                 return Ok(());
             }
             Err(found(
@@ -161,16 +207,19 @@ pub fn confirm(pool: &Pool, c: &[Entry], d: &[Entry], answer: Answer) -> Result<
     }
 }
 
-/// The fit answer is the one in the specimen's record, item by item. The specimen's counts are small.
+/// The fit answer is the one in the specimen's record, item by item, and 9 exactly where this record breaks the rule. The
+/// specimen's counts are small.
 ///
 /// # Errors
 ///
 /// The difference.
 pub fn confirm_fit(s: &[Entry], d: &[Entry], answer: Answer) -> Result<(), Difference> {
-    let expected = fits(&specimen_record(s), 0, d, 0);
+    let record = specimen_record(s);
+    let (kept, expected) = (record.keeps_the_rule(), fits(&record, 0, d, 0));
     let is_so = match answer {
-        Answer::Yes => expected,
-        Answer::No => !expected,
+        Answer::Yes => kept && expected,
+        Answer::No => kept && !expected,
+        Answer::Refused(9, 1) => !kept,
         _ => false,
     };
     if is_so {

@@ -202,6 +202,7 @@ pub fn all() -> Vec<Vector> {
     let lists = [
         named::limits(),
         named::checks(),
+        named::single_links(),
         named::desk(),
         named::report(),
         drawn::drawn(),

@@ -3,10 +3,10 @@
 use differential::agree::{self, Answer, Difference};
 use differential::chance::Chance;
 use differential::damage::{framed, seal, seal_first, Sort};
-use differential::draw::{self, Shape};
+use differential::draw::{self, Names, Shape};
 use differential::exchange::{exchange, least_unseen, told};
 use differential::rounds::{Found, Rounds};
-use differential::small::{confirm, tiny_descriptions, Pool, Size};
+use differential::small::{confirm, first_that_breaks, tiny_descriptions, tiny_groups, Pool, Size};
 use differential::{length_of, BLOCK, MOST_DEPTH};
 use reference::notation::entry;
 use reference::{encode, Entry};
@@ -83,6 +83,11 @@ fn damaged_bytes() {
             assert!(run.tally.count(call, &answer) > 100, "{call} {answer}");
         }
     }
+    for call in ["read specimen", "fit"] {
+        assert!(run.tally.count(call, "refused 9 input 1") > 100, "{call}");
+    }
+    assert_eq!(run.tally.count("read description", "refused 9 input 1"), 0);
+    assert_eq!(run.tally.count("fit", "refused 9 input 2"), 0);
 }
 
 #[test]
@@ -137,21 +142,43 @@ fn small_ones_in_records() {
     let run = made(700, Rounds::small);
     assert!(run.tally.count("compare", "contained") > 500);
     assert!(run.tally.count("compare", "not contained") > 500);
+    assert!(run.tally.count("fit", "refused 9 input 1") > 50);
 }
 
 /// All pairs of descriptions of at most two entries over one property and one link, against all records of at most three items.
 #[test]
 fn all_tiny_pairs_in_all_records() {
+    let count = all_tiny_pairs(Names::Low, 1, 3);
+    assert_eq!(count, (121, 4 + 64 + 4096));
+}
+
+/// The same for link 32,768, against all records that keep the rule: by it each item has none of the items or one of them.
+#[test]
+fn all_tiny_pairs_of_a_single_link() {
+    let count = all_tiny_pairs(Names::Middle, 1, 3);
+    assert_eq!(count, (121, 4 + 4 * 9 + 8 * 64));
+}
+
+/// The same for links 32,768 and 32,767 together, against all records of at most two items that keep the rule.
+#[test]
+fn all_tiny_pairs_of_both_sorts_of_links() {
+    let count = all_tiny_pairs(Names::Middle, 2, 2);
+    assert_eq!(count, (1 + 17 + 17 * 17 + 2 * 17, 8 + 4 * 16 * 9));
+}
+
+/// All pairs of descriptions of at most two entries over one property and so many links, against all records of at most so many
+/// items that keep the rule. Gives the numbers of descriptions and records.
+fn all_tiny_pairs(names: Names, links: u16, most_items: usize) -> (usize, usize) {
     let mut pool = Pool::empty();
-    for items in 1..=3 {
+    for items in 1..=most_items {
         pool.add_all(Size {
             items,
             properties: 1,
-            links: 1,
+            links,
+            names,
         });
     }
-    let all = tiny_descriptions();
-    assert_eq!(all.len(), 121);
+    let all = tiny_descriptions(names, links);
     let fitting: Vec<Vec<bool>> = all.iter().map(|d| pool.fitting(d)).collect();
     let mut chance = Chance::from_seed(3);
     for (c, fit_c) in all.iter().zip(&fitting) {
@@ -163,6 +190,61 @@ fn all_tiny_pairs_in_all_records() {
             if let Err(difference) = confirm(&Pool::empty(), c, d, answer) {
                 panic!("{difference}");
             }
+        }
+    }
+    (all.len(), pool.count())
+}
+
+/// All lists of at most three groups by links 1, 32,767, 32,768 and 65,535: refused as 9 at the first entry that breaks the rule in
+/// the specimen's record, item by item, and else accepted.
+#[test]
+fn all_tiny_groups_in_their_records() {
+    let (mut refused, mut accepted) = (0, 0);
+    for groups in 0..=3 {
+        for s in tiny_groups(&[1, 32_767, 32_768, 65_535], groups) {
+            let bytes = encode(&s);
+            let read = agreed(agree::read_specimen(&bytes));
+            let fit = agreed(agree::fit(&bytes, &encode(&[])));
+            let Some(place) = first_that_breaks(&s) else {
+                assert_eq!((read, fit), (Answer::Count(s.len()), Answer::Yes));
+                accepted += 1;
+                continue;
+            };
+            assert_eq!((read, fit), (Answer::Refused(9, 1), Answer::Refused(9, 1)));
+            let refusal = goltximen::read_specimen(&bytes).unwrap_err();
+            assert_eq!(usize::from(refusal.place), place);
+            refused += 1;
+        }
+    }
+    assert_eq!(refused + accepted, 1 + 8 + 8 * 16 + 8 * 16 * 24);
+    assert!(refused > 1000 && accepted > 500, "{refused} {accepted}");
+}
+
+/// Each entry of a specimen at the limit put again at the end, or made a group of two by a link that leads to one item only.
+#[test]
+fn each_second_item() {
+    let mut chains = Vec::new();
+    while chains.len() + 33 < 2016 {
+        let first = chains.len() as u16;
+        chains.push(entry(7, 0, 1, 3));
+        chains.extend((1..=32).map(|step| entry(7, first + step, 32_768, 0)));
+    }
+    let accepted = agreed(agree::read_specimen(&encode(&chains)));
+    assert_eq!(accepted, Answer::Count(61 * 33));
+    for at in (0..chains.len()).step_by(7) {
+        let single = chains[at].name == 32_768;
+        let mut again = chains.clone();
+        again.push(chains[at]);
+        let mut two = chains.clone();
+        two[at].number = 1;
+        for s in [again, two] {
+            let answer = agreed(agree::read_specimen(&encode(&s)));
+            let due = if single {
+                Answer::Refused(9, 1)
+            } else {
+                Answer::Count(s.len())
+            };
+            assert_eq!(answer, due);
         }
     }
 }

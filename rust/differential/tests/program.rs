@@ -100,9 +100,16 @@ fn the_five_forms() {
         ),
         (
             "",
-            "4,65535,65535",
-            "not contained 1\ngroup 1 owner 0 link 65535 count 65536\n",
+            "4,32767,65535",
+            "not contained 1\ngroup 1 owner 0 link 32767 count 65536\n",
         ),
+        (
+            "",
+            "4,65535,0",
+            "not contained 1\ngroup 1 owner 0 link 65535 count 1\n",
+        ),
+        ("", "4,65535,65535", "contained\n"),
+        ("3,32768,2", "6", "contained\n"),
         ("", "6", "not contained 1\n"),
         ("1,7", "9,7", "refused 4 input 2 place 1\n"),
     ] {

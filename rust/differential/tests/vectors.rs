@@ -136,7 +136,7 @@ fn each_answer_of_each_call() {
     }
 }
 
-/// Each refusal of each call and input at least three times, each number 2 to 6 at three places or more.
+/// Each refusal of each call and input at least three times, each number 2 to 6 and 9 at three places or more.
 #[test]
 fn each_refusal() {
     let vectors = all();
@@ -153,6 +153,12 @@ fn each_refusal() {
             assert!(sorts[&sort] >= 3, "{sort}");
         }
     }
+    for call in ["specimen", "fit"] {
+        let sort = format!("{call} refused 9 input 1");
+        assert!(sorts[&sort] >= 3, "{sort}");
+    }
+    assert!(!sorts.contains_key("description refused 9 input 1"));
+    assert!(!sorts.contains_key("fit refused 9 input 2"));
     assert!(sorts["normal form refused 7 input 0"] >= 3);
     assert!(sorts["compare refused 7 input 0"] >= 3);
     let mut places: BTreeMap<u8, BTreeSet<u32>> = BTreeMap::new();
@@ -164,7 +170,7 @@ fn each_refusal() {
                 .insert(refusal.place);
         }
     }
-    for number in 2..=6 {
+    for number in [2, 3, 4, 5, 6, 9] {
         assert!(places[&number].len() >= 3, "{number}");
     }
 }
@@ -386,6 +392,101 @@ fn exchanges() {
         said("specimen refused 2 input 1 place 1"),
     ]);
     check(&named::checks()[BEFORE_EXCHANGES..], &expected);
+}
+
+#[test]
+fn at_least_2_of_a_single_link() {
+    let expected = [
+        said("description accepted 4"),
+        wrote("normal form 1", "6"),
+        wrote("normal form 1", "6"),
+        wrote("normal form 1", "3,32767,2"),
+        wrote("normal form 1", "6"),
+        wrote("normal form 2", "1,8; 4,1,0"),
+        wrote("normal form 1", "4,32768,0"),
+        wrote("normal form 1", "4,1,0"),
+        wrote("normal form 2", "5,1 [4,32768,0]"),
+        wrote("normal form 1", "6"),
+        said("compare contained"),
+        said("compare contained"),
+        said("compare contained"),
+        wrote("compare not contained 1 entries 0", ""),
+        wrote("compare not contained 1 entries 1", "7,32768"),
+    ];
+    check(&named::single_links()[..15], &expected);
+}
+
+#[test]
+fn at_most_of_a_single_link() {
+    let expected = [
+        wrote("normal form 0", ""),
+        wrote("normal form 0", ""),
+        wrote("normal form 1", "4,32767,1"),
+        wrote("normal form 1", "4,32768,0"),
+        wrote("normal form 1", "3,32768,1"),
+        wrote("normal form 2", "5,32768 [1,7]"),
+        wrote("normal form 1", "1,7"),
+        wrote("normal form 0", ""),
+        said("compare contained"),
+        said("compare contained"),
+        said("compare contained"),
+        wrote("compare not contained 1 entries 1", "7,32767,1"),
+        // One item or none.
+        wrote("normal form 1", "4,32768,0"),
+        wrote("normal form 3", "3,32768,1; 5,32768 [1,7]"),
+        wrote("compare not contained 1 entries 0", ""),
+        wrote("compare not contained 1 entries 1", "7,32768"),
+        wrote(
+            "compare not contained 2 entries 4",
+            "7,32768 [1,7; 1,8; 7,2,3]",
+        ),
+        said("fit yes"),
+        said("fit no"),
+        wrote(
+            "compare not contained 3 entries 3",
+            "7,32768 [7,65535 [7,65535]]",
+        ),
+    ];
+    check(&named::single_links()[15..35], &expected);
+}
+
+#[test]
+fn second_items() {
+    let expected = [
+        said("specimen accepted 1"),
+        said("specimen refused 9 input 1 place 1"),
+        said("specimen refused 9 input 1 place 1"),
+        said("specimen accepted 2"),
+        said("specimen accepted 3"),
+        said("specimen refused 9 input 1 place 4"),
+        said("specimen accepted 4"),
+        said("specimen refused 9 input 1 place 3"),
+        said("specimen accepted 3"),
+        said("specimen accepted 5"),
+        // The group after three chains: of the top, of the next to last of the first chain, of the first of the third.
+        said("specimen accepted 100"),
+        said("specimen refused 9 input 1 place 100"),
+        said("specimen refused 9 input 1 place 100"),
+        said("fit refused 9 input 1 place 1"),
+        said("fit refused 9 input 1 place 2"),
+        said("fit refused 9 input 1 place 100"),
+        // After 4, 5 and 6.
+        said("specimen refused 4 input 1 place 1"),
+        said("specimen refused 5 input 1 place 1"),
+        said("specimen refused 6 input 1 place 34"),
+        said("specimen refused 9 input 1 place 34"),
+        said("specimen refused 9 input 1 place 2"),
+        said("specimen refused 4 input 1 place 1"),
+        said("specimen refused 2 input 1 place 2"),
+        // Counted as before.
+        said("fit yes"),
+        said("fit no"),
+        said("fit no"),
+        said("fit yes"),
+        said("fit yes"),
+        said("fit no"),
+    ];
+    check(&named::single_links()[35..], &expected);
 }
 
 #[test]

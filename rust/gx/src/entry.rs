@@ -8,6 +8,13 @@ pub struct Property(pub u16);
 #[derive(Clone, Copy, Debug, PartialEq, Eq, PartialOrd, Ord)]
 pub struct Link(pub u16);
 
+impl Link {
+    /// Whether the link leads to one item only, as those from 32,768 up do: no item of a record has two items by it.
+    pub fn leads_to_one(self) -> bool {
+        self.0 >= 32_768
+    }
+}
+
 /// What the entries of an input stand for.
 #[derive(Clone, Copy, Debug, PartialEq, Eq)]
 pub enum Sort {
@@ -122,6 +129,16 @@ impl Says {
             | Says::Group(link, _) => Some(link),
             _ => None,
         }
+    }
+
+    /// Whether every item meets the entry, since its link leads to one item only: at most 1 or more.
+    pub fn is_always_met(self) -> bool {
+        matches!(self, Says::AtMost(link, n) if link.leads_to_one() && n > 0)
+    }
+
+    /// Whether no item meets the entry, since its link leads to one item only: at least 2 or more.
+    pub fn is_impossible(self) -> bool {
+        matches!(self, Says::AtLeast(link, n) if link.leads_to_one() && n > 1)
     }
 
     /// The property that the entry speaks of.

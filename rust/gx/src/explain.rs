@@ -30,6 +30,8 @@ pub struct Failure {
     pub place_known: bool,
     /// The entries of the supplier's description at that place which speak of the same thing.
     pub supplier: Vec<usize>,
+    /// Whether one of these says nothing, since its link leads to one item only.
+    pub supplier_always_met: bool,
     /// The entries of the supplier's description that lead there, or as far as any does.
     pub supplier_owners: Vec<usize>,
     /// The specimen.
@@ -87,7 +89,7 @@ fn failure(
     let says = service.entries[entry - 1].says();
     let way = way(&service.entries, entry);
     let (said, _) = on_subject(normal, &way, says);
-    let (_, numbers) = on_subject(&supplier.entries, &way, says);
+    let (by_supplier, numbers) = on_subject(&supplier.entries, &way, says);
     Failure {
         entry,
         says,
@@ -95,6 +97,7 @@ fn failure(
         place_known: !places(normal, &Tree::new(normal), &way).is_empty(),
         said,
         supplier: numbers,
+        supplier_always_met: by_supplier.iter().any(|says| says.is_always_met()),
         supplier_owners: leading(&supplier.entries, &way),
         specimen: marked(specimen, &way, says),
         way,
@@ -186,8 +189,28 @@ impl Failure {
         words.asks(&self.way, self.says)
     }
 
-    /// What the supplier's description says there.
+    /// What the supplier's description says there, and what follows of a link that leads to one item only.
     pub fn supplier_says(&self, words: Words<'_>) -> String {
+        self.supplier_has(words) + &self.one_item_only()
+    }
+
+    /// Why a number above 1 is asked in vain, or says nothing, of a link that leads to one item only.
+    fn one_item_only(&self) -> String {
+        match self.says {
+            Says::AtLeast(link, n) if self.says.is_impossible() => format!(
+                "; at least {} is impossible, since link {} leads to one item only",
+                grouped(n.into()),
+                link.0
+            ),
+            Says::AtMost(link, _) if self.supplier_always_met => format!(
+                "; its at most says nothing, since link {} leads to one item only",
+                link.0
+            ),
+            _ => String::new(),
+        }
+    }
+
+    fn supplier_has(&self, words: Words<'_>) -> String {
         let every = words.these(&self.way);
         if self.says == Says::Nothing {
             return format!("of {every}, nothing that shuts out all items");

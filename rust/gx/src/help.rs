@@ -86,10 +86,10 @@ fn detail(command: Command) -> &'static str {
         Command::Show => SHOW,
         Command::Write => "Reads a text and writes its blocks to standard output or into a file. Nothing is written where the library refuses them.\n",
         Command::Check => "Says what the library's reader says. Of a refusal it tells the row of the table, what is wrong in words, and shows the\nblock or entry in its surroundings; of an entry of a text also the line.\n",
-        Command::Normal => "Writes the library's normal form of a description.\n",
+        Command::Normal => NORMAL,
         Command::Fit => "Answers whether the top item of the specimen fits the description; for a no it names the first entry that is not met.\n",
         Command::Compare => COMPARE,
-        Command::Owl => "Writes an ontology with the classes Supplier and Service, and SupplierOnly for what fits the first and not the second. The\nsupplier's description is contained in the service's exactly if a reasoner finds Supplier below Service, or SupplierOnly\nunsatisfiable. Property 7 is the class property_7, link 1 the object property link_1; words become labels.\n",
+        Command::Owl => "Writes an ontology with the classes Supplier and Service, and SupplierOnly for what fits the first and not the second. The\nsupplier's description is contained in the service's exactly if a reasoner finds Supplier below Service, or SupplierOnly\nunsatisfiable. Property 7 is the class property_7, link 1 the object property link_1; words become labels. Links from 32768 up\nare functional.\n",
         Command::FromOwl => FROM_OWL,
     }
 }
@@ -97,6 +97,11 @@ fn detail(command: Command) -> &'static str {
 const SHOW: &str = "\
 Shows blocks as text that 'gx write' reads back to the same blocks. An entry's number is written, as #12, only where entries do
 not stand in the order of their numbers; --numbers writes them all.
+";
+
+const NORMAL: &str = "\
+Writes the library's normal form of a description. Links from 32768 up lead to one item only: at least 2 by one makes its place
+impossible, and at most 1 or more, which every item meets, is left out.
 ";
 
 const COMPARE: &str = "\
@@ -107,7 +112,8 @@ where it stands, what the supplier's description says there, and shows a specime
 const FROM_OWL: &str = "\
 Reads OWL 2 functional syntax: a class expression, or an ontology in which EquivalentClasses defines classes. It takes classes,
 ObjectComplementOf a class, ObjectIntersectionOf, ObjectAllValuesFrom, ObjectMinCardinality, ObjectMaxCardinality,
-ObjectExactCardinality, ObjectSomeValuesFrom owl:Thing, owl:Thing and owl:Nothing; of anything else it says what it is and where.
+ObjectExactCardinality, ObjectSomeValuesFrom owl:Thing, owl:Thing and owl:Nothing, and of links from 32768 up
+FunctionalObjectProperty; of anything else it says what it is and where.
 Names are property_7 and link_1 of <urn:goltximen#>, or others whose label or last part the names file knows.
 ";
 
@@ -142,7 +148,7 @@ A text has an entry on each line, or divides them by ';':
 
     every link 1 \"sample\" [
         at least 1 link 2 \"core\"
-        at most 1 link 32768 \"taken from field\"
+        at least 1 link 32768 \"taken from field\"
         has property 7 \"sealed\"
     ]
 
@@ -156,6 +162,9 @@ or, as at the desk, kind,name,number: 5,1 [3,2,1; 4,2,1]. After a number may com
 the number where the names file, or the text before, knows it: at least 1 core. Entries are numbered as they are written, from 1;
 #12 before an entry gives it the number 12, and those after it count on. The word 'description' or 'specimen' may come first; a
 text without entries needs it. // begins a remark.
+
+Links from 32768 up, such as 'taken from field', lead to one item only. No record has two items by one: a group that brings its
+owner a second one is refused (9), at least 2 is impossible, and every item meets at most 1 or more.
 
 A names file has lines like
     property 7 \"sealed\"

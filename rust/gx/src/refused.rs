@@ -9,6 +9,7 @@ use crate::entry::{Entry, Sort};
 use crate::names::Names;
 use crate::text;
 use crate::tree::owners;
+use crate::words::grouped;
 
 /// Why the input is refused, in words.
 pub fn why(refusal: Refusal, sort: Sort, bytes: &[u8]) -> String {
@@ -23,7 +24,7 @@ pub fn why(refusal: Refusal, sort: Sort, bytes: &[u8]) -> String {
             let fault = blocks::frame(bytes, place).map(|frame| frame_fault(frame, place, bytes));
             format!("block {place}: {}", fault.unwrap_or_default())
         }
-        Reason::Form | Reason::Owner | Reason::Depth => {
+        Reason::Form | Reason::Owner | Reason::Depth | Reason::SecondItem => {
             let entries = blocks::decode(bytes);
             let e = entries
                 .get(place.wrapping_sub(1))
@@ -32,7 +33,8 @@ pub fn why(refusal: Refusal, sort: Sort, bytes: &[u8]) -> String {
             let fault = match refusal.reason {
                 Reason::Form => form_fault(sort, e),
                 Reason::Owner => owner_fault(sort, e, place, &entries),
-                _ => depth_fault(&entries, place),
+                Reason::Depth => depth_fault(&entries, place),
+                _ => second_item_fault(e, place, &entries),
             };
             format!("entry {place}: {fault}")
         }
@@ -161,6 +163,25 @@ fn depth_fault(entries: &[Entry], number: usize) -> String {
     format!("it stands {depth} deep, and the most is 32")
 }
 
+/// A group of several items, or a second group of its owner, by a link that leads to one item only.
+fn second_item_fault(e: Entry, number: usize, entries: &[Entry]) -> String {
+    let only = format!("link {}, which leads to one item only", e.name);
+    let items = u32::from(e.number) + 1;
+    if items > 1 {
+        return format!("it is a group of {} items by {only}", grouped(items));
+    }
+    let owner = match e.owner {
+        0 => "the top item".into(),
+        owner => format!("its owner, entry {owner},"),
+    };
+    let same = |other: &Entry| (other.kind, other.owner, other.name) == (7, e.owner, e.name);
+    let first = entries[..number - 1]
+        .iter()
+        .position(same)
+        .map_or(0, |at| at + 1);
+    format!("it brings {owner} a second item by {only}; entry {first} is the first")
+}
+
 /// How many entries are shown on each side.
 const AROUND: usize = 3;
 
@@ -170,7 +191,9 @@ pub fn shown(refusal: Refusal, bytes: &[u8], names: &Names) -> String {
     match refusal.reason {
         Reason::Length | Reason::Output => String::new(),
         Reason::Check | Reason::Frame => shown_blocks(bytes, place),
-        Reason::Form | Reason::Owner | Reason::Depth => shown_entries(bytes, place, names),
+        Reason::Form | Reason::Owner | Reason::Depth | Reason::SecondItem => {
+            shown_entries(bytes, place, names)
+        }
     }
 }
 

@@ -89,7 +89,7 @@ impl<'a> Words<'a> {
         }
     }
 
-    /// What an entry says, without where: "at most 1 taken from field".
+    /// What an entry says, without where: "at most 2 cores".
     pub fn says(self, says: Says) -> String {
         match says {
             Says::Has(property) => format!("has {}", self.property(property)),
@@ -103,7 +103,7 @@ impl<'a> Words<'a> {
         }
     }
 
-    /// What an entry says, with where it stands: "of every sample, at most 1 taken from field".
+    /// What an entry says, with where it stands: "of every sample, at most 2 cores".
     pub fn asks(self, way: &[Link], says: Says) -> String {
         let every = self.every(way);
         match says {

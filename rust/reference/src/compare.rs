@@ -99,7 +99,8 @@ fn place_at<'a>(n: &'a Place, w: &[Link]) -> Option<&'a Place> {
 
 /// "Kinds 1 and 2 need the same entry; kind 3 needs n = 0 or at least m with
 /// m ≥ n; kind 4 needs at most m with m ≤ n; kind 5 always holds; kind 6
-/// never does."
+/// never does." Of a link that never leads to two items, "at most 1 or more
+/// [...] holds in every comparison".
 fn supports(place: Option<&Place>, e: &Entry) -> bool {
     let facts = place.map_or(&[][..], |place| &place.facts);
     let link = Link(e.name);
@@ -112,9 +113,12 @@ fn supports(place: Option<&Place>, e: &Entry) -> bool {
                     .iter()
                     .any(|fact| at_least(fact, link).is_some_and(|m| m >= e.number))
         }
-        4 => facts
-            .iter()
-            .any(|fact| at_most(fact, link).is_some_and(|m| m <= e.number)),
+        4 => {
+            link.always_has_at_most(e.number)
+                || facts
+                    .iter()
+                    .any(|fact| at_most(fact, link).is_some_and(|m| m <= e.number))
+        }
         5 => true,
         _ => false,
     }
@@ -198,6 +202,9 @@ fn properties_at(n: Option<&Place>, ahead: Option<&[Link]>, e: &Entry) -> BTreeS
 /// "At place p, the count for link R is N's at least there (0 if none); at
 /// least 1 if p followed by R lies on W or is W; at least n + 1 if p is W and
 /// e is at most n of R."
+///
+/// By a link that never leads to two items the count is at most 1: N has no
+/// at least 2 of it, and of its at most only at most 0 can fail.
 fn counts_at(n: Option<&Place>, ahead: Option<&[Link]>, e: &Entry) -> BTreeMap<Link, u32> {
     let mut counts = BTreeMap::new();
     for fact in facts_of(n) {

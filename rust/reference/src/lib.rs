@@ -3,8 +3,9 @@
 //! A plain rendering of the paper "Sample descriptions, what fits them, and
 //! when one holds another". Every call first reads its inputs in full, then
 //! works on trees of places, then writes its answer as blocks. Comments in
-//! quotation marks are sentences of that paper, or of the request "A second
-//! check in each block" that came after it.
+//! quotation marks are sentences of that paper, or of the requests "A second
+//! check in each block" and "Links that lead to one item only" that came
+//! after it.
 //!
 //! No call panics, whatever bytes it is given. [`notation`] is for tests.
 

@@ -59,9 +59,12 @@ fn row_of_fact(fact: &Fact) -> Row {
 /// A rule at one place; it says whether it changed anything.
 type Rule = fn(&mut Place) -> bool;
 
+/// The request's rule, which has no number in the paper.
+const REQUEST: u8 = 10;
+
 /// The rules that apply at any place; the number is the one in the paper, 0
 /// for "Equal entries of one place become one."
-const RULES: [(u8, Rule); 9] = [
+const RULES: [(u8, Rule); 10] = [
     (1, merge_every),
     (2, remove_contradictions),
     (3, remove_overcounts),
@@ -71,6 +74,7 @@ const RULES: [(u8, Rule); 9] = [
     (8, drop_at_least_0),
     (9, drop_empty_every),
     (0, join_equal),
+    (REQUEST, drop_at_most_always_met),
 ];
 
 /// The normal form of a description given by its top place: the rules are
@@ -153,11 +157,15 @@ fn contradicts(place: &Place) -> bool {
     })
 }
 
-/// "where at least n and at most m of one link have m < n"
+/// "where at least n and at most m of one link have m < n"; and where at
+/// least n asks for more than the link can lead to: "at least 2 of such a
+/// link makes its place impossible"
 fn overcounts(place: &Place) -> bool {
     let smallest = smallest_at_most(place);
     place.facts.iter().any(|fact| match fact {
-        Fact::AtLeast(link, n) => smallest.get(link).is_some_and(|m| m < n),
+        Fact::AtLeast(link, n) => {
+            smallest.get(link).is_some_and(|m| m < n) || link.cap().is_some_and(|cap| cap < *n)
+        }
         _ => false,
     })
 }
@@ -238,6 +246,15 @@ fn drop_at_least_0(place: &mut Place) -> bool {
     place
         .facts
         .retain(|fact| !matches!(fact, Fact::AtLeast(_, 0)));
+    place.facts.len() != before
+}
+
+/// "at most 1 or more is always met: it is dropped from a normal form"
+fn drop_at_most_always_met(place: &mut Place) -> bool {
+    let before = place.facts.len();
+    place
+        .facts
+        .retain(|fact| !matches!(fact, Fact::AtMost(link, n) if link.always_has_at_most(*n)));
     place.facts.len() != before
 }
 
@@ -341,6 +358,47 @@ mod tests {
     }
 
     #[test]
+    fn rules_3_and_5_of_a_single_link() {
+        let two = [Fact::AtLeast(Link(32_768), 2)];
+        let one = [Fact::AtLeast(Link(32_768), 1)];
+        let good = vec![
+            every(7, place(&one, vec![])),
+            every(8, place(&[Fact::AtLeast(Link(32_767), 2)], vec![])),
+        ];
+        let mut all = good.clone();
+        all.push(every(9, place(&two, vec![every(1, Place::default())])));
+        check(
+            remove_overcounts,
+            place(&[], all),
+            place(&[Fact::AtMost(Link(9), 0)], good),
+        );
+        check(
+            replace_impossible_top,
+            place(&two, vec![]),
+            place(&[Fact::Nothing], vec![]),
+        );
+    }
+
+    #[test]
+    fn the_request_s_rule() {
+        let at_most = |link, n| Fact::AtMost(Link(link), n);
+        check(
+            drop_at_most_always_met,
+            place(
+                &[
+                    at_most(32_768, 1),
+                    HAS,
+                    at_most(32_768, 0),
+                    at_most(65_535, 65_535),
+                    at_most(32_767, 1),
+                ],
+                vec![],
+            ),
+            place(&[HAS, at_most(32_768, 0), at_most(32_767, 1)], vec![]),
+        );
+    }
+
+    #[test]
     fn rule_4() {
         let facts = [Fact::AtMost(Link(1), 0), Fact::AtMost(Link(2), 1)];
         let kept = every(2, place(&[HAS], vec![]));
@@ -416,8 +474,8 @@ mod tests {
     }
 
     #[test]
-    fn rules_are_the_nine_and_equal_entries() {
+    fn rules_are_the_nine_equal_entries_and_the_request() {
         let numbers: Vec<u8> = RULES.iter().map(|rule| rule.0).collect();
-        assert_eq!(numbers, [1, 2, 3, 4, 6, 7, 8, 9, 0]);
+        assert_eq!(numbers, [1, 2, 3, 4, 6, 7, 8, 9, 0, REQUEST]);
     }
 }

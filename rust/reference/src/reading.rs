@@ -1,7 +1,8 @@
-//! Reading of descriptions and specimens: refusals 1 to 6.
+//! Reading of descriptions and specimens: refusals 1 to 6 and 9.
 
 use crate::blocks::{check_blocks, check_length, decode, Entry};
-use crate::refusal::{Refusal, DEPTH, ENTRY, OWNER};
+use crate::refusal::{Refusal, DEPTH, ENTRY, OWNER, SECOND_ITEM};
+use crate::tree::Link;
 
 /// "An entry's depth is the number of entries in its chain of owners, at
 /// most 32".
@@ -55,7 +56,8 @@ pub fn read_specimen(bytes: &[u8]) -> Result<usize, Refusal> {
 /// The entries of an accepted input, or its refusal.
 ///
 /// "In one input: 1; then the lowest block that breaks 2 or 3 decides, 2
-/// before 3; then the lowest entry that breaks 4, 5 or 6, in that order."
+/// before 3; then the lowest entry that breaks 4, 5 or 6, in that order." The
+/// request adds 9, "after 6 at the same entry".
 pub(crate) fn read(bytes: &[u8], sort: Sort, input: u16) -> Result<Vec<Entry>, Refusal> {
     check_length(bytes, sort.most_blocks(), input)?;
     check_blocks(bytes, input)?;
@@ -64,7 +66,7 @@ pub(crate) fn read(bytes: &[u8], sort: Sort, input: u16) -> Result<Vec<Entry>, R
     Ok(entries)
 }
 
-/// "the lowest entry that breaks 4, 5 or 6, in that order"
+/// "the lowest entry that breaks 4, 5 or 6, in that order", or 9 after them
 fn check_entries(entries: &[Entry], sort: Sort, input: u16) -> Result<(), Refusal> {
     let mut earlier: Vec<(Entry, usize)> = Vec::new();
     for entry in entries {
@@ -73,8 +75,30 @@ fn check_entries(entries: &[Entry], sort: Sort, input: u16) -> Result<(), Refusa
             Ok(depth) => earlier.push((*entry, depth)),
             Err(number) => return Err(Refusal::at(number, input, place)),
         }
+        if brings_a_second_item(entry, &earlier) {
+            return Err(Refusal::at(SECOND_ITEM, input, place));
+        }
     }
     Ok(())
+}
+
+/// "a specimen group that brings its owner above one item by such a link";
+/// the entry is the last of those so far.
+///
+/// All items of the owner are linked to the same items of its groups, so one
+/// item of the owner has as many as the groups have together.
+fn brings_a_second_item(entry: &Entry, so_far: &[(Entry, usize)]) -> bool {
+    let link = Link(entry.name);
+    entry.kind == 7 && link.is_single() && items_by(entry.owner, link, so_far) > 1
+}
+
+/// "Groups of one owner and link add up."
+fn items_by(owner: u16, link: Link, so_far: &[(Entry, usize)]) -> u64 {
+    so_far
+        .iter()
+        .filter(|(e, _)| e.kind == 7 && e.owner == owner && Link(e.name) == link)
+        .map(|(e, _)| u64::from(e.number).saturating_add(1))
+        .fold(0, u64::saturating_add)
 }
 
 /// The depth of an entry, given the earlier entries with their depths; or

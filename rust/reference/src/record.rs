@@ -10,6 +10,9 @@ use crate::tree::{Link, Property};
 /// "A finite record is a finite set of items, for each property the set of
 /// items that have it, for each link a set of ordered pairs."
 ///
+/// Any such sets can be put in here, also those that break the request's rule
+/// on links that never lead to two items; `keeps_the_rule` tells.
+///
 /// The items are the numbers from 0 up to but not including `items`.
 #[derive(Clone, Debug, Default, PartialEq, Eq)]
 pub struct Record {
@@ -51,6 +54,15 @@ impl Record {
         self.properties
             .get(&property)
             .is_some_and(|items| items.contains(&item))
+    }
+
+    /// "A finite record now keeps this rule": no item is linked to two items
+    /// by a link that never leads to two.
+    pub fn keeps_the_rule(&self) -> bool {
+        self.links
+            .keys()
+            .filter(|link| link.is_single())
+            .all(|&link| (0..self.items).all(|item| self.linked(item, link).count() <= 1))
     }
 
     /// The different items that the item is linked to by the link.

@@ -7,7 +7,7 @@
 /// number 7)."
 #[derive(Clone, Copy, Debug, PartialEq, Eq)]
 pub struct Refusal {
-    /// The number in the first column of the table of refusals, 1 to 7.
+    /// The number in the first column of the table of refusals, 1 to 7, or 9.
     pub number: u8,
     /// The input that is refused: 1 or 2, or 0 for number 7.
     pub input: u16,
@@ -30,6 +30,8 @@ pub(crate) const OWNER: u8 = 5;
 pub(crate) const DEPTH: u8 = 6;
 /// "output too short"
 pub(crate) const OUTPUT: u8 = 7;
+/// "a specimen group that brings its owner above one item by such a link"
+pub(crate) const SECOND_ITEM: u8 = 9;
 
 impl Refusal {
     /// The refusal with this number at this place of this input.

@@ -11,6 +11,27 @@ pub struct Property(pub u16);
 #[derive(Clone, Copy, Debug, PartialEq, Eq, PartialOrd, Ord)]
 pub struct Link(pub u16);
 
+/// "Link numbers from 32,768 up are such links."
+const FIRST_SINGLE: u16 = 32_768;
+
+impl Link {
+    /// Whether the link is one of those that "never lead to two items".
+    pub fn is_single(self) -> bool {
+        self.0 >= FIRST_SINGLE
+    }
+
+    /// The most items that this link leads to in a record that keeps the
+    /// rule, or nothing if there is no such bound.
+    pub(crate) fn cap(self) -> Option<u16> {
+        self.is_single().then_some(1)
+    }
+
+    /// Whether at most n of this link "is always met".
+    pub(crate) fn always_has_at_most(self, n: u16) -> bool {
+        self.cap().is_some_and(|cap| cap <= n)
+    }
+}
+
 /// An entry of kind 1, 2, 3, 4 or 6.
 #[derive(Clone, Copy, Debug, PartialEq, Eq)]
 pub(crate) enum Fact {

@@ -1,6 +1,6 @@
 -- Passes over entries that go block by block: each entry of a block is that of the list.
 -- Assumes nothing.
-use Prim.Native.Nat.{_*_, _+_, _-_, _<_, ℕ}
+use Prim.Native.Nat.{_*_, _+_, _-_, _<_, _≤_, ℕ}
 use lib.ListN.{length}
 use mathlib.Core.List.{List}
 use mathlib.Core.Path.{_∙_, _≡_, ap, sym}
@@ -26,12 +26,15 @@ module _ {total n at count : ℕ} (b : AtBlock total n at) (more : n < total) (e
   unfolding nextCount entryPos
   place-here i h = omega (arith, b .start, b .full more)
 
-  -- its entries are those of the list
-  pub in-block : {s : List ℕ} → total ≡ length (entriesOf s) → Whole s total → InBlock s at count n
+  -- its entries are those of the list, also where the pass is to end before the last
+  pub in-front : {s : List ℕ} → total ≤ length (entriesOf s) → Whole s total → InBlock s at count n
   unfolding nextCount entryAt
-  in-block {s} t w = record {
+  in-front {s} t w = record {
     there = omega (arith, b .start, b .full more);
     within = omega arith;
     each = λ i h.
         ap (entryFrom s) (place-here i h) ∙ sym (nth-entries s (n + i + 1) (omega arith) (omega (arith, length-entries s)));
   }
+
+  pub in-block : {s : List ℕ} → total ≡ length (entriesOf s) → Whole s total → InBlock s at count n
+  in-block t w = in-front (omega arith) w

@@ -1,6 +1,6 @@
--- Lists of entries that break none of numbers 4 to 6 of the table of refusals.
+-- Lists of entries that break none of numbers 4 to 6 of the table of refusals, nor a further line of their schema.
 -- Assumes nothing.
-use Prim.Native.Nat.{_+_, _<_, _≤_, suc, zero, ℕ}
+use Prim.Native.Nat.{_<_, _≤_, ℕ}
 use lib.Dec.{eqb, leb, ltb}
 use lib.ListN.{length}
 use mathlib.Core.Bool.{_&&_, true}
@@ -8,13 +8,14 @@ use mathlib.Core.List.{List}
 use mathlib.Core.Logic.{_≢_}
 use mathlib.Core.Path.{_≡_}
 use native.Mathlib.Omega.{arith}
-use Rattle.base.proofs.Tests.{and-left, and-right, eq-cases, eqb-eq, leb-le, ltb-lt, not-to-false, or-cases, tests, true-of-not}
+use Rattle.base.proofs.Tests.{and-left, and-right, eqb-eq, leb-le, ltb-lt, not-to-false, or-cases, tests, true-of-not}
+use Rattle.blocks.proofs.Refusing.RowLaws.{each-none, none-each}
 use Rattle.blocks.specs.Entries.{formOk, kindOk, nth, owningKind}
-use Rattle.blocks.specs.Faults.{entryFaults}
+use Rattle.blocks.specs.Faults.{entryFaults, entryRows}
 use Rattle.blocks.specs.Owners.{depthOk, ownerOf, ownerOk}
-use Rattle.blocks.specs.Promise.{Legal, None}
+use Rattle.blocks.specs.Promise.{Further, Legal, None}
 use Rattle.blocks.specs.declared.Entry.{Entry}
-use Rattle.blocks.specs.declared.Schema.the-variants.{Description}
+use Rattle.blocks.specs.declared.Schema.the-variants.{Description, Specimen}
 use Rattle.blocks.specs.declared.Schema.{Schema}
 
 -- owners stand earlier
@@ -34,38 +35,43 @@ owner-kind {σ} {es} L n h le z =
     (λ q. absurd (z (eqb-eq q)))
     (λ q. eqb-eq (and-right (ltb (ownerOf es n) n) (eqb (nth es (ownerOf es n) .kind) (owningKind σ)) q))
 
--- ---- against the list of faults
+-- ---- a list of which no line by entries applies is legal and keeps the further lines, and the other way round
 
-entries-none : (σ : Schema) (es : List Entry) (n left : ℕ) → None (entryFaults σ es n left) → (k : ℕ) → n ≤ k → k < n + left
-    → (formOk σ (nth es k) ≡ true) × ((ownerOk σ es k ≡ true) × (depthOk es k ≡ true))
-unfolding entryFaults None
-entries-none σ es n zero h k lo hi = absurd (omega arith)
-entries-none σ es n (suc left) h k lo hi =
-    eq-cases k n
-    (λ q. rw q (true-of-not (formOk σ (nth es n)) (h .0), (true-of-not (ownerOk σ es n) (h .1 .0), true-of-not (depthOk es n) (h .1 .1 .0))))
-    (λ q. entries-none σ es (suc n) left (h .1 .1 .1) k (omega arith) (omega arith))
+-- the lines of each entry
+rows-none : (σ : Schema) (es : List Entry) → None (entryFaults σ es 1 (length es)) → (n : ℕ) → 1 ≤ n → n ≤ length es → None (entryRows σ es n)
+unfolding entryFaults
+rows-none σ es h n lo hi = none-each (entryRows σ es) 1 (length es) h n lo (omega arith)
 
-none-entries : (σ : Schema) (es : List Entry) (n left : ℕ)
-    → ((k : ℕ) → n ≤ k → k < n + left → (formOk σ (nth es k) ≡ true) × ((ownerOk σ es k ≡ true) × (depthOk es k ≡ true)))
-    → None (entryFaults σ es n left)
-unfolding entryFaults None
-none-entries σ es n zero h = tt
-none-entries σ es n (suc left) h =
-    let g = h n (omega arith) (omega arith) in
-    (not-to-false (g .0), (not-to-false (g .1 .0), (not-to-false (g .1 .1), none-entries σ es (suc n) left (λ k lo hi. h k (omega arith) (omega arith)))))
+-- of which numbers 4 to 6 come first
+rules-none : (σ : Schema) (es : List Entry) (n : ℕ) → None (entryRows σ es n)
+    → (formOk σ (nth es n) ≡ true) × ((ownerOk σ es n ≡ true) × (depthOk es n ≡ true))
+unfolding None
+rules-none Description es n h = (true-of-not _ (h .0), (true-of-not _ (h .1 .0), true-of-not _ (h .1 .1 .0)))
+rules-none Specimen es n h = (true-of-not _ (h .0), (true-of-not _ (h .1 .0), true-of-not _ (h .1 .1 .0)))
 
--- a list of which no fault by entries applies is legal, and the other way round
 pub none-legal : {σ : Schema} {es : List Entry} → None (entryFaults σ es 1 (length es)) → Legal σ es
 none-legal {σ} {es} h = record {
-  form = λ n lo hi. entries-none σ es 1 (length es) h n lo (omega arith) .0;
-  owner = λ n lo hi. entries-none σ es 1 (length es) h n lo (omega arith) .1 .0;
-  depth = λ n lo hi. entries-none σ es 1 (length es) h n lo (omega arith) .1 .1;
+  form = λ n lo hi. rules-none σ es n (rows-none σ es h n lo hi) .0;
+  owner = λ n lo hi. rules-none σ es n (rows-none σ es h n lo hi) .1 .0;
+  depth = λ n lo hi. rules-none σ es n (rows-none σ es h n lo hi) .1 .1;
 }
 
-pub legal-none : {σ : Schema} {es : List Entry} → Legal σ es → None (entryFaults σ es 1 (length es))
-legal-none {σ} {es} L =
-    none-entries σ es 1 (length es)
-    (λ k lo hi. (L .form k lo (omega arith), (L .owner k lo (omega arith), L .depth k lo (omega arith))))
+pub none-further : (σ : Schema) (es : List Entry) → None (entryFaults σ es 1 (length es)) → Further σ es
+unfolding None
+none-further Description es h = tt
+none-further Specimen es h = record { each = λ n lo hi. true-of-not _ (rows-none Specimen es h n lo hi .1 .1 .1 .0) }
+
+pub legal-none : {σ : Schema} {es : List Entry} → Legal σ es → Further σ es → None (entryFaults σ es 1 (length es))
+unfolding None entryFaults
+legal-none {σ} {es} L f = each-none (entryRows σ es) 1 (length es) (λ n lo hi. here σ L f n lo (omega arith))
+  where
+    here : (σ : Schema) → Legal σ es → Further σ es → (n : ℕ) → 1 ≤ n → n ≤ length es → None (entryRows σ es n)
+    here Description L f n lo hi =
+        (not-to-false (L .form n lo hi), (not-to-false (L .owner n lo hi), (not-to-false (L .depth n lo hi), tt)))
+    here Specimen L f n lo hi = (
+      not-to-false (L .form n lo hi),
+      (not-to-false (L .owner n lo hi), (not-to-false (L .depth n lo hi), (not-to-false (f .each n lo hi), tt))),
+    )
 
 -- a kind that is allowed is a number of the table
 pub form-kind : (e : Entry) → formOk Description e ≡ true → (1 ≤ e .kind) × (e .kind ≤ 6)

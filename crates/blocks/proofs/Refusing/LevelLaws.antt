@@ -16,9 +16,9 @@ use Rattle.base.proofs.RangeLaws.{none-left, one-left}
 use Rattle.base.proofs.Tests.{bool-cases, eq-cases, eq-eqb, ge-ltb, lt-cases, lt-ltb, ne-eqb, tests}
 use Rattle.blocks.proofs.Refusing.FirstFault.{first-append, orElse, step, step-found, step-more}
 use Rattle.blocks.specs.Entries.{formOk, nth, owningKind}
-use Rattle.blocks.specs.Faults.{entryFaults, first}
+use Rattle.blocks.specs.Faults.{first, rowsFrom}
 use Rattle.blocks.specs.Owners.{chain, depthOf, depthOk, levelOf, ownerOf, ownerOk}
-use Rattle.blocks.specs.code.ReadingSteps.{Levels, entryRefusal, levelBy, levelUnder}
+use Rattle.blocks.specs.code.ReadingSteps.{Levels, entryRefusal, levelBy, levelUnder, ruleFaults}
 use Rattle.blocks.specs.declared.Entry.{Entry}
 use Rattle.blocks.specs.declared.Finding.{Finding}
 use Rattle.blocks.specs.declared.Finding.the-variants.{Clean, Faulty}
@@ -114,8 +114,8 @@ module _ (σ : Schema) (es : List Entry) (t : List ℕ) (n : ℕ) {e : Entry} {l
   refusal-here : number ≡ entryRefusal σ (nth es n) l
   refusal-here = r ∙ ap (λ (x : Entry). entryRefusal σ x l) at
 
-  entry-step : (left : ℕ) → first (entryFaults σ es n (suc left)) ≡ step number n (first (entryFaults σ es (suc n) left))
-  unfolding entryFaults first entryRefusal depthOk
+  entry-step : (left : ℕ) → first (ruleFaults σ es n (suc left)) ≡ step number n (first (ruleFaults σ es (suc n) left))
+  unfolding rowsFrom first entryRefusal depthOk
   entry-step left =
       rw refusal-here (bool-cases (formOk σ (nth es n))
       (λ p. level-cases σ es t n T one owner-level
@@ -129,11 +129,11 @@ module _ (σ : Schema) (es : List Entry) (t : List ℕ) (n : ℕ) {e : Entry} {l
   level-small z = unrefused σ e l (sym r ∙ z) .1 .1
 
   pub entries-more : (total : ℕ) → n ≤ total → number ≡ 0
-      → first (entryFaults σ es n (total + 1 - n)) ≡ first (entryFaults σ es (n + 1) (total + 1 - (n + 1)))
+      → first (ruleFaults σ es n (total + 1 - n)) ≡ first (ruleFaults σ es (n + 1) (total + 1 - (n + 1)))
   entries-more total h z =
       rw (one-left n (total + 1) (omega arith), add-one n) (entry-step (total + 1 - suc n) ∙ step-more _ _ _ z)
 
-  pub entries-found : (total : ℕ) → n ≤ total → number ≢ 0 → first (entryFaults σ es n (total + 1 - n)) ≡ Faulty number n
+  pub entries-found : (total : ℕ) → n ≤ total → number ≢ 0 → first (ruleFaults σ es n (total + 1 - n)) ≡ Faulty number n
   entries-found total h z =
       rw (one-left n (total + 1) (omega arith)) (entry-step (total + 1 - (n + 1)) ∙ step-found _ _ _ z)
 
@@ -154,15 +154,15 @@ module _ (σ : Schema) (es : List Entry) (t : List ℕ) (n : ℕ) {e : Entry} {l
         early = λ k k≥ k<. below-more (λ j. 1 ≤ j → ownerOf es j < j) n (λ j j< j≥. T .early j j≥ j<) (λ g. lt) k k< k≥;
       })
 
-pub entries-end : (σ : Schema) (es : List Entry) (n total : ℕ) → total < n → first (entryFaults σ es n (total + 1 - n)) ≡ Clean
-unfolding entryFaults first
+pub entries-end : (σ : Schema) (es : List Entry) (n total : ℕ) → total < n → first (ruleFaults σ es n (total + 1 - n)) ≡ Clean
+unfolding rowsFrom first
 entries-end σ es n total h = rw (none-left n (total + 1) (omega arith))
 
 -- ---- `count` entries at a time
 
 module _ (σ : Schema) (es : List Entry) where
-  faults-split : (n a b : ℕ) → entryFaults σ es n (a + b) ≡ entryFaults σ es n a ++ entryFaults σ es (n + a) b
-  unfolding entryFaults
+  faults-split : (n a b : ℕ) → ruleFaults σ es n (a + b) ≡ ruleFaults σ es n a ++ ruleFaults σ es (n + a) b
+  unfolding rowsFrom
   faults-split n zero b =
       let e : n + 0 ≡ n = omega arith in
       let z : 0 + b ≡ b = omega arith in
@@ -173,15 +173,15 @@ module _ (σ : Schema) (es : List Entry) where
       rw (e, s, faults-split (suc n) a b)
 
   first-split : (n count e : ℕ) → n + count ≤ e
-      → first (entryFaults σ es n (e - n)) ≡ orElse (first (entryFaults σ es n count)) (first (entryFaults σ es (n + count) (e - (n + count))))
+      → first (ruleFaults σ es n (e - n)) ≡ orElse (first (ruleFaults σ es n count)) (first (ruleFaults σ es (n + count) (e - (n + count))))
   first-split n count e h =
       let s : e - n ≡ count + (e - (n + count)) = omega arith in
       rw (s, faults-split n count (e - (n + count))) (first-append _ _)
 
-  pub entries-later : (n count e : ℕ) {r : Finding} → n + count ≤ e → r ≡ first (entryFaults σ es n count) → r ≡ Clean
-      → first (entryFaults σ es n (e - n)) ≡ first (entryFaults σ es (n + count) (e - (n + count)))
+  pub entries-later : (n count e : ℕ) {r : Finding} → n + count ≤ e → r ≡ first (ruleFaults σ es n count) → r ≡ Clean
+      → first (ruleFaults σ es n (e - n)) ≡ first (ruleFaults σ es (n + count) (e - (n + count)))
   entries-later n count e h q z = first-split n count e h ∙ rw (← q, z)
 
-  pub entries-sooner : (n count e : ℕ) {r : Finding} {k p : ℕ} → n + count ≤ e → r ≡ first (entryFaults σ es n count) → r ≡ Faulty k p
-      → first (entryFaults σ es n (e - n)) ≡ Faulty k p
+  pub entries-sooner : (n count e : ℕ) {r : Finding} {k p : ℕ} → n + count ≤ e → r ≡ first (ruleFaults σ es n count) → r ≡ Faulty k p
+      → first (ruleFaults σ es n (e - n)) ≡ Faulty k p
   entries-sooner n count e h q z = first-split n count e h ∙ rw (← q, z)

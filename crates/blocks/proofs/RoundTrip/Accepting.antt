@@ -1,5 +1,5 @@
 -- What reading means: a refusal is the first fault in the paper's order, an accepted input is the encoding of its entries, and every
--- legal list is accepted once encoded.
+-- legal list that keeps the schema's further lines is accepted once encoded.
 -- Assumes nothing.
 use Prim.Native.Nat.{_%_, _*_, _+_, _/_, _<_, _≤_, suc, ℕ}
 use lib.Dec.{eqb}
@@ -16,16 +16,17 @@ use Rattle.blocks.proofs.Format.WordBytes.{Bytes}
 use Rattle.blocks.proofs.Refusing.BlockLaws.{blocks-none, none-blocks}
 use Rattle.blocks.proofs.Refusing.Bounds.{AllBounded}
 use Rattle.blocks.proofs.Refusing.FirstFault.{clean-none, first-found, found-first, none-clean}
-use Rattle.blocks.proofs.Refusing.Legal.{legal-none, none-legal}
+use Rattle.blocks.proofs.Refusing.Legal.{legal-none, none-further, none-legal}
+use Rattle.blocks.proofs.Refusing.RowLaws.{none-both, none-split}
 use Rattle.blocks.proofs.RoundTrip.Decoding.{decode-encode}
 use Rattle.blocks.proofs.RoundTrip.EncodedBlocks.{encode-sound}
 use Rattle.blocks.proofs.RoundTrip.Faithful.{encode-decode}
 use Rattle.blocks.proofs.RoundTrip.Unbroken.{Unbroken}
 use Rattle.blocks.specs.Encoding.{blocksFor, bytesWritten, encode, rowBytes, written}
 use Rattle.blocks.specs.Entries.{Bounded, entriesOf, entryBytes, limitOf, packed}
-use Rattle.blocks.specs.Faults.{Fault, blockFaults, entryFaults, faults, first}
+use Rattle.blocks.specs.Faults.{blockFaults, entryFaults, faults, first}
 use Rattle.blocks.specs.Frame.{blocksIn, plain, totalIn}
-use Rattle.blocks.specs.Promise.{FirstOf, Legal, None}
+use Rattle.blocks.specs.Promise.{FirstOf, Further, Legal, None}
 use Rattle.blocks.specs.Reading.{readingOf, returned}
 use Rattle.blocks.specs.Words.{wordBytes}
 use Rattle.blocks.specs.declared.Entry.{Entry}
@@ -87,20 +88,11 @@ module _ (σ : Schema) (i : ℕ) (s : List ℕ) where
 
 -- ---- accepted inputs and encodings
 
-none-split : (fs gs : List Fault) → None (fs ++ gs) → None fs × None gs
-unfolding None
-none-split [] gs h = (tt, h)
-none-split (f ∷ fs) gs h = let r = none-split fs gs (h .1) in ((h .0, r .0), r .1)
-
-none-both : (fs gs : List Fault) → None fs → None gs → None (fs ++ gs)
-unfolding None
-none-both [] gs p q = q
-none-both (f ∷ fs) gs p q = (p .0, none-both fs gs (p .1) q)
-
 -- what an input that is accepted keeps, number by number
 pub record Sound (σ : Schema) (s : List ℕ) : Type 0 where
   pub blocks : Unbroken plain σ s
   pub entries : Legal σ (entriesOf s)
+  pub further : Further σ (entriesOf s)
 
 module _ (σ : Schema) (i : ℕ) (s : List ℕ) where
   pub sound-of-accepted : {n : ℕ} → readingOf σ i s ≡ Accepted n → Sound σ s
@@ -116,6 +108,7 @@ module _ (σ : Schema) (i : ℕ) (s : List ℕ) where
           frame = λ k l. blocks-none plain s n 0 n (r .0) k (omega arith) (omega arith) .1;
         };
         entries = none-legal (r .1);
+        further = none-further σ (entriesOf s) (r .1);
       }
 
   pub accepted-of-sound : Sound σ s → readingOf σ i s ≡ Accepted (length (entriesOf s))
@@ -126,19 +119,19 @@ module _ (σ : Schema) (i : ℕ) (s : List ℕ) where
         h .blocks .length,
         none-both (blockFaults plain s n 0 n) (entryFaults σ (entriesOf s) 1 (length (entriesOf s)))
             (none-blocks plain s n 0 n (λ k lo hi. (h .blocks .check k (omega arith), h .blocks .frame k (omega arith))))
-            (legal-none (h .entries)),
+            (legal-none (h .entries) (h .further)),
       )
 
   -- an accepted input is the encoding of its entries
   pub accepted-encodes : {n : ℕ} → Bytes s → readingOf σ i s ≡ Accepted n → encode (entriesOf s) ≡ s
   accepted-encodes b e = encode-decode b (sound-of-accepted e .blocks)
 
--- every legal list that the limit allows is accepted once encoded: nothing else is refused
-pub encoded-accepted : (σ : Schema) (i : ℕ) (es : List Entry) → Legal σ es → length es ≤ 63 * limitOf σ
+-- every legal list that keeps the further lines and that the limit allows is accepted once encoded: nothing else is refused
+pub encoded-accepted : (σ : Schema) (i : ℕ) (es : List Entry) → Legal σ es → Further σ es → length es ≤ 63 * limitOf σ
     → readingOf σ i (encode es) ≡ Accepted (length es)
-encoded-accepted σ i es L h =
+encoded-accepted σ i es L f h =
     let back = decode-encode es in
-    accepted-of-sound σ i (encode es) (record { blocks = encode-sound σ es h; entries = rw back L })
+    accepted-of-sound σ i (encode es) (record { blocks = encode-sound σ es h; entries = rw back L; further = rw back f })
     ∙ ap (λ (l : List Entry). Accepted (length l)) back
 
 -- ---- written entries are an encoding

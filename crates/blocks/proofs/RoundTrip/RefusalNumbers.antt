@@ -1,24 +1,26 @@
--- The numbers that reading refuses with are 1 to 6, of the input that was read: 7 is left for an output that is too short. Where
--- none of 1 to 3 applies, they are 4 to 6.
+-- The numbers that reading refuses with are 1 to 6, and 9 for a specimen, of the input that was read: 7 is left for an output that is
+-- too short. Where none of 1 to 3 applies, they are from 4 on.
 -- Assumes nothing.
 use Prim.Native.Nat.{_≤_, suc, zero, ℕ}
 use lib.ListN.{length}
 use mathlib.Core.Bool.{true}
 use mathlib.Core.List.{List, [], _++_, _∷_}
-use mathlib.Core.Path.{_∙_, _≡_, sym}
+use mathlib.Core.Logic.{_≢_, _⊎_, inl, inr, ⊎-elim}
+use mathlib.Core.Path.{_∙_, _≡_, refl, sym}
 use native.Mathlib.Omega.{arith}
 use Rattle.blocks.proofs.Refusing.BlockLaws.{none-blocks}
 use Rattle.blocks.proofs.Refusing.FirstFault.{first-append, first-found, found-first, none-clean}
 use Rattle.blocks.proofs.RoundTrip.Accepting.{first-of-refused}
 use Rattle.blocks.proofs.RoundTrip.Unbroken.{Unbroken}
 use Rattle.blocks.specs.Entries.{entriesOf}
-use Rattle.blocks.specs.Faults.{Fault, blockFaults, entryFaults, fault, faults, first}
+use Rattle.blocks.specs.Faults.{Fault, blockFaults, entryFaults, entryRows, fault, faults, first, rowsFrom}
 use Rattle.blocks.specs.Frame.{blocksIn, plain}
 use Rattle.blocks.specs.Promise.{FirstOf}
 use Rattle.blocks.specs.Reading.{readingOf}
 use Rattle.blocks.specs.declared.Entry.{Entry}
 use Rattle.blocks.specs.declared.Finding.the-variants.{Clean}
 use Rattle.blocks.specs.declared.Reading.the-variants as reading
+use Rattle.blocks.specs.declared.Schema.the-variants.{Description, Specimen}
 use Rattle.blocks.specs.declared.Schema.{Schema}
 
 module _ (P : ℕ → Type 0) where
@@ -36,10 +38,10 @@ module _ (P : ℕ → Type 0) where
   numbers-blocks h₂ h₃ s n i zero = tt
   numbers-blocks h₂ h₃ s n i (suc left) = (h₂, (h₃, numbers-blocks h₂ h₃ s n (suc i) left))
 
-  numbers-entries : P 4 → P 5 → P 6 → (σ : Schema) (es : List Entry) (n left : ℕ) → Numbers (entryFaults σ es n left)
-  unfolding entryFaults
-  numbers-entries h₄ h₅ h₆ σ es n zero = tt
-  numbers-entries h₄ h₅ h₆ σ es n (suc left) = (h₄, (h₅, (h₆, numbers-entries h₄ h₅ h₆ σ es (suc n) left)))
+  numbers-rows : (rows : ℕ → List Fault) → ((k : ℕ) → Numbers (rows k)) → (n left : ℕ) → Numbers (rowsFrom rows n left)
+  unfolding rowsFrom
+  numbers-rows rows h n zero = tt
+  numbers-rows rows h n (suc left) = numbers-both (rows n) (rowsFrom rows (suc n) left) (h n) (numbers-rows rows h (suc n) left)
 
   numbers-listed : (before after : List Fault) (k p : ℕ) → Numbers (before ++ (fault true k p ∷ after)) → P k
   numbers-listed [] after k p h = h .0
@@ -49,27 +51,39 @@ module _ (P : ℕ → Type 0) where
   number-first : {fs : List Fault} {k p : ℕ} → Numbers fs → FirstOf fs k p → P k
   number-first {k = k} {p = p} h f = let l = f .listed in numbers-listed (f .before) (f .after) k p (rw l at h)
 
+-- the numbers of the lines of an entry
+abbrev EntryNumber : Schema → ℕ → Type 0
+EntryNumber Description k = (4 ≤ k) × (k ≤ 6)
+EntryNumber Specimen k = ((4 ≤ k) × (k ≤ 6)) ⊎ (k ≡ 9)
+
+entry-numbers : (P : ℕ → Type 0) (σ : Schema) → ((k : ℕ) → EntryNumber σ k → P k) → (es : List Entry) (n : ℕ) → Numbers P (entryRows σ es n)
+entry-numbers P Description h es n = (h 4 (omega arith, omega arith), (h 5 (omega arith, omega arith), (h 6 (omega arith, omega arith), tt)))
+entry-numbers P Specimen h es n = (
+  h 4 (inl (omega arith, omega arith)),
+  (h 5 (inl (omega arith, omega arith)), (h 6 (inl (omega arith, omega arith)), (h 9 (inr refl), tt))),
+)
+
+entry-low : (σ : Schema) (k : ℕ) → EntryNumber σ k → 4 ≤ k
+entry-low Description k h = h .0
+entry-low Specimen k (inl h) = h .0
+entry-low Specimen k (inr e) = omega arith
+
 module _ (σ : Schema) (i : ℕ) (s : List ℕ) {k j p : ℕ} (e : readingOf σ i s ≡ reading.Refused k j p) where
-  -- a refusal by reading is of the input that was read, with a number up to 6
-  pub reading-number : (k ≤ 6) × (j ≡ i)
-  unfolding faults
-  reading-number =
-      let P : ℕ → Type 0 = λ k. k ≤ 6 in
-      let f = first-of-refused σ i s e in
+  -- a refusal by reading is with one of 1 to 3, or with a number of an entry
+  number-by : (P : ℕ → Type 0) → ((n : ℕ) → n ≤ 3 → P n) → ((n : ℕ) → EntryNumber σ n → P n) → P k
+  unfolding faults entryFaults
+  number-by P low rows =
       let n = blocksIn s in
-      let es = entriesOf s in (
-        number-first P (
-          omega arith,
-          numbers-both P (blockFaults plain s n 0 n) (entryFaults σ es 1 (length es))
-              (numbers-blocks P (omega arith) (omega arith) s n 0 n)
-              (numbers-entries P (omega arith) (omega arith) (omega arith) σ es 1 (length es)),
-        ) (f .1),
-        f .0,
-      )
+      let es = entriesOf s in
+      number-first P (
+        low 1 (omega arith),
+        numbers-both P (blockFaults plain s n 0 n) (entryFaults σ es 1 (length es)) (numbers-blocks P (low 2 (omega arith)) (low 3 (omega arith)) s n 0 n)
+            (numbers-rows P (entryRows σ es) (entry-numbers P σ rows es) 1 (length es)),
+      ) (first-of-refused σ i s e .1)
 
   -- where none of 1 to 3 applies it is by an entry
   pub unbroken-number : Unbroken plain σ s → 4 ≤ k
-  unfolding faults first
+  unfolding faults entryFaults first
   unbroken-number u =
       let P : ℕ → Type 0 = λ k. 4 ≤ k in
       let n = blocksIn s in
@@ -79,5 +93,22 @@ module _ (σ : Schema) (i : ℕ) (s : List ℕ) {k j p : ℕ} (e : readingOf σ 
       let sound : first blocks ≡ Clean
       = none-clean blocks (none-blocks plain s n 0 n (λ m lo hi. (u .check m (omega arith), u .frame m (omega arith)))) in
       let skips : first (faults σ s) ≡ first entries = rw (u .length, first-append blocks entries, sound) in
-      number-first P (numbers-entries P (omega arith) (omega arith) (omega arith) σ es 1 (length es))
+      number-first P (numbers-rows P (entryRows σ es) (entry-numbers P σ (entry-low σ) es) 1 (length es))
       (found-first entries k p (sym skips ∙ first-found (faults σ s) k p (first-of-refused σ i s e .1)))
+
+-- "A description is accepted when none of 1 to 6 applies to it"
+pub description-number : (i : ℕ) (s : List ℕ) {k j p : ℕ} → readingOf Description i s ≡ reading.Refused k j p → k ≤ 6
+description-number i s e = number-by Description i s e (λ k. k ≤ 6) (λ n h. omega arith) (λ n h. h .1)
+
+-- for a specimen there is 9 beside
+pub specimen-number : (i : ℕ) (s : List ℕ) {k j p : ℕ} → readingOf Specimen i s ≡ reading.Refused k j p → (k ≤ 6) ⊎ (k ≡ 9)
+specimen-number i s e =
+    number-by Specimen i s e (λ k. (k ≤ 6) ⊎ (k ≡ 9)) (λ n h. inl (omega arith)) (λ n h. ⊎-elim (λ q. inl (q .1)) (λ q. inr q) h)
+
+-- a refusal by reading is of the input that was read, and never with 7
+pub reading-number : (σ : Schema) (i : ℕ) (s : List ℕ) {k j p : ℕ} → readingOf σ i s ≡ reading.Refused k j p → (k ≢ 7) × (j ≡ i)
+reading-number σ i s {k} {j} e = (by-schema σ e, first-of-refused σ i s e .0)
+  where
+    by-schema : (σ : Schema) {p : ℕ} → readingOf σ i s ≡ reading.Refused k j p → k ≢ 7
+    by-schema Description e = λ z. omega (arith, description-number i s e)
+    by-schema Specimen e = λ z. ⊎-elim (λ q. omega arith) (λ q. omega arith) (specimen-number i s e)

@@ -5,10 +5,10 @@ use Prim.Native.Nat.{_+_, _/_, _<_, _≤_, ℕ}
 use lib.Dec.{eqb, ltb}
 use lib.ListN.{getD, length}
 use mathlib.Core.Bool.{cond}
-use mathlib.Core.List.{List}
+use mathlib.Core.List.{List, [], _∷_}
 use mathlib.Core.Path.{_≡_}
 use Rattle.blocks.specs.Entries.{formOk, owningKind}
-use Rattle.blocks.specs.Faults.{lengthWrong}
+use Rattle.blocks.specs.Faults.{Fault, depthRow, formRow, lengthWrong, ownerRow, rowsFrom}
 use Rattle.blocks.specs.Frame.{checkWrong, frameWrong, plain}
 use Rattle.blocks.specs.Owners.{levelOf, ownerOf}
 use Rattle.blocks.specs.declared.Entry.{Entry}
@@ -21,6 +21,13 @@ blockRefusal s n i = cond (checkWrong s i) 2 (cond (frameWrong plain s n i) 3 0)
 -- the blocks of an input whose length number 1 allows, or 0
 unfoldable pub blocksRead : Schema → List ℕ → ℕ
 blocksRead σ s = cond (lengthWrong σ s) 0 (length s / 512)
+
+-- numbers 4, 5 and 6 alone, of entry n and of `left` entries from entry n on: those that one pass with a table of levels finds
+abbrev pub ruleRows : Schema → List Entry → ℕ → List Fault
+ruleRows σ es n = formRow σ es n ∷ ownerRow σ es n ∷ depthRow es n ∷ []
+
+abbrev pub ruleFaults : Schema → List Entry → ℕ → ℕ → List Fault
+ruleFaults σ es n left = rowsFrom (ruleRows σ es) n left
 
 -- the level of owner o of entry n, from a table of the levels of the entries before n
 unfoldable pub levelBy : List ℕ → ℕ → ℕ → ℕ

@@ -24,7 +24,7 @@ use Rattle.compare.specs.code.Prepared.{Failed, Showable, shownAfter, sh
 use Rattle.compare.specs.declared.Comparison.the-variants.{NotContained}
 use Rattle.logic.proofs.NormalForm.NormalFields.{Fields, nf-fields}
 use Rattle.logic.proofs.SpecimenTrees.WitnessFields.{AllNames, TargetFields, witness-fields}
-use Rattle.logic.specs.Background.{unrestricted}
+use Rattle.logic.specs.Background.{Background, Ruled}
 use Rattle.logic.specs.SpecimenTree.{SpecimenTree}
 use Rattle.logic.specs.Witness.{on, witness}
 use Rattle.meaning.proofs.Descriptions.EntryFields.{EntryFields, Word, atom-fields, place-fields}
@@ -56,7 +56,7 @@ each-bounded b (suc k) lo hi = b .each k (omega arith)
 
 -- ---- an entry that fails
 
-module _ {c d : List ℕ} {n : ℕ} {t : List ℕ} (f : Failed c d n t) where
+module _ {b : Background} (R : Ruled b) {c d : List ℕ} {n : ℕ} {t : List ℕ} (f : Failed b c d n t) where
   abbrev cs : List Entry
   cs = entriesOf c
 
@@ -69,52 +69,52 @@ module _ {c d : List ℕ} {n : ℕ} {t : List ℕ} (f : Failed c d n t) where
   service : Sound Description d
   service = sound-of-accepted Description 2 d (f .read .second-read)
 
-  fails-some : failing cs ds ≢ 0
+  fails-some : failing b cs ds ≢ 0
   fails-some z = f .some′ (sym (f .fails) ∙ z)
 
   -- the specimen is the comparison's
-  shown-is : shownBy t d n ≡ specimenOf cs ds
+  shown-is : shownBy t d n ≡ specimenOf b cs ds
   unfolding shownBy specimenOf
   shown-is = rw (f .top, f .fails)
 
   shown : Shown cs ds (shownBy t d n)
-  shown = rw shown-is (not-contained-shown cs ds (supplier .entries) (service .entries) fails-some)
+  shown = rw shown-is (not-contained-shown (R .lawful) cs ds (supplier .entries) (service .entries) fails-some)
 
   -- the entry is one of the second description's
   pub failed-within : (1 ≤ n) × (n ≤ length (entriesOf d))
   unfolding failing
   failed-within =
-      let l = failing-least unrestricted (normalOf cs) ds (f .fails) (f .some′) in
+      let l = failing-least b (normalOf b cs) ds (f .fails) (f .some′) in
       (omega (arith, f .some′), omega (arith, l .high))
 
   pub failed-small : n ≤ 1008
   failed-small = let a = accepted-counted 2 d (f .read .second-read) in omega (arith, failed-within .1, a .total, a .few, a .short)
 
   -- the names and numbers of the normal form are words
-  top-fields : Fields Word Word (normalOf cs)
+  top-fields : Fields Word Word (normalOf b cs)
   unfolding normalOf
   top-fields =
-      nf-fields Word Word (omega arith) unrestricted (placeOf cs 0) (place-fields Word Word cs (λ k lo hi. bounded-fields (f .bounded k lo hi)) 0)
+      nf-fields Word Word (omega arith) b (placeOf cs 0) (place-fields Word Word cs (λ k lo hi. bounded-fields (f .bounded k lo hi)) 0)
 
   -- the fields of the specimen's entries fit their bytes, where those of the path and of the entry do
   shown-bounded : (links : List ℕ) (m : ℕ) → linksTo ds n ≡ upFrom links m → ((i : ℕ) → getD links i 0 < 65536) → Bounded (nth ds n) → AllBounded (shownBy t d n)
   unfolding shownBy specimenFor
   shown-bounded links m path names last =
-      let s : SpecimenTree = witness (normalOf cs) (on (linksTo ds n) (atomOf (nth ds n))) in
+      let s : SpecimenTree = witness (normalOf b cs) (on (linksTo ds n) (atomOf (nth ds n))) in
       let same : shownBy t d n ≡ specimenEntries s = rw (f .top) in
       let target : TargetFields Word Word (on (linksTo ds n) (atomOf (nth ds n))) =
       (rw path (up-names links m names), atom-fields Word Word (nth ds n) (bounded-fields last)) in
       rw (f .top)
       (specimen-bounded s (rw (f .top) at (shown .legal)) (omega (arith, specimen-length s, ap length same, shown .size, both-few (f .read), both-short (f .read)))
-      (witness-fields Word Word (omega arith) (λ j h. omega arith) (normalOf cs) (on (linksTo ds n) (atomOf (nth ds n))) top-fields target))
+      (witness-fields Word Word (omega arith) (λ j h. omega arith) (normalOf b cs) (on (linksTo ds n) (atomOf (nth ds n))) top-fields target))
 
   module _ (out : List ℕ) (room : length c + length d ≤ length out) where
     -- the answer
-    answer : compareOf c d out ≡ NotContained n (length (shownBy t d n))
-    answer = compared c d out (read-comparable c d out (f .read) room) ∙ verdict-not cs ds fails-some ∙ rw (f .fails, shown-is)
+    answer : compareOf b c d out ≡ NotContained n (length (shownBy t d n))
+    answer = compared b c d out (read-comparable c d out (f .read) room) ∙ verdict-not b cs ds fails-some ∙ rw (f .fails, shown-is)
 
-    means : Refuted c d out n (length (shownBy t d n))
-    means = not-contained-means c d out answer
+    means : Refuted b c d out n (length (shownBy t d n))
+    means = not-contained-means R c d out answer
 
     -- it can be shown in a table that has room for the entries of both
     pub failed-showable : (size : ℕ) → length cs + length ds ≤ size → size ≤ 2016 → Showable t d n size out
@@ -140,9 +140,9 @@ module _ {c d : List ℕ} {n : ℕ} {t : List ℕ} (f : Failed c d n t) where
 
     -- and is what the answer promises
     pub failed-shown : {r : ℕ} {out′ : List ℕ} → r ≡ length (shownBy t d n) → out′ ≡ shownAfter t d n out
-        → (NotContained n r ≡ compareOf c d out) × (out′ ≡ outputOf c d out)
+        → (NotContained n r ≡ compareOf b c d out) × (out′ ≡ outputOf b c d out)
     unfolding shownAfter outputOf
     failed-shown e o = (
       ap (NotContained n) e ∙ sym answer,
-      o ∙ ap (λ (es : List Entry). encode es ++ drop (512 * blocksFor plain (length (shownBy t d n))) out) shown-is ∙ sym (ap (outputAfter c d out) answer),
+      o ∙ ap (λ (es : List Entry). encode es ++ drop (512 * blocksFor plain (length (shownBy t d n))) out) shown-is ∙ sym (ap (outputAfter b c d out) answer),
     )

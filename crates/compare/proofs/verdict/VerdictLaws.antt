@@ -11,20 +11,22 @@ use Rattle.compare.specs.Answer.{compareOf, outputAfter, outputOf}
 use Rattle.compare.specs.Promise.{Comparable}
 use Rattle.compare.specs.code.Prepared.{Agreed}
 use Rattle.compare.specs.declared.Comparison.the-variants.{Contained, Refused}
+use Rattle.logic.specs.Background.{Background}
 use Rattle.slots.specs.code.Standing.{BothRead}
 
-module _ (c d out : List ℕ) (r : BothRead c d) where
+module _ (b : Background) (c d out : List ℕ) (r : BothRead c d) where
   -- the output is too short
-  pub read-short : length out < length c + length d → (Refused 7 0 0 ≡ compareOf c d out) × (out ≡ outputOf c d out)
-  read-short l = let e = too-short c d out (r .first-read) (r .second-read) l in (sym e, sym (refused-output c d out e))
+  pub read-short : length out < length c + length d → (Refused 7 0 0 ≡ compareOf b c d out) × (out ≡ outputOf b c d out)
+  read-short l = let e = too-short b c d out (r .first-read) (r .second-read) l in (sym e, sym (refused-output b c d out e))
 
-  -- it is not, and the two are compared
-  pub read-comparable : length c + length d ≤ length out → Comparable c d out
-  read-comparable l = record { first = r .first; second = r .second; first-read = r .first-read; second-read = r .second-read; room = l }
+-- it is not, and the two are compared
+pub read-comparable : (c d out : List ℕ) → BothRead c d → length c + length d ≤ length out → Comparable c d out
+read-comparable c d out r l =
+    record { first = r .first; second = r .second; first-read = r .first-read; second-read = r .second-read; room = l }
 
 -- all hold
-pub agreed-contained : (c d out : List ℕ) → Agreed c d → length c + length d ≤ length out → (Contained ≡ compareOf c d out) × (out ≡ outputOf c d out)
+pub agreed-contained : (b : Background) (c d out : List ℕ) → Agreed b c d → length c + length d ≤ length out → (Contained ≡ compareOf b c d out) × (out ≡ outputOf b c d out)
 unfolding outputOf
-agreed-contained c d out a l =
-    let e = compared c d out (read-comparable c d out (a .read) l) ∙ verdict-contained (entriesOf c) (entriesOf d) (a .none) in
-    (sym e, sym (ap (outputAfter c d out) e))
+agreed-contained b c d out a l =
+    let e = compared b c d out (read-comparable c d out (a .read) l) ∙ verdict-contained b (entriesOf c) (entriesOf d) (a .none) in
+    (sym e, sym (ap (outputAfter b c d out) e))

@@ -14,6 +14,7 @@ use Rattle.blocks.specs.declared.Entry.{Entry}
 use Rattle.blocks.specs.declared.Reading.the-variants as reading
 use Rattle.blocks.specs.declared.Schema.the-variants.{Description}
 use Rattle.compare.specs.code.Codes.{upFrom}
+use Rattle.logic.specs.Background.{Background}
 use Rattle.meaning.specs.Description.{linksTo}
 use Rattle.meaning.specs.Failing.{failing, normalOf}
 use Rattle.meaning.specs.SpecimenFor.{specimenFor}
@@ -42,19 +43,19 @@ pub record Showable (t d : List ℕ) (n size : ℕ) (out : List ℕ) : Type 0 wh
   pub room : 512 * blocksFor plain (length (shownBy t d n)) ≤ length out
 
 -- both descriptions are accepted, and all entries of the second hold
-pub record Agreed (c d : List ℕ) : Type 0 where
+pub record Agreed (b : Background) (c d : List ℕ) : Type 0 where
   pub read : BothRead c d
-  pub none : failing (entriesOf c) (entriesOf d) ≡ 0
+  pub none : failing b (entriesOf c) (entriesOf d) ≡ 0
 
 -- both are accepted, entry n is the first that fails, and the slots of the first, whose fields fit their bytes, stand in the table, its normal
 -- form at their top
-pub record Failed (c d : List ℕ) (n : ℕ) (t : List ℕ) : Type 0 where
+pub record Failed (b : Background) (c d : List ℕ) (n : ℕ) (t : List ℕ) : Type 0 where
   pub read : BothRead c d
-  pub fails : failing (entriesOf c) (entriesOf d) ≡ n
+  pub fails : failing b (entriesOf c) (entriesOf d) ≡ n
   pub some′ : n ≢ 0
   pub stood : Stood t
   pub few : length t ≤ length (entriesOf c) + 1
-  pub top : placeIn t 0 ≡ normalOf (entriesOf c)
+  pub top : placeIn t 0 ≡ normalOf b (entriesOf c)
   pub bounded : (k : ℕ) → 1 ≤ k → k ≤ length (entriesOf c) → Bounded (nth (entriesOf c) k)
 
 -- a table has a number for each entry of a description that is accepted, and one more

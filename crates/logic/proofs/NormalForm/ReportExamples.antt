@@ -5,29 +5,29 @@ use mathlib.Core.Bool.{_&&_, _||_, cond, true}
 use mathlib.Core.List.{[]}
 use mathlib.Core.Option.{none, some}
 use mathlib.Core.Path.{_≡_, refl}
-use Rattle.logic.specs.Background.{Background, unrestricted}
+use Rattle.logic.specs.Background.{Background, standing}
 use Rattle.logic.specs.Holds.{holds, holdsAt}
 use Rattle.logic.specs.Normal.{add, bottom, excluded, fill, find, insert, isBottom, nf, put, putEvery, remove, removeEvery, removeLacks, sub, within}
 use Rattle.logic.specs.Place.{atom, has, lacks, least, most, nothing}
 use Rattle.logic.specs.Tree.{end, leaf, node}
 
 -- "C: 5,1 [5,2 [6]; 3,2,1]. Normal form: 4,1,0."
-gone-below : nf unrestricted (node 1 (node 2 (leaf (atom nothing 0 0) end) (leaf (atom least 2 1) end)) end) ≡ leaf (atom most 1 0) end
+gone-below : nf standing (node 1 (node 2 (leaf (atom nothing 0 0) end) (leaf (atom least 2 1) end)) end) ≡ leaf (atom most 1 0) end
 unfolding nf add within fill insert put putEvery remove removeEvery removeLacks find sub excluded isBottom
 gone-below = refl
 
 -- "C: 3,1,3; 4,1,2. Normal form: 6."
-too-many : nf unrestricted (leaf (atom least 1 3) (leaf (atom most 1 2) end)) ≡ bottom
+too-many : nf standing (leaf (atom least 1 3) (leaf (atom most 1 2) end)) ≡ bottom
 unfolding nf add insert put remove find isBottom
 too-many = refl
 
 -- at most 0 that is gained meets an at least: 3,1,1; 5,1 [6]
-gained : nf unrestricted (leaf (atom least 1 1) (node 1 (leaf (atom nothing 0 0) end) end)) ≡ bottom
+gained : nf standing (leaf (atom least 1 1) (node 1 (leaf (atom nothing 0 0) end) end)) ≡ bottom
 unfolding nf add within fill insert put remove removeEvery find sub isBottom
 gained = refl
 
 -- 'every' entries of one link merge, entries ascend, and equal ones become one
-merged : nf unrestricted (node 1 (leaf (atom has 9 0) end)
+merged : nf standing (node 1 (leaf (atom has 9 0) end)
     (leaf (atom lacks 7 0) (node 1 (leaf (atom has 8 0) (leaf (atom has 9 0) end)) (leaf (atom has 5 0) end))))
     ≡ leaf (atom has 5 0) (leaf (atom lacks 7 0) (node 1 (leaf (atom has 8 0) (leaf (atom has 9 0) end)) end))
 unfolding nf add within fill insert put putEvery remove removeEvery removeLacks find sub excluded isBottom

@@ -11,7 +11,7 @@ use mathlib.Core.Option.{some}
 use mathlib.Core.Path.{_∙_, _≡_, ap, refl}
 use native.Mathlib.Omega.{arith}
 use Rattle.base.proofs.Missing.{not-true, opt-cases, some-none}
-use Rattle.base.proofs.Tests.{and-both, and-left, and-right, bool-cases, eq-cases, eqb-eq, eqb-ne, lt-cases, ne-eqb, not-to-true, or-cases, tests}
+use Rattle.base.proofs.Tests.{and-both, and-left, and-right, bool-cases, both-ways, eq-cases, eqb-eq, eqb-ne, lt-cases, ne-eqb, not-to-true, or-cases, or-none, tests}
 use Rattle.base.specs.Ascending.{AllAfter, Sorted}
 use Rattle.blocks.proofs.Refusing.Legal.{owner-earlier}
 use Rattle.blocks.specs.Entries.{formOk, kindOk, nameOk, nth, numberOk, zeroEntry}
@@ -20,19 +20,18 @@ use Rattle.blocks.specs.Promise.{Legal}
 use Rattle.blocks.specs.declared.Entry.{Entry}
 use Rattle.blocks.specs.declared.Schema.the-variants.{Description}
 use Rattle.logic.proofs.NormalForm.IsNormal.{canonical-end}
-use Rattle.logic.proofs.OneMeaning.Plain.{clash-plain, excluded-plain, supports-plain}
 use Rattle.logic.proofs.OneMeaning.Unique.{normal-fixed}
-use Rattle.logic.proofs.Records.Kept.{lawful-unrestricted}
-use Rattle.logic.specs.Background.{unrestricted}
+use Rattle.logic.proofs.PlaceTrees.Lookup.{excluder}
+use Rattle.logic.specs.Background.{Background, LawfulBackground}
 use Rattle.logic.specs.Canonical.{Above, Ascending, Canonical, Clean, Normal, canonical}
-use Rattle.logic.specs.Normal.{before, bottom, find, isEnd, nf, rank, sub, supports}
+use Rattle.logic.specs.Normal.{atMost, before, bottom, excluded, find, found, isEnd, nf, rank, sub, supports, under}
 use Rattle.logic.specs.Place.{Kind, atom, has, kindOf, lacks, least, most, nothing}
 use Rattle.logic.specs.Tree.{tree}
 use Rattle.meaning.proofs.Descriptions.Lookups.{find-none, find-some, kind-range, match-fields, match-within, place-end, rank-kind, sub-none, sub-some}
 use Rattle.meaning.specs.Description.{placeOf, rowOf}
 use Rattle.meaning.specs.Lookup.{entryFor}
 use Rattle.meaning.specs.RowEntries.{entryBefore}
-use Rattle.meaning.specs.Rules.{AloneSix, Applies, Clashes, Crosses, Is, IsEvery, rule-2, rule-3, rule-4, rule-5, rule-8, rule-9}
+use Rattle.meaning.specs.Rules.{AloneSix, Applies, Clashes, Is, IsEvery, Overasks, rule-11, rule-12, rule-2, rule-3, rule-4, rule-5, rule-8, rule-9}
 
 -- ---- entries that ascend give places that ascend
 
@@ -125,7 +124,8 @@ pub itself : (all : List Entry) (p : ℕ) → p < length all → getD all p zero
 unfolding nth
 itself all p l = let w : 1 + p ≡ suc p = omega arith in rw w
 
-module _ (all : List Entry) (legal : Legal Description all) (sorted : Sorted entryBefore all) (none-applies : (k : ℕ) → Applies k all → ⊥) where
+module _ {b : Background} (law : LawfulBackground b) (all : List Entry) (legal : Legal Description all) (sorted : Sorted entryBefore all)
+    (none-applies : (k : ℕ) → Applies b k all → ⊥) where
   kinds-from : (k : ℕ) (es : List Entry) → 1 ≤ k → k + length es ≡ 1 + length all → ((p : ℕ) → p < length es → getD es p zeroEntry ≡ nth all (k + p)) → Kinds es
   kinds-from k [] lo t h = tt
   kinds-from k (e ∷ es) lo t h =
@@ -202,13 +202,13 @@ module _ (all : List Entry) (legal : Legal Description all) (sorted : Sorted ent
     abbrev Home : ℕ → Type 0
     Home o = (o ≡ 0) ⊎ IsEvery all o
 
-    no-clash : (o : ℕ) → Home o → Clashes all o → ⊥
+    no-clash : (o : ℕ) → Home o → Clashes b all o → ⊥
     no-clash o (inl z) c = none-applies 5 (rule-5 (record { impossible = inl (rw z at c); not-alone = several }))
     no-clash o (inr v) c = none-applies 2 (rule-2 (record { place = o; every = v; clashes = c }))
 
-    no-cross : (o : ℕ) → Home o → Crosses all o → ⊥
+    no-cross : (o : ℕ) → Home o → Overasks b all o → ⊥
     no-cross o (inl z) c = none-applies 5 (rule-5 (record { impossible = inr (rw z at c); not-alone = several }))
-    no-cross o (inr v) c = none-applies 3 (rule-3 (record { place = o; every = v; crosses = c }))
+    no-cross o (inr v) c = none-applies 3 (rule-3 (record { place = o; every = v; overasks = c }))
 
     no-numbers : (a : Kind) {o n m : ℕ} → Listed a o n m → rank a ≢ 3 → rank a ≢ 4 → rank a ≢ 7 → eqb m 0 ≡ true
     no-numbers a {m = m} x r s t =
@@ -217,48 +217,128 @@ module _ (all : List Entry) (legal : Legal Description all) (sorted : Sorted ent
         let y : m ≡ 0 = no-number (rank a) m z r s t in
         omega tests
 
-    clean : (o : ℕ) → Home o → Clean unrestricted (placeOf all o)
-    clean o h has n m e =
-        let x = is-listed has o n m e in (
-          clash-plain (placeOf all o) (atom has n m) ∙ opt-cases (find lacks n (placeOf all o)) (λ q. rw q)
-              (λ m′ q. absurd (no-clash o h (inl (record { having = x .entry; lacking = is-listed lacks o n m′ q .entry; property = n; number = m; number′ = m′; is-having = x .is; is-lacking = is-listed lacks o n m′ q .is })))),
-          no-numbers has x (λ z. omega arith) (λ z. omega arith) (λ z. omega arith),
-        )
-    clean o h lacks n m e =
-        let x = is-listed lacks o n m e in (
-          clash-plain (placeOf all o) (atom lacks n m) ∙ opt-cases (find has n (placeOf all o)) (λ q. rw q)
-              (λ m′ q. absurd (no-clash o h (inl (record { having = is-listed has o n m′ q .entry; lacking = x .entry; property = n; number = m′; number′ = m; is-having = is-listed has o n m′ q .is; is-lacking = x .is })))),
-          and-both (no-numbers lacks x (λ z. omega arith) (λ z. omega arith) (λ z. omega arith)) (not-to-true (excluded-plain n (placeOf all o))),
-        )
-    clean o h least n m e =
-        let x = is-listed least o n m e in (
-          clash-plain (placeOf all o) (atom least n m) ∙ opt-cases (find most n (placeOf all o)) (λ q. rw q)
-              (λ m′ q. rw q (not-true (λ y. no-cross o h (record { asking = x .entry; allowing = is-listed most o n m′ q .entry; link = n; n = m; m = m′; is-asking = x .is; is-allowing = is-listed most o n m′ q .is; less = omega tests })))),
-          not-to-true (not-true (λ y. let z : m ≡ 0 = eqb-eq y in let x₀ = is-listed least o n 0 (e ∙ ap some z) in none-applies 8 (rule-8 (record { entry = x₀ .entry; owner = o; link = n; is-least = x₀ .is })))),
-        )
-    clean o h most n m e =
-        let x = is-listed most o n m e in (
-          clash-plain (placeOf all o) (atom most n m) ∙ opt-cases (find least n (placeOf all o)) (λ q. rw q)
-              (λ m′ q. rw q (not-true (λ y. no-cross o h (record { asking = is-listed least o n m′ q .entry; allowing = x .entry; link = n; n = m′; m = m; is-asking = is-listed least o n m′ q .is; is-allowing = x .is; less = omega tests })))),
-          refl,
-        )
+    -- ---- what a place lists is at odds with nothing, and tells something
+
+    -- a property is not lacked, and no other excludes it
+    not-lacked : (o n m : ℕ) → Home o → find has n (placeOf all o) ≡ some m → found (find lacks n (placeOf all o)) ≡ false
+    not-lacked o n m h e =
+        let x = is-listed has o n m e in
+        opt-cases (find lacks n (placeOf all o)) (λ q. rw q)
+        (λ m′ q.
+        let y = is-listed lacks o n m′ q in
+        absurd (no-clash o h (inl (record { having = x .entry; lacking = y .entry; property = n; number = m; number′ = m′; is-having = x .is; is-lacking = y .is }))))
+
+    not-excluded : (o n m : ℕ) → Home o → find has n (placeOf all o) ≡ some m → excluded b n (placeOf all o) ≡ false
+    not-excluded o n m h e =
+        not-true (λ y.
+        let x = is-listed has o n m e in
+        let w = excluder b n (placeOf all o) y in
+        let v = is-listed has o (w .name) (w .number) (w .listed) in
+        no-clash o h (inr (inr (record {
+          one = v .entry;
+          other = x .entry;
+          property = w .name;
+          property′ = n;
+          number = w .number;
+          number′ = m;
+          excluding = w .against;
+          is-one = v .is;
+          is-other = x .is;
+        }))))
+
+    -- a lack is not implied
+    not-implied : (o n m : ℕ) → find lacks n (placeOf all o) ≡ some m → excluded b n (placeOf all o) ≡ false
+    not-implied o n m e =
+        not-true (λ y.
+        let x = is-listed lacks o n m e in
+        let w = excluder b n (placeOf all o) y in
+        let v = is-listed has o (w .name) (w .number) (w .listed) in
+        none-applies 11 (rule-11 (record {
+          having = v .entry;
+          lacking = x .entry;
+          owner = o;
+          property = w .name;
+          property′ = n;
+          number = w .number;
+          number′ = m;
+          excluding = w .against;
+          is-having = v .is;
+          is-lacking = x .is;
+        })))
+
+    -- an at least is within the at most and the cap of its link
+    not-crossed : (o n m m′ : ℕ) → Home o → find least n (placeOf all o) ≡ some m → find most n (placeOf all o) ≡ some m′ → ltb m′ m ≡ false
+    not-crossed o n m m′ h e q =
+        not-true (λ y.
+        let x = is-listed least o n m e in
+        let v = is-listed most o n m′ q in
+        no-cross o h (inl (record {
+          asking = x .entry;
+          allowing = v .entry;
+          link = n;
+          n = m;
+          m = m′;
+          is-asking = x .is;
+          is-allowing = v .is;
+          less = omega tests;
+        })))
+
+    not-exceeding : (o n m : ℕ) → Home o → find least n (placeOf all o) ≡ some m → under m (b .cap n) ≡ false
+    not-exceeding o n m h e =
+        opt-cases (b .cap n) (λ q. rw q)
+        (λ m′ q. rw q (not-true (λ y.
+        let x = is-listed least o n m e in
+        no-cross o h (inr (record { asking = x .entry; link = n; n = m; m = m′; is-asking = x .is; capped = q; less = omega tests })))))
+
+    -- an at most is not said by the cap
+    not-said : (o n m : ℕ) → find most n (placeOf all o) ≡ some m → atMost m (b .cap n) ≡ false
+    not-said o n m e =
+        opt-cases (b .cap n) (λ q. rw q)
+        (λ m′ q. rw q (not-true (λ y.
+        let x = is-listed most o n m e in
+        none-applies 12 (rule-12 (record { entry = x .entry; owner = o; link = n; n = m; m = m′; is-most = x .is; capped = q; said = omega tests })))))
+
+    clean : (o : ℕ) → Home o → Clean b (placeOf all o)
+    clean o h has n m e = (
+      or-none (not-lacked o n m h e) (not-excluded o n m h e),
+      no-numbers has (is-listed has o n m e) (λ z. omega arith) (λ z. omega arith) (λ z. omega arith),
+    )
+    clean o h lacks n m e = (
+      opt-cases (find has n (placeOf all o)) (λ q. rw q) (λ m′ q. let f : found (find lacks n (placeOf all o)) ≡ true = rw e in both-ways f (not-lacked o n m′ h q)),
+      and-both (no-numbers lacks (is-listed lacks o n m e) (λ z. omega arith) (λ z. omega arith) (λ z. omega arith))
+          (not-to-true (not-implied o n m e)),
+    )
+    clean o h least n m e = (
+      or-none {a = under m (find most n (placeOf all o))}
+          (opt-cases (find most n (placeOf all o)) (λ q. rw q) (λ m′ q. rw q (not-crossed o n m m′ h e q))) (not-exceeding o n m h e),
+      not-to-true (not-true (λ y.
+          let z : m ≡ 0 = eqb-eq y in
+          let x = is-listed least o n 0 (e ∙ ap some z) in
+          none-applies 8 (rule-8 (record { entry = x .entry; owner = o; link = n; is-least = x .is })))),
+    )
+    clean o h most n m e = (
+      opt-cases (find least n (placeOf all o)) (λ q. rw q) (λ m′ q. rw q (not-crossed o n m′ m h q e)),
+      not-to-true (not-said o n m e),
+    )
     clean o h nothing n m e =
         let x = is-listed nothing o n m e in
-        absurd (no-clash o h (inr (record { entry = x .entry; name = n; number = m; is-nothing = x .is })))
+        absurd (no-clash o h (inr (inl (record { entry = x .entry; name = n; number = m; is-nothing = x .is }))))
 
     -- no 'every' beside an at most 0
-    no-every : (o l : ℕ) → isEnd (sub l (placeOf all o)) ≡ false → supports unrestricted (placeOf all o) (atom most l 0) ≡ false
+    no-every : (o l : ℕ) → isEnd (sub l (placeOf all o)) ≡ false → supports b (placeOf all o) (atom most l 0) ≡ false
     no-every o l e =
         let v = is-below o l e in
-        supports-plain (placeOf all o) (atom most l 0) ∙ opt-cases (find most l (placeOf all o)) (λ q. rw q)
+        or-none {a = atMost 0 (find most l (placeOf all o))} {b = atMost 0 (b .cap l)}
+        (opt-cases (find most l (placeOf all o)) (λ q. rw q)
         (λ m q. rw q (not-true (λ y.
         let z : m ≡ 0 = omega tests in
         let x = is-listed most o l 0 (q ∙ ap some z) in
-        none-applies 4 (rule-4 (record { bound = x .entry; removed = v .entry; owner = o; link = l; number = nth all (v .entry) .number; is-bound = x .is; is-removed = v .is })))))
+        none-applies 4 (rule-4 (record { bound = x .entry; removed = v .entry; owner = o; link = l; number = nth all (v .entry) .number; is-bound = x .is; is-removed = v .is }))))))
+        (opt-cases (b .cap l) (λ q. rw q) (λ m q. rw q (omega (tests, law .some-item l m q))))
 
-    canonical-at : (left o : ℕ) → length all < o + left → Home o → Canonical unrestricted (placeOf all o)
+    canonical-at : (left o : ℕ) → length all < o + left → Home o → Canonical b (placeOf all o)
     unfolding ownerOf
-    canonical-at zero o l h = rw (place-end all legal o (omega arith)) (canonical-end lawful-unrestricted)
+    canonical-at zero o l h = rw (place-end all legal o (omega arith)) (canonical-end law)
     canonical-at (suc left) o l h =
         canonical (ascending-place o) (clean o h) (λ k e. no-every o k e)
         (λ k e.
@@ -278,7 +358,7 @@ module _ (all : List Entry) (legal : Legal Description all) (sorted : Sorted ent
       let n : e .name ≡ 0 = name-zero e (L .form 1 (omega arith) (omega arith)) k in
       rw (k, o, m, n)
 
-  irreducible-normal : Normal unrestricted (placeOf all 0)
+  irreducible-normal : Normal b (placeOf all 0)
   irreducible-normal =
       eq-cases (length all) 1
       (λ a. eq-cases (nth all 1 .kind) 6
@@ -287,5 +367,5 @@ module _ (all : List Entry) (legal : Legal Description all) (sorted : Sorted ent
       (λ a. inr (canonical-at (λ x. a (x .alone)) (suc (length all)) 0 (omega arith) (inl refl)))
 
   -- an accepted list that ascends and to which no rule applies is its own normal form
-  pub irreducible-fixed : nf unrestricted (placeOf all 0) ≡ placeOf all 0
-  irreducible-fixed = normal-fixed lawful-unrestricted (placeOf all 0) irreducible-normal
+  pub irreducible-fixed : nf b (placeOf all 0) ≡ placeOf all 0
+  irreducible-fixed = normal-fixed law (placeOf all 0) irreducible-normal

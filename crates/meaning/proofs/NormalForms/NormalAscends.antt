@@ -7,10 +7,10 @@ use mathlib.Core.Logic.{inl, inr}
 use mathlib.Core.Path.{_≡_, refl}
 use Rattle.base.specs.Ascending.{Sorted}
 use Rattle.blocks.specs.declared.Entry.{Entry}
-use Rattle.logic.proofs.OneMeaning.Plain.{plain-normal}
+use Rattle.logic.proofs.NormalForm.IsNormal.{nf-normal}
 use Rattle.logic.proofs.PlaceTrees.Lookup.{sub-head}
 use Rattle.logic.proofs.PlaceTrees.Order.{sub-rest}
-use Rattle.logic.specs.Background.{Background, unrestricted}
+use Rattle.logic.specs.Background.{Background, LawfulBackground}
 use Rattle.logic.specs.Canonical.{Above, Ascending, Canonical, Normal, canonical}
 use Rattle.logic.specs.Normal.{isEnd, nf, sub}
 use Rattle.logic.specs.Place.{Atom, Place, atom}
@@ -50,6 +50,6 @@ deep-normal t (inl e) = rw e (tt, tt)
 deep-normal t (inr h) = deep-places t (ascends h) (below h)
 
 -- "entries ascend by owner, then kind, then name"
-pub normal-ascends : (es : List Entry) → Sorted entryBefore (normalEntries es)
+pub normal-ascends : {b : Background} → LawfulBackground b → (es : List Entry) → Sorted entryBefore (normalEntries b es)
 unfolding normalEntries
-normal-ascends es = laid-ascends rowEntry keyed (nf unrestricted (placeOf es 0)) (deep-normal _ (plain-normal (placeOf es 0)))
+normal-ascends {b} law es = laid-ascends rowEntry keyed (nf b (placeOf es 0)) (deep-normal _ (nf-normal law (placeOf es 0)))

@@ -15,6 +15,7 @@ use Rattle.blocks.specs.Owners.{depthOf, ownerOf}
 use Rattle.blocks.specs.Promise.{Legal}
 use Rattle.blocks.specs.declared.Entry.{Entry}
 use Rattle.blocks.specs.declared.Schema.the-variants.{Description}
+use Rattle.logic.specs.Background.{Background}
 use Rattle.logic.specs.Size.{levels}
 use Rattle.meaning.proofs.Descriptions.OwnedLaws.{owned-at, owned-of}
 use Rattle.meaning.proofs.Descriptions.PlaceSize.{depth-owned, levels-here}
@@ -101,7 +102,7 @@ module _ (d : List Entry) (L : Legal Description d) where
 -- ---- a normal form
 
 -- no entry of the normal form is deeper than all entries of the description
-pub normal-depth : (es : List Entry) → Legal Description es → (bound : ℕ) → ((n : ℕ) → 1 ≤ n → n ≤ length es → depthOf es n < bound)
-    → (n : ℕ) → 1 ≤ n → n ≤ length (normalEntries es) → depthOf (normalEntries es) n < bound
-normal-depth es L bound shallow n lo hi =
-    omega (arith, depth-levels (normalEntries es) (normal-legal es L) n lo hi, normal-levels es, levels-most es L bound shallow)
+pub normal-depth : (b : Background) (es : List Entry) → Legal Description es → (bound : ℕ) → ((n : ℕ) → 1 ≤ n → n ≤ length es → depthOf es n < bound)
+    → (n : ℕ) → 1 ≤ n → n ≤ length (normalEntries b es) → depthOf (normalEntries b es) n < bound
+normal-depth b es L bound shallow n lo hi =
+    omega (arith, depth-levels (normalEntries b es) (normal-legal b es L) n lo hi, normal-levels b es, levels-most es L bound shallow)

@@ -17,7 +17,7 @@ use Rattle.blocks.specs.declared.Schema.the-variants.{Description}
 use Rattle.logic.proofs.NormalForm.NormalSize.{nf-levels}
 use Rattle.logic.proofs.NormalForm.NormalFields.{Stored, nf-stored}
 use Rattle.logic.proofs.TreeRows.AllEntries.{OfRow, row-all, write-all}
-use Rattle.logic.specs.Background.{unrestricted}
+use Rattle.logic.specs.Background.{Background}
 use Rattle.logic.specs.Layout.{write}
 use Rattle.logic.specs.Normal.{nf, stored}
 use Rattle.logic.specs.Place.{Atom, Place, atom, has, lacks, least, most, nothing}
@@ -68,35 +68,35 @@ row-words (nodeRow o l) h = record { kind = omega arith; reserved = omega arith;
 
 -- ---- a description
 
-module _ (es : List Entry) (L : Legal Description es) where
+module _ (b : Background) (es : List Entry) (L : Legal Description es) where
   abbrev normal : Place
-  normal = nf unrestricted (placeOf es 0)
+  normal = nf b (placeOf es 0)
 
   normal-low : levels normal ≤ 33
-  normal-low = omega (arith, nf-levels unrestricted (placeOf es 0), place-levels es L)
+  normal-low = omega (arith, nf-levels b (placeOf es 0), place-levels es L)
 
   -- the normal form of a legal list of entries is legal
-  pub normal-legal : Legal Description (normalEntries es)
+  pub normal-legal : Legal Description (normalEntries b es)
   unfolding normalEntries
   normal-legal =
-      let fields = nf-stored Positive Any tt unrestricted (placeOf es 0) (place-fields Positive Any es (legal-names L) 0) in
+      let fields = nf-stored Positive Any tt b (placeOf es 0) (place-fields Positive Any es (legal-names L) 0) in
       write-legal description-rows normal normal-low
       (row-all (Stored Positive Any) Positive rowEntry (λ e. formOk Description e ≡ true) row-form (write normal)
       (write-all (Stored Positive Any) Positive normal fields) zeroEntry)
 
   -- its fields fit their bytes if those of the description do
-  pub normal-bounded : AllBounded es → length es ≤ 65536 → AllBounded (normalEntries es)
+  pub normal-bounded : AllBounded es → length es ≤ 65536 → AllBounded (normalEntries b es)
   unfolding normalEntries ownerOf nth
-  normal-bounded b few =
-      let size : length (normalEntries es) ≡ length (write normal) = length-map (write normal) rowEntry in
-      let stored = nf-stored Word Word (omega arith) unrestricted (placeOf es 0) (place-fields Word Word es (bounded-words b) 0) in
+  normal-bounded small few =
+      let size : length (normalEntries b es) ≡ length (write normal) = length-map (write normal) rowEntry in
+      let stored = nf-stored Word Word (omega arith) b (placeOf es 0) (place-fields Word Word es (bounded-words small) 0) in
       let fields = row-all (Stored Word Word) Word rowEntry Words row-words (write normal) (write-all (Stored Word Word) Word normal stored) zeroEntry in
       record {
         each = λ k l. let w : Words (getD (map rowEntry (write normal)) k zeroEntry) = fields k (omega arith) in
             record {
               kind = w .kind;
               reserved = w .reserved;
-              owner = omega (arith, owner-earlier normal-legal (suc k) (omega arith) (omega arith), normal-fewer es);
+              owner = omega (arith, owner-earlier normal-legal (suc k) (omega arith) (omega arith), normal-fewer b es);
               name = w .name;
               number = w .number;
             };

@@ -7,8 +7,9 @@ use mathlib.Core.Path.{_≡_, refl}
 use native.Mathlib.Omega.{arith}
 use Rattle.blocks.specs.Entries.{nth}
 use Rattle.blocks.specs.declared.Entry.{Entry}
+use Rattle.logic.specs.Background.{standing}
 use Rattle.meaning.proofs.NormalForms.RulesLaws.{six-no-rule}
-use Rattle.meaning.specs.Rules.{Applies, Is, IsEvery, Twice, rule-1, rule-10, rule-2, rule-3, rule-4, rule-5, rule-6, rule-7, rule-8, rule-9}
+use Rattle.meaning.specs.Rules.{Applies, Is, IsEvery, Twice, rule-1, rule-10, rule-12, rule-2, rule-3, rule-4, rule-5, rule-6, rule-7, rule-8, rule-9}
 
 -- an entry of a kind, an owner, a name and a number
 abbrev entry : ℕ → ℕ → ℕ → ℕ → Entry
@@ -50,7 +51,7 @@ twice k o l m m′ =
     }
 
 -- (1) 5,1 []; 5,1 []
-merges : Applies 1 (entry 5 0 1 0 ∷ entry 5 0 1 0 ∷ [])
+merges : Applies standing 1 (entry 5 0 1 0 ∷ entry 5 0 1 0 ∷ [])
 merges = rule-1 (twice 5 0 1 0 0)
 
 -- an 'every' of link 1, at the head of a list
@@ -58,7 +59,7 @@ every-first : (es : List Entry) → IsEvery (entry 5 0 1 0 ∷ es) 1
 every-first es = record { owner = 0; link = 1; number = 0; is-every = first (entry 5 0 1 0) es }
 
 -- (2) 5,1 [1,7; 2,7], and 5,1 [6]
-has-and-lacks : Applies 2 (entry 5 0 1 0 ∷ entry 1 1 7 0 ∷ entry 2 1 7 0 ∷ [])
+has-and-lacks : Applies standing 2 (entry 5 0 1 0 ∷ entry 1 1 7 0 ∷ entry 2 1 7 0 ∷ [])
 has-and-lacks =
     rule-2
     (record {
@@ -75,23 +76,23 @@ has-and-lacks =
       });
     })
 
-kind-six : Applies 2 (entry 5 0 1 0 ∷ entry 6 1 0 0 ∷ [])
+kind-six : Applies standing 2 (entry 5 0 1 0 ∷ entry 6 1 0 0 ∷ [])
 kind-six =
     rule-2
     (record {
       place = 1;
       every = every-first (entry 6 1 0 0 ∷ []);
-      clashes = inr (record { entry = 2; name = 0; number = 0; is-nothing = second (entry 5 0 1 0) (entry 6 1 0 0) [] });
+      clashes = inr (inl (record { entry = 2; name = 0; number = 0; is-nothing = second (entry 5 0 1 0) (entry 6 1 0 0) [] }));
     })
 
 -- (3) 5,1 [3,2,3; 4,2,2]
-counts : Applies 3 (entry 5 0 1 0 ∷ entry 3 1 2 3 ∷ entry 4 1 2 2 ∷ [])
+counts : Applies standing 3 (entry 5 0 1 0 ∷ entry 3 1 2 3 ∷ entry 4 1 2 2 ∷ [])
 counts =
     rule-3
     (record {
       place = 1;
       every = every-first (entry 3 1 2 3 ∷ entry 4 1 2 2 ∷ []);
-      crosses = record {
+      overasks = inl (record {
         asking = 2;
         allowing = 3;
         link = 2;
@@ -100,11 +101,29 @@ counts =
         is-asking = second (entry 5 0 1 0) (entry 3 1 2 3) (entry 4 1 2 2 ∷ []);
         is-allowing = third (entry 5 0 1 0) (entry 3 1 2 3) (entry 4 1 2 2) [];
         less = omega arith;
-      };
+      });
+    })
+
+-- and 5,1 [3,40000,2], at least 2 of a link that leads to one item
+over-cap : Applies standing 3 (entry 5 0 1 0 ∷ entry 3 1 40000 2 ∷ [])
+over-cap =
+    rule-3
+    (record {
+      place = 1;
+      every = every-first (entry 3 1 40000 2 ∷ []);
+      overasks = inr (record {
+        asking = 2;
+        link = 40000;
+        n = 2;
+        m = 1;
+        is-asking = second (entry 5 0 1 0) (entry 3 1 40000 2) [];
+        capped = refl;
+        less = omega arith;
+      });
     })
 
 -- (4) 4,1,0; 5,1 [1,7]
-removes : Applies 4 (entry 4 0 1 0 ∷ entry 5 0 1 0 ∷ entry 1 2 7 0 ∷ [])
+removes : Applies standing 4 (entry 4 0 1 0 ∷ entry 5 0 1 0 ∷ entry 1 2 7 0 ∷ [])
 removes =
     rule-4
     (record {
@@ -118,11 +137,11 @@ removes =
     })
 
 -- (5) 3,1,3; 4,1,2, and 6; 6, which is not one entry alone
-top-counts : Applies 5 (entry 3 0 1 3 ∷ entry 4 0 1 2 ∷ [])
+top-counts : Applies standing 5 (entry 3 0 1 3 ∷ entry 4 0 1 2 ∷ [])
 top-counts =
     rule-5
     (record {
-      impossible = inr (record {
+      impossible = inr (inl (record {
         asking = 1;
         allowing = 2;
         link = 1;
@@ -131,28 +150,28 @@ top-counts =
         is-asking = first (entry 3 0 1 3) (entry 4 0 1 2 ∷ []);
         is-allowing = second (entry 3 0 1 3) (entry 4 0 1 2) [];
         less = omega arith;
-      });
+      }));
       not-alone = λ s. omega (arith, s .alone);
     })
 
-top-six : Applies 5 (entry 6 0 0 0 ∷ entry 6 0 0 0 ∷ [])
+top-six : Applies standing 5 (entry 6 0 0 0 ∷ entry 6 0 0 0 ∷ [])
 top-six =
     rule-5
     (record {
-      impossible = inl (inr (record { entry = 1; name = 0; number = 0; is-nothing = first (entry 6 0 0 0) (entry 6 0 0 0 ∷ []) }));
+      impossible = inl (inr (inl (record { entry = 1; name = 0; number = 0; is-nothing = first (entry 6 0 0 0) (entry 6 0 0 0 ∷ []) })));
       not-alone = λ s. omega (arith, s .alone);
     })
 
 -- (6) 4,1,2; 4,1,3
-several-most : Applies 6 (entry 4 0 1 2 ∷ entry 4 0 1 3 ∷ [])
+several-most : Applies standing 6 (entry 4 0 1 2 ∷ entry 4 0 1 3 ∷ [])
 several-most = rule-6 (twice 4 0 1 2 3)
 
 -- (7) 3,1,2; 3,1,3
-several-least : Applies 7 (entry 3 0 1 2 ∷ entry 3 0 1 3 ∷ [])
+several-least : Applies standing 7 (entry 3 0 1 2 ∷ entry 3 0 1 3 ∷ [])
 several-least = rule-7 (twice 3 0 1 2 3)
 
 -- (8) 3,1,0
-least-zero : Applies 8 (entry 3 0 1 0 ∷ [])
+least-zero : Applies standing 8 (entry 3 0 1 0 ∷ [])
 least-zero = rule-8 (record { entry = 1; owner = 0; link = 1; is-least = first (entry 3 0 1 0) [] })
 
 -- (9) 5,1 []
@@ -160,11 +179,11 @@ owns-none : (n : ℕ) → 1 ≤ n → n ≤ 1 → nth (entry 5 0 1 0 ∷ []) n .
 unfolding nth
 owns-none n lo hi e = let z : n ≡ 1 = omega arith in let y : _≡_ {A = ℕ} 0 1 = rw z at e in omega arith
 
-owns-nothing : Applies 9 (entry 5 0 1 0 ∷ [])
+owns-nothing : Applies standing 9 (entry 5 0 1 0 ∷ [])
 owns-nothing = rule-9 (record { entry = 1; every = every-first []; owns-none = owns-none })
 
 -- equal entries: 1,7; 1,7
-equal : Applies 10 (entry 1 0 7 0 ∷ entry 1 0 7 0 ∷ [])
+equal : Applies standing 10 (entry 1 0 7 0 ∷ entry 1 0 7 0 ∷ [])
 equal =
     rule-10
     (record {
@@ -179,7 +198,22 @@ equal =
       is-other = second (entry 1 0 7 0) (entry 1 0 7 0) [];
     })
 
+-- (12) 4,40000,1, an at most that always holds
+implied-most : Applies standing 12 (entry 4 0 40000 1 ∷ [])
+implied-most =
+    rule-12
+    (record {
+      entry = 1;
+      owner = 0;
+      link = 40000;
+      n = 1;
+      m = 1;
+      is-most = first (entry 4 0 40000 1) [];
+      capped = refl;
+      said = omega arith;
+    })
+
 -- no rule applies to one entry of kind 6 alone, though that is an impossible top
-six-stays : (k : ℕ) → Applies k (entry 6 0 0 0 ∷ []) → ⊥
+six-stays : (k : ℕ) → Applies standing k (entry 6 0 0 0 ∷ []) → ⊥
 unfolding nth
-six-stays k h = six-no-rule (entry 6 0 0 0 ∷ []) (record { alone = refl; six = refl }) k h
+six-stays k h = six-no-rule (entry 6 0 0 0 ∷ []) (record { alone = refl; six = refl }) standing k h

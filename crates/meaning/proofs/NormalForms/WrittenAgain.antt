@@ -18,6 +18,7 @@ use Rattle.blocks.specs.Promise.{Legal}
 use Rattle.blocks.specs.declared.Entry.{Entry}
 use Rattle.blocks.specs.declared.Schema.the-variants.{Description}
 use Rattle.logic.proofs.TreeRows.LayoutLaws.{load, load-later, weight-pos}
+use Rattle.logic.specs.Background.{Background, LawfulBackground}
 use Rattle.logic.specs.Layout.{Queue, done, job, later, lay, weight, write}
 use Rattle.logic.specs.Normal.{before}
 use Rattle.logic.specs.Place.{Place}
@@ -275,9 +276,10 @@ entries-back [] h = refl
 entries-back (e ∷ es) h = rw (entry-back e (h 0 (omega arith)), entries-back es (λ p l. h (suc p) (omega arith)))
 
 -- a legal list that ascends, and to which no rule applies, is that of its normal form
-pub entries-again : (es : List Entry) → Legal Description es → Sorted entryBefore es → ((k : ℕ) → Applies k es → ⊥) → normalEntries es ≡ es
+pub entries-again : {b : Background} → LawfulBackground b → (es : List Entry) → Legal Description es → Sorted entryBefore es
+    → ((k : ℕ) → Applies b k es → ⊥) → normalEntries b es ≡ es
 unfolding normalEntries nth
-entries-again es legal sorted none =
-    ap (λ (t : Place). map rowEntry (write t)) (irreducible-fixed es legal sorted none)
+entries-again law es legal sorted none =
+    ap (λ (t : Place). map rowEntry (write t)) (irreducible-fixed law es legal sorted none)
     ∙ ap (map rowEntry) (written-again es legal sorted)
     ∙ entries-back es (λ p l. legal .form (suc p) (omega arith) (omega arith))

@@ -14,12 +14,10 @@ use Rattle.blocks.specs.Promise.{Legal}
 use Rattle.blocks.specs.declared.Entry.{Entry}
 use Rattle.blocks.specs.declared.Schema.the-variants.{Description}
 use Rattle.logic.proofs.OneMeaning.HoldsExactly.{nf-holds-entails}
-use Rattle.logic.proofs.Records.Kept.{kept-unrestricted, lawful-unrestricted}
-use Rattle.logic.specs.Background.{Background, LawfulBackground, unrestricted}
+use Rattle.logic.specs.Background.{Background, LawfulBackground}
 use Rattle.logic.specs.Holds.{holds}
 use Rattle.logic.specs.Normal.{nf}
 use Rattle.logic.specs.Place.{Place}
-use Rattle.logic.specs.Record.{Record, along, fits, meets}
 use Rattle.meaning.proofs.Descriptions.Paths.{fits-paths, paths-fit}
 use Rattle.meaning.proofs.Verdicts.FirstLaws.{failing-least, failing-none, least-failing, none-failing}
 use Rattle.meaning.specs.Description.{atomOf, linksTo, placeOf}
@@ -74,23 +72,19 @@ module _ {b : Background} (law : LawfulBackground b) (t : Place) (d : List Entry
     λ f. none-failing b (nf b t) d (λ n lo hi. entry-holds n (λ z r kept x i h. fits-paths r d L x (f r kept x i h) n lo hi z)),
   )
 
--- ---- in all finite records
+-- ---- in all finite records that keep the background
 
-module _ (c d : List Entry) where
-  -- no entry of D fails exactly if in every finite record each item that fits C fits D
-  pub contained-all : Legal Description d
-      → (failing c d ≡ 0) ↔ ((r : Record) (x : ℕ) → x < r .size → fits r (placeOf c 0) x ≡ true → fits r (placeOf d 0) x ≡ true)
+module _ {b : Background} (law : LawfulBackground b) (c d : List Entry) where
+  -- no entry of D fails exactly if in every such record each item that fits C fits D
+  pub contained-all : Legal Description d → (failing b c d ≡ 0) ↔ Subsumed b (placeOf c 0) (placeOf d 0)
   unfolding failing normalOf
-  contained-all L =
-      let e = contained-subsumed lawful-unrestricted (placeOf c 0) d L in
-      (λ z r x i h. e .0 z r (kept-unrestricted r) x i h, λ f. e .1 (λ r kept x i h. f r x i h))
+  contained-all L = contained-subsumed law (placeOf c 0) d L
 
   -- the number answered is that of the first entry of D, apart from 'every' entries, that C does not say
-  pub failing-first : {n : ℕ} → failing c d ≡ n → n ≢ 0 → FirstNotEntailed unrestricted (placeOf c 0) d n
+  pub failing-first : {n : ℕ} → failing b c d ≡ n → n ≢ 0 → FirstNotEntailed b (placeOf c 0) d n
   unfolding failing normalOf
-  failing-first e z = failing-not-entailed lawful-unrestricted (placeOf c 0) d e z
+  failing-first e z = failing-not-entailed law (placeOf c 0) d e z
 
   -- each item that fits C meets every entry before it, apart from 'every' entries, along its links
-  pub met-before : {n : ℕ} → failing c d ≡ n → n ≢ 0 → (j : ℕ) → 1 ≤ j → j < n → nth d j .kind ≢ 5
-      → (r : Record) (x : ℕ) → x < r .size → fits r (placeOf c 0) x ≡ true → along r (linksTo d j) x (meets r (atomOf (nth d j))) ≡ true
-  met-before e z j lo hi k r x i h = failing-first e z .before j lo hi k r (kept-unrestricted r) x i h
+  pub met-before : {n : ℕ} → failing b c d ≡ n → n ≢ 0 → (j : ℕ) → 1 ≤ j → j < n → nth d j .kind ≢ 5 → EntailsEntry b (placeOf c 0) d j
+  met-before e z j lo hi k = failing-first e z .before j lo hi k

@@ -17,7 +17,6 @@ use Rattle.blocks.specs.declared.Entry.{Entry}
 use Rattle.blocks.specs.declared.Schema.the-variants.{Description}
 use Rattle.logic.proofs.NormalForm.IsNormal.{alive, nf-normal}
 use Rattle.logic.proofs.NormalForm.Sound.{nf-sound}
-use Rattle.logic.proofs.Records.Kept.{lawful-unrestricted}
 use Rattle.logic.proofs.SpecimenTrees.TreeRecord.{top-along, top-below, top-fits, tree-keeps, treeRecord}
 use Rattle.logic.proofs.SpecimenTrees.WitnessKeeps.{witness-keeps}
 use Rattle.logic.proofs.SpecimenTrees.WitnessShows.{witness-fits, witness-refutes}
@@ -120,12 +119,18 @@ module _ {b : Background} (law : LawfulBackground b) (c d : List Entry) (Lc : Le
       let r = failing-least b (nf b (placeOf c 0)) d e z in
       shown-bounded b c d n Lc Ld (r .low) (omega (arith, r .high)) bc bd few
 
-module _ (c d : List Entry) (Lc : Legal Description c) (Ld : Legal Description d) (z : failing c d ≢ 0) where
+module _ {b : Background} (law : LawfulBackground b) (c d : List Entry) (Lc : Legal Description c) (Ld : Legal Description d)
+    (z : failing b c d ≢ 0) where
   -- where the comparison finds an entry that fails, its specimen shows it
-  pub not-contained-shown : Shown c d (specimenOf c d)
+  pub not-contained-shown : Shown c d (specimenOf b c d)
   unfolding failing normalOf specimenOf
-  not-contained-shown = first-shown lawful-unrestricted c d Lc Ld refl z
+  not-contained-shown = first-shown law c d Lc Ld refl z
 
-  pub not-contained-bounded : AllBounded c → AllBounded d → length c + length d ≤ 65536 → AllBounded (specimenOf c d)
+  -- and keeps the background
+  pub not-contained-keeps : Keeps b (recordOf (specimenOf b c d))
   unfolding failing normalOf specimenOf
-  not-contained-bounded bc bd few = first-bounded lawful-unrestricted c d Lc Ld refl z bc bd few
+  not-contained-keeps = first-keeps law c d Lc Ld refl z
+
+  pub not-contained-bounded : AllBounded c → AllBounded d → length c + length d ≤ 65536 → AllBounded (specimenOf b c d)
+  unfolding failing normalOf specimenOf
+  not-contained-bounded bc bd few = first-bounded law c d Lc Ld refl z bc bd few

@@ -14,7 +14,7 @@ use Rattle.base.proofs.Tests.{bool-cases, tests}
 use Rattle.base.specs.Ascending.{AllAfter, Sorted}
 use Rattle.base.specs.Range.{bit}
 use Rattle.logic.proofs.PlaceTrees.Order.{before-eq, before-lt}
-use Rattle.logic.specs.Background.{unrestricted}
+use Rattle.logic.specs.Background.{Background, LawfulBackground}
 use Rattle.logic.specs.Layout.{write}
 use Rattle.logic.specs.Normal.{nf}
 use Rattle.logic.specs.Place.{Atom}
@@ -24,7 +24,8 @@ use Rattle.normal.specs.code.ClassRuns.{cellAt, placeCells, runCells}
 use Rattle.passes.proofs.Emission.Exact.{normal-any}
 use Rattle.passes.proofs.Emission.TagParts.{part-tag, tag-part, tags-cells}
 use Rattle.passes.specs.code.Pipeline.{beforeCell, enoughFor, rowsFrom, tag, tags}
-use Rattle.passes.specs.code.Slots.{Cell, cell, cells, settled, slots}
+use Rattle.passes.specs.code.Restrict.{slotsUnder}
+use Rattle.passes.specs.code.Slots.{Cell, cells, settled}
 use Rattle.runs.proofs.TagsListed.{lowerName, names-rise, tag-from, tag-listed, tag-name-is, tag-slot-is}
 use Rattle.runs.specs.code.Chained.{runAt}
 use Rattle.runs.specs.code.Tagged.{tagOf, tagsDown}
@@ -84,12 +85,12 @@ module _ (t : List ℕ) (used : ℕ) (few : used ≤ 1008) (apart : (i j : ℕ) 
   run-class j v true e = (let q : eqb (keyIn (getD t j 0) / 65536 % 2) 1 ≡ true = omega (tests, e) in sym q, omega (arith, e))
   run-class j v false e = (let q : eqb (keyIn (getD t j 0) / 65536 % 2) 1 ≡ false = omega (tests, e) in sym q, omega (arith, e))
 
-  module _ (rs : List (Row Atom ℕ)) (slotted : slotsFrom t 1 used ≡ settled 1 (slots rs)) where
-    same : tags 1 (slots rs) ≡ plainTags 1 (slotsFrom t 1 used)
-    same = tags-table t used (slots rs) slotted
+  module _ {back : Background} (law : LawfulBackground back) (rs : List (Row Atom ℕ)) (slotted : slotsFrom t 1 used ≡ settled 1 (slotsUnder back rs)) where
+    same : tags 1 (slotsUnder back rs) ≡ plainTags 1 (slotsFrom t 1 used)
+    same = tags-table t used (slotsUnder back rs) slotted
 
     -- a cell of a run is a cell of its place
-    run-cell : (v : ℕ) (b : Bool) (c : Cell) → List·Memᴰ c (runCells t used v b) → List·Memᴰ c (cells 1 (slots rs) v)
+    run-cell : (v : ℕ) (b : Bool) (c : Cell) → List·Memᴰ c (runCells t used v b) → List·Memᴰ c (cells 1 (slotsUnder back rs) v)
     run-cell v b c m =
         let p = Memᴰ·of-map (cellAt t b) (sorted (tagsDown t (2 * v + bit b) 0 used)) m in
         let T = tag-from t (2 * v + bit b) 0 used (p .0) (sort-within leb (tagsDown t (2 * v + bit b) 0 used) (p .0) (p .1)) in
@@ -97,7 +98,7 @@ module _ (t : List ℕ) (used : ℕ) (few : used ≤ 1008) (apart : (i j : ℕ) 
         let r = run-class j v b (T .run) in
         let is : c ≡ slotCell t j = sym (p .2) ∙ ap (cellAt t b) (T .is) ∙ cell-same j b (T .to) (r .0) in
         let at : slotTag t j ≡ tag v c = ap (λ (u : ℕ). tag u (slotCell t j)) (r .1) ∙ ap (λ (d : Cell). tag v d) (sym is) in
-        rw (← (tags-cells 1 (slots rs) v)) (tag-part (tags 1 (slots rs)) v c (rw same (Memᴰ·cast (sym at) (tag-there t 1 used j (T .from) (omega (arith, T .to))))))
+        rw (← (tags-cells 1 (slotsUnder back rs) v)) (tag-part (tags 1 (slotsUnder back rs)) v c (rw same (Memᴰ·cast (sym at) (tag-there t 1 used j (T .from) (omega (arith, T .to))))))
 
     -- a slot's cell is one of its run
     slot-cell : (j v : ℕ) (b : Bool) → 1 ≤ j → j ≤ used → runAt t j ≡ 2 * v + bit b → List·Memᴰ (slotCell t j) (runCells t used v b)
@@ -106,10 +107,10 @@ module _ (t : List ℕ) (used : ℕ) (few : used ≤ 1008) (apart : (i j : ℕ) 
         (Memᴰ·map (cellAt t b) (within-sort leb (tagsDown t (2 * v + bit b) 0 used) _ (tag-listed t (2 * v + bit b) 0 used j lo hi e (omega arith))))
 
     -- and a cell of a place is one of its runs
-    cell-run : (v : ℕ) (c : Cell) → List·Memᴰ c (cells 1 (slots rs) v) → List·Memᴰ c (placeCells t used v)
+    cell-run : (v : ℕ) (c : Cell) → List·Memᴰ c (cells 1 (slotsUnder back rs) v) → List·Memᴰ c (placeCells t used v)
     unfolding placeCells
     cell-run v c m =
-        let N = slot-of t 1 used (tag v c) (rw same at (part-tag (tags 1 (slots rs)) v c (rw (← (tags-cells 1 (slots rs) v)) at m))) in
+        let N = slot-of t 1 used (tag v c) (rw same at (part-tag (tags 1 (slotsUnder back rs)) v c (rw (← (tags-cells 1 (slotsUnder back rs) v)) at m))) in
         let j : ℕ = N .at in
         let hi : j ≤ used = omega (arith, N .to) in
         let key : ℕ = keyIn (getD t j 0) in
@@ -121,8 +122,8 @@ module _ (t : List ℕ) (used : ℕ) (few : used ≤ 1008) (apart : (i j : ℕ) 
         (λ q. Memᴰ·append-left (runCells t used v true) (Memᴰ·cast (sym is) (slot-cell j v false (N .from) hi (omega (tests, q, place)))))
 
     -- the rows that the runs of all places give are those of the normal form
-    pub runs-normal : (f : ℕ) → enoughFor rs ≤ f → rowsFrom (slots rs) (placeCells t used) f ≡ write (nf unrestricted (tree 1 rs 0))
+    pub runs-normal : (f : ℕ) → enoughFor rs ≤ f → rowsFrom (slotsUnder back rs) (placeCells t used) f ≡ write (nf back (tree 1 rs 0))
     unfolding placeCells
     runs-normal f i =
-        normal-any rs (placeCells t used) place-sorted cell-run
+        normal-any law rs (placeCells t used) place-sorted cell-run
         (λ v c m. ⊎-elim (run-cell v false c) (run-cell v true c) (List·Memᴰ·append-cases (runCells t used v false) m)) f i

@@ -9,7 +9,6 @@ use mathlib.Core.Path.{_∙_, _≡_, ap, refl, sym}
 use Rattle.base.proofs.Missing.{and-never}
 use Rattle.base.proofs.Tests.{and-left, and-right, and-zero, bool-cases, false-of-not, tests}
 use Rattle.logic.proofs.NormalForm.Fits.{linked-bottom, linked-none}
-use Rattle.logic.proofs.Records.Counting.{every-ext}
 use Rattle.logic.specs.Normal.{found, isEnd, under}
 use Rattle.logic.specs.Place.{Place}
 use Rattle.logic.specs.Record.{Record, eachLinked, fits, successors}
@@ -17,7 +16,7 @@ use Rattle.passes.proofs.CellPlaces.Forms.{Formed, formed-here, formed-
 use Rattle.passes.proofs.Cells.CellLaws.{all-sort}
 use Rattle.passes.proofs.Cells.WrittenMeaning.{cellFits, cellSays, written-end, written-fits}
 use Rattle.passes.proofs.Cells.WrittenPasses.{allCells}
-use Rattle.passes.proofs.SlotLists.SlotBounds.{capped, eachBelow, inside}
+use Rattle.passes.proofs.SlotLists.SlotBounds.{below-agree, capped, eachBelow, inside}
 use Rattle.passes.proofs.SlotLists.SlotMeaning.{asks}
 use Rattle.passes.specs.code.Slots.{Cell, EarlySlots, Slot, broken, cell, cells, closed, inconsistent, nonempty, settled, slot}
 
@@ -72,7 +71,7 @@ module _ (c : Record) (T : ℕ → Place) where
       → (inside c true n lo (some 0) x && eachLinked c n x p) ≡ (inside c true n lo hi x && eachLinked c n x q)
   closed-link n lo hi x p q f =
       let e : eachLinked c n x q ≡ leb (successors c n x) 0
-      = every-ext _ _ (c .size) (λ y i. ap (λ (z : Bool). not (c .link n x y) || z) (f y i)) ∙ linked-bottom c n x (λ y. false) (λ y. refl) in
+      = below-agree c true n x q (λ y. false) f ∙ linked-bottom c n x (λ y. false) (λ y. refl) in
       bool-cases (leb (successors c n x) 0)
       (λ z. rw (e, z, linked-none c n x p (omega tests), zero-capped hi (successors c n x) (omega tests)))
       (λ z. rw (e, z) (drop-both (leb lo (successors c n x)) (capped hi (successors c n x)) (eachLinked c n x p)))
@@ -93,7 +92,7 @@ module _ (c : Record) (T : ℕ → Place) where
   slot-means k ss true n lo hi x f g =
       bool-cases (inconsistent (suc k) ss k)
       (λ d. rw d (closed-link n lo hi x (λ y. fits c (T k) y) (λ y. asks c (suc k) ss (λ v x. true) k y) (g d)))
-      (λ d. rw d (ap (λ (z : Bool). inside c true n lo hi x && z) (every-ext _ _ (c .size) (λ y i. ap (λ (z : Bool). not (c .link n x y) || z) (f y i)))))
+      (λ d. rw d (ap (λ (z : Bool). inside c true n lo hi x && z) (below-agree c true n x _ _ f)))
   slot-means k ss false n lo hi x f g = refl
 
   -- the cells of each place ask what its slots ask

@@ -1,13 +1,12 @@
 -- Settling slots that are settled changes nothing: the places of the settled slots are those of the slots.
 -- Assumes nothing.
 use Prim.Native.Nat.{suc, ℕ}
-use lib.Dec.{eqb}
 use mathlib.Core.Bool.{Bool, _&&_, false, true}
 use mathlib.Core.List.{List, [], _∷_}
 use mathlib.Core.Option.{Option}
 use mathlib.Core.Path.{_≡_, fun-ext, refl}
-use Rattle.base.proofs.Tests.{bool-cases}
 use Rattle.logic.specs.Place.{Place}
+use Rattle.passes.proofs.SlotLists.SameKeys.{SameKeys, same-position, same-taken}
 use Rattle.passes.specs.code.Forms.{form, formed}
 use Rattle.passes.specs.code.Pipeline.{sortedCells}
 use Rattle.passes.specs.code.Slots.{Slot, cells, closed, inconsistent, position, settled, slot, taken}
@@ -53,14 +52,15 @@ form-settled ss v =
 
 -- ---- settled slots have the keys of the slots
 
+pub settled-keys : (k : ℕ) (ss : List Slot) → SameKeys (settled k ss) ss
+unfolding settled
+settled-keys k [] = tt
+settled-keys k (slot u b n lo hi ∷ ss) = (refl, refl, refl, settled-keys (suc k) ss)
+
 -- a key is taken among them, or not, as before
 pub taken-settled : (k : ℕ) (ss : List Slot) (v : ℕ) (b : Bool) (n : ℕ) → taken (settled k ss) v b n ≡ taken ss v b n
-unfolding taken settled
-taken-settled k [] v b n = refl
-taken-settled k (slot u b′ n′ lo hi ∷ ss) v b n = rw (taken-settled (suc k) ss v b n)
+taken-settled k ss = same-taken (settled k ss) ss (settled-keys k ss)
 
 -- and its slot has the same number
 pub position-settled : (k : ℕ) (ss : List Slot) (v : ℕ) (b : Bool) (n : ℕ) → position k (settled k ss) v b n ≡ position k ss v b n
-unfolding position settled
-position-settled k [] v b n = refl
-position-settled k (slot u b′ n′ lo hi ∷ ss) v b n = rw (position-settled (suc k) ss v b n)
+position-settled k ss = same-position k (settled k ss) ss (settled-keys k ss)

@@ -2,7 +2,7 @@
 -- Assumes nothing.
 use Prim.Native.Nat.{_≤_, suc, ℕ}
 use lib.Dec.{eqb}
-use mathlib.Core.Bool.{cond, false}
+use mathlib.Core.Bool.{false}
 use mathlib.Core.List.{List, [], _∷_}
 use mathlib.Core.Path.{_∙_, _≡_, refl, sym}
 use native.Mathlib.Omega.{arith}
@@ -10,7 +10,6 @@ use Rattle.base.proofs.AscendingLaws.{sort-within}
 use Rattle.base.proofs.Tests.{eq-cases, eqb-self, tests}
 use Rattle.base.specs.Ascending.{sort}
 use Rattle.logic.specs.Place.{Place}
-use Rattle.logic.specs.Tree.{end}
 use Rattle.passes.proofs.Cells.CellLaws.{cells-from, cells-skip}
 use Rattle.passes.proofs.Cells.CellsWritten.{written-agree}
 use Rattle.passes.specs.code.Forms.{form, formed, ofEvery, ofKind, written}

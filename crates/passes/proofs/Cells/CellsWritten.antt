@@ -1,7 +1,7 @@
 -- The place that is written from the cells of a place, kind by kind, and its order.
 -- Assumes nothing.
 use Prim.Native.Nat.{_<_, ℕ}
-use mathlib.Core.Bool.{Bool, _&&_, cond, not, true}
+use mathlib.Core.Bool.{Bool, _&&_, not, true}
 use mathlib.Core.List.{List, List·Memᴰ, List·Memᴰ·head, List·Memᴰ·tail, [], _∷_}
 use mathlib.Core.Option.{Option, none, some}
 use mathlib.Core.Path.{_∙_, _≡_, ap, refl, sym}

@@ -1,17 +1,15 @@
--- Keys as numbers: made of their parts, equal where the keys are one, ascending as the tags do; and the bounds of the slots of entries.
+-- Keys as numbers: made of their parts, equal where the keys are one; and the bounds of the slots of entries.
 -- Assumes nothing.
 use Prim.Native.Nat.{_%_, _*_, _+_, _/_, _<_, _≤_, suc, ℕ}
-use lib.Dec.{eqb, ltb}
-use mathlib.Core.Bool.{Bool, _&&_, _||_, false, false≢true, true}
+use lib.Dec.{eqb}
+use mathlib.Core.Bool.{Bool, false, false≢true, true}
 use mathlib.Core.List.{List, [], _∷_}
 use mathlib.Core.Option.{Option, none, some}
-use mathlib.Core.Path.{_≡_, refl}
+use mathlib.Core.Path.{_≡_}
 use native.Mathlib.Omega.{arith}
 use Rattle.base.proofs.Missing.{opt-cases}
 use Rattle.base.proofs.Tests.{and-both, and-left, and-right, bool-cases, iff-eq, tests}
 use Rattle.base.specs.Range.{bit}
-use Rattle.logic.proofs.PlaceTrees.Order.{before-eq, before-lt}
-use Rattle.logic.specs.Normal.{before}
 use Rattle.logic.specs.Place.{Atom, Kind, atom, has, lacks, least, most, nothing}
 use Rattle.logic.specs.Tree.{Row, leafRow, nodeRow}
 use Rattle.passes.specs.code.Keys.{Small, SmallRows, SmallSlot, SmallSlots, SmallTop, keyNumber}
@@ -56,29 +54,6 @@ key-same u false n v true n′ o o′ = iff-eq (λ h. absurd (omega tests)) (λ 
 key-same u false n v false n′ o o′ =
     iff-eq (λ h. and-both {a = eqb u v} {b = eqb n n′} (omega tests) (omega tests))
     (λ h. let p : eqb u v ≡ true = and-left (eqb u v) (eqb n n′) h in let q : eqb n n′ ≡ true = and-right (eqb u v) (eqb n n′) h in omega tests)
-
--- one stands below another where its place does, or at one place its class and name
-pub key-below : (u : ℕ) (b : Bool) (n v : ℕ) (b′ : Bool) (n′ : ℕ) → Small n → Small n′ → keyNumber u b n < keyNumber v b′ n′
-    → (ltb u v || (eqb u v && before (bit b) n (bit b′) n′)) ≡ true
-unfolding keyNumber
-key-below u b n v b′ n′ o o′ h =
-    bool-cases (ltb u v)
-    (λ z. rw z)
-    (λ z.
-    let e : eqb u v ≡ true = same-place b b′ z h in
-    rw (z, e) (below b b′ e h))
-  where
-    same-place : (b b′ : Bool) → ltb u v ≡ false → keyNumber u b n < keyNumber v b′ n′ → eqb u v ≡ true
-    same-place true true z h = omega tests
-    same-place true false z h = omega tests
-    same-place false true z h = omega tests
-    same-place false false z h = omega tests
-
-    below : (b b′ : Bool) → eqb u v ≡ true → keyNumber u b n < keyNumber v b′ n′ → before (bit b) n (bit b′) n′ ≡ true
-    below true true e h = before-eq 1 n 1 n′ refl (omega tests)
-    below true false e h = absurd (omega tests)
-    below false true e h = before-lt 0 n 1 n′ (omega arith)
-    below false false e h = before-eq 0 n 0 n′ refl (omega tests)
 
 -- ---- names and numbers
 

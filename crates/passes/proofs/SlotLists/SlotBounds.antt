@@ -1,6 +1,6 @@
 -- What the bounds of a slot ask of an item.
 -- Assumes nothing.
-use Prim.Native.Nat.{max, min, ℕ}
+use Prim.Native.Nat.{_<_, max, min, ℕ}
 use lib.Dec.{eqb, leb}
 use mathlib.Core.Bool.{Bool, _&&_, _||_, and-true, false, not, or-and-distrib-left, or-true, true}
 use mathlib.Core.Option.{Option, none, some}
@@ -97,6 +97,12 @@ module _ (c : Record) where
 
   pub below-ext : (b : Bool) (n x : ℕ) (p q : ℕ → Bool) → ((y : ℕ) → p y ≡ q y) → eachBelow c b n x p ≡ eachBelow c b n x q
   below-ext b n x p q h = ap (λ (r : ℕ → Bool). eachBelow c b n x r) (fun-ext h)
+
+  -- the items of the record alone matter
+  pub below-agree : (b : Bool) (n x : ℕ) (p q : ℕ → Bool) → ((y : ℕ) → y < c .size → p y ≡ q y)
+      → eachBelow c b n x p ≡ eachBelow c b n x q
+  below-agree true n x p q h = every-ext _ _ (c .size) (λ y i. ap (λ (z : Bool). not (c .link n x y) || z) (h y i))
+  below-agree false n x p q h = refl
 
   pub below-true : (b : Bool) (n x : ℕ) (p : ℕ → Bool) → ((y : ℕ) → p y ≡ true) → eachBelow c b n x p ≡ true
   below-true true n x p h = every-of _ _ (λ y _. or-right (not (c .link n x y)) (h y))

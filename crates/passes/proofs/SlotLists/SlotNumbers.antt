@@ -9,14 +9,16 @@ use mathlib.Core.Option.{Option, none, some}
 use mathlib.Core.Path.{_∙_, _≡_, ap, refl}
 use native.Mathlib.Omega.{arith}
 use Rattle.base.proofs.Tests.{bool-cases, eqb-self, eqb-sym, tests}
+use Rattle.logic.specs.Background.{Background}
 use Rattle.logic.specs.Normal.{atMost, find, sub}
 use Rattle.logic.specs.Place.{Atom, Kind}
 use Rattle.logic.specs.Tree.{Row, end}
-use Rattle.passes.proofs.CellPlaces.FormNormal.{form-find, form-sub}
+use Rattle.passes.proofs.CellPlaces.FormLists.{form-find, form-sub}
 use Rattle.passes.proofs.Cells.WrittenLists.{value-none}
 use Rattle.passes.proofs.SlotLists.SlotLaws.{key-name, key-place, name-class, name-eq, position-from}
 use Rattle.passes.specs.code.Forms.{form}
-use Rattle.passes.specs.code.Slots.{Cell, Slot, cell, cells, closed, inconsistent, isLink, lookup, position, sameKey, sameName, settled, slot, slotAt, slotHigh, slotLow, slots, taken, value}
+use Rattle.passes.specs.code.Restrict.{slotsUnder}
+use Rattle.passes.specs.code.Slots.{Cell, Slot, cell, cells, closed, inconsistent, isLink, lookup, position, sameKey, sameName, settled, slot, slotAt, slotHigh, slotLow, taken, value}
 
 -- the slots of one key are among them
 pub position-range : (k : ℕ) (ss : List Slot) (v : ℕ) (b : Bool) (n : ℕ) → taken ss v b n ≡ true → position k ss v b n < k + length ss
@@ -53,28 +55,32 @@ lookup-number k (slot u b′ n′ lo hi ∷ ss) v b n =
     renamed : (k lo : ℕ) (hi : Option ℕ) {b₁ b₂ : Bool} {n₁ n₂ : ℕ} → b₁ ≡ b₂ → n₁ ≡ n₂ → cell k b₁ n₁ lo hi ≡ cell k b₂ n₂ lo hi
     renamed k lo hi i j = cc
 
--- ---- what a place of a description's slots lists, by the settled slots
+-- ---- what a place of a description's slots under a background lists, by the settled slots
 
-module _ (rs : List (Row Atom ℕ)) where
+module _ (b : Background) (rs : List (Row Atom ℕ)) where
   -- the settled slot of a number
   abbrev pub settledAt : ℕ → Slot
-  settledAt j = slotAt 1 (settled 1 (slots rs)) j
+  settledAt j = slotAt 1 (settled 1 (slotsUnder b rs)) j
 
   -- of a name that has no slot nothing is listed
-  pub no-slot : (v : ℕ) (a : Kind) (n : ℕ) → taken (slots rs) v (isLink a) n ≡ false → find a n (form (slots rs) v) ≡ none
-  no-slot v a n e = form-find rs v a n ∙ rw (lookup-number 1 (slots rs) v (isLink a) n, e) (value-none a)
+  pub no-slot : (v : ℕ) (a : Kind) (n : ℕ) → taken (slotsUnder b rs) v (isLink a) n ≡ false
+      → find a n (form (slotsUnder b rs) v) ≡ none
+  no-slot v a n e = form-find b rs v a n ∙ rw (lookup-number 1 (slotsUnder b rs) v (isLink a) n, e) (value-none a)
 
   -- of a name that has one, what its bounds say
-  pub slot-lists : (v : ℕ) (a : Kind) (n : ℕ) → taken (slots rs) v (isLink a) n ≡ true
-      → find a n (form (slots rs) v) ≡ value a (slotLow (settledAt (position 1 (slots rs) v (isLink a) n))) (slotHigh (settledAt (position 1 (slots rs) v (isLink a) n)))
-  slot-lists v a n e = form-find rs v a n ∙ rw (lookup-number 1 (slots rs) v (isLink a) n, e)
+  pub slot-lists : (v : ℕ) (a : Kind) (n : ℕ) → taken (slotsUnder b rs) v (isLink a) n ≡ true
+      → find a n (form (slotsUnder b rs) v)
+      ≡ value a (slotLow (settledAt (position 1 (slotsUnder b rs) v (isLink a) n)))
+      (slotHigh (settledAt (position 1 (slotsUnder b rs) v (isLink a) n)))
+  slot-lists v a n e = form-find b rs v a n ∙ rw (lookup-number 1 (slotsUnder b rs) v (isLink a) n, e)
 
   -- a link that has no slot owns nothing
-  pub no-link-slot : (v l : ℕ) → taken (slots rs) v true l ≡ false → sub l (form (slots rs) v) ≡ end
-  no-link-slot v l e = form-sub rs v l ∙ rw (lookup-number 1 (slots rs) v true l, e)
+  pub no-link-slot : (v l : ℕ) → taken (slotsUnder b rs) v true l ≡ false → sub l (form (slotsUnder b rs) v) ≡ end
+  no-link-slot v l e = form-sub b rs v l ∙ rw (lookup-number 1 (slotsUnder b rs) v true l, e)
 
   -- a link that has one, and not at most 0, owns the place of its number
-  pub slot-owns : (v l : ℕ) → taken (slots rs) v true l ≡ true
-      → sub l (form (slots rs) v)
-      ≡ cond (atMost 0 (slotHigh (settledAt (position 1 (slots rs) v true l)))) end (form (slots rs) (position 1 (slots rs) v true l))
-  slot-owns v l e = form-sub rs v l ∙ rw (lookup-number 1 (slots rs) v true l, e)
+  pub slot-owns : (v l : ℕ) → taken (slotsUnder b rs) v true l ≡ true
+      → sub l (form (slotsUnder b rs) v)
+      ≡ cond (atMost 0 (slotHigh (settledAt (position 1 (slotsUnder b rs) v true l)))) end
+      (form (slotsUnder b rs) (position 1 (slotsUnder b rs) v true l))
+  slot-owns v l e = form-sub b rs v l ∙ rw (lookup-number 1 (slotsUnder b rs) v true l, e)

@@ -1,18 +1,20 @@
 -- The fast normal form: the rows that the passes over the slots write.
 -- Assumes nothing.
 use Prim.Native.Nat.{_+_, suc, zero, ℕ}
-use lib.Dec.{eqb, ltb}
+use lib.Dec.{eqb}
 use lib.ListN.{length}
-use mathlib.Core.Bool.{Bool, _&&_, _||_, cond, not}
+use mathlib.Core.Bool.{Bool, _&&_, cond, not}
 use mathlib.Core.List.{List, [], _∷_}
 use mathlib.Core.Option.{Option, none, some}
 use Rattle.base.specs.Ascending.{sort}
 use Rattle.base.specs.Range.{bit}
+use Rattle.logic.specs.Background.{Background}
 use Rattle.logic.specs.Layout.{Queue, done, job, later}
 use Rattle.logic.specs.Normal.{atMost, before}
 use Rattle.logic.specs.Place.{Atom, Kind, atom, has, lacks, least, most, nothing}
 use Rattle.logic.specs.Tree.{Row, leafRow, nodeRow}
-use Rattle.passes.specs.code.Slots.{Cell, Slot, cell, cells, closed, inconsistent, isLink, nonempty, sameClass, settled, slot, slots, value}
+use Rattle.passes.specs.code.Restrict.{slotsUnder}
+use Rattle.passes.specs.code.Slots.{Cell, Slot, cell, cells, closed, inconsistent, isLink, nonempty, sameClass, settled, slot, value}
 
 -- ---- the third pass: the cells of each place in ascending order
 
@@ -64,11 +66,11 @@ rowsFrom ss S f = cond (inconsistent 1 ss 0) (leafRow 0 (atom nothing 0 0) ∷ [
 abbrev pub enoughFor : List (Row Atom ℕ) → ℕ
 enoughFor rs = suc (length rs + length rs)
 
--- the rows of the normal form of a description
-unfoldable pub normalRows : List (Row Atom ℕ) → List (Row Atom ℕ)
-normalRows rs = rowsFrom (slots rs) (sortedCells (slots rs)) (enoughFor rs)
+-- the rows of the normal form of a description, for the records that keep a background
+unfoldable pub normalRows : Background → List (Row Atom ℕ) → List (Row Atom ℕ)
+normalRows b rs = rowsFrom (slotsUnder b rs) (sortedCells (slotsUnder b rs)) (enoughFor rs)
 
--- ---- one sorting of all slots
+-- ---- the cells of all places together
 
 -- a settled slot: the place where it stands, and its cell
 pub data Tag : Type 0 where
@@ -77,10 +79,6 @@ pub data Tag : Type 0 where
 unfoldable pub tags : ℕ → List Slot → List Tag
 tags k [] = []
 tags k (slot u b n lo hi ∷ ss) = tag u (cell k b n lo (closed (b && inconsistent (suc k) ss k) hi)) ∷ tags (suc k) ss
-
--- by place, then by class and name
-abbrev pub beforeTag : Tag → Tag → Bool
-beforeTag (tag u c) (tag u′ c′) = ltb u u′ || (eqb u u′ && beforeCell c c′)
 
 -- the cells of the place v, in the order of the tags
 unfoldable pub part : List Tag → ℕ → List Cell

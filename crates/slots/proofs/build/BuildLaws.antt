@@ -1,6 +1,6 @@
 -- Laws of the first pass: one entry more.
 -- Assumes nothing.
-use Prim.Native.Nat.{_+_, _-_, _<_, _≤_, max, suc, zero, ℕ}
+use Prim.Native.Nat.{_+_, _<_, _≤_, max, suc, zero, ℕ}
 use lib.Dec.{eqb, ltb}
 use lib.ListN.{drop, drop-of-length-le, getD, length, length-map, length-set, set}
 use lib.Seq.{getD-set-other, getD-set-same}
@@ -19,7 +19,7 @@ use Rattle.logic.specs.Place.{kindOf}
 use Rattle.meaning.specs.Description.{rowOf}
 use Rattle.meaning.specs.Owned.{Owned}
 use Rattle.passes.specs.code.Slots.{atTop, build, high, isLink, leading, low, position, slots, tighten}
-use Rattle.slots.specs.code.Tables.{Blank, Building, Built, Entered, Exact, Kept, Nodes, Workspace, hashOf, highIn, highKind, keyIn, leadsTo, linkKind, lowKind, slotsFrom, slotsIn}
+use Rattle.slots.specs.code.Tables.{Blank, Building, Built, Entered, Exact, Kept, Nodes, Workspace, builtSlots, hashOf, highIn, highKind, keyIn, leadsTo, linkKind, lowKind, slotsFrom, slotsIn}
 
 -- ---- kinds by number
 
@@ -162,7 +162,7 @@ module _ {d : List ℕ} (O : Owned (entriesOf d)) {n used : ℕ} {t next head no
 
 -- all entered
 pub building-ends : {d : List ℕ} {n used : ℕ} {origin t next head node : List ℕ} → length (entriesOf d) ≤ n → Building d n used t next head node → Exact origin t used
-    → used ≤ length (entriesOf d) → Built d used origin t next head
+    → used ≤ length (entriesOf d) → Built (builtSlots d) d used origin t next head
 unfolding build
 building-ends {d} {n} l B x f = record {
   slotted = B .slotted ∙ rw (rows-none (entriesOf d) n l);

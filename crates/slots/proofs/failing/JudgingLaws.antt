@@ -15,6 +15,7 @@ use Rattle.blocks.specs.Entries.{entriesOf}
 use Rattle.blocks.specs.Reading.{readingOf}
 use Rattle.blocks.specs.declared.Reading.the-variants as reading
 use Rattle.blocks.specs.declared.Schema.the-variants.{Description}
+use Rattle.logic.specs.Background.{Background, LawfulBackground}
 use Rattle.passes.specs.code.Slots.{inconsistent}
 use Rattle.slots.proofs.FailingLaws.{accepted-few, first-refused, judged-read, no-room, second-refused}
 use Rattle.slots.proofs.HoldingLaws.{bottom-first, slots-first}
@@ -28,21 +29,21 @@ use Rattle.slots.specs.declared.Holding.the-variants.{All, Refused}
 
 -- ---- an input is refused, or the table is too short: it stays
 
-module _ (c d t : List ℕ) where
-  pub judging-first : {k i p : ℕ} → readingOf Description 1 c ≡ reading.Refused k i p → Judges c d t (Refused k i p) t
+module _ (b : Background) (c d t : List ℕ) where
+  pub judging-first : {k i p : ℕ} → readingOf Description 1 c ≡ reading.Refused k i p → Judges b c d t (Refused k i p) t
   unfolding tableJudged
-  judging-first e = (sym (first-refused (length t) c d e), rw (tableJudged, e), tt)
+  judging-first e = (sym (first-refused b (length t) c d e), rw (tableJudged, e), tt)
 
   module _ {n : ℕ} (e : readingOf Description 1 c ≡ reading.Accepted n) where
-    pub judging-second : {k i p : ℕ} → readingOf Description 2 d ≡ reading.Refused k i p → Judges c d t (Refused k i p) t
+    pub judging-second : {k i p : ℕ} → readingOf Description 2 d ≡ reading.Refused k i p → Judges b c d t (Refused k i p) t
     unfolding tableJudged
-    judging-second f = (sym (second-refused (length t) c d e f), rw (tableJudged, e, f), tt)
+    judging-second f = (sym (second-refused b (length t) c d e f), rw (tableJudged, e, f), tt)
 
-    pub judging-short : {m : ℕ} → readingOf Description 2 d ≡ reading.Accepted m → length t ≤ n → Judges c d t (Refused 7 0 0) t
+    pub judging-short : {m : ℕ} → readingOf Description 2 d ≡ reading.Accepted m → length t ≤ n → Judges b c d t (Refused 7 0 0) t
     unfolding tableJudged
     judging-short f h =
         let l : length t ≤ length (entriesOf c) = omega (arith, accepted-few 1 c e .0) in
-        (sym (no-room (length t) c d e f l), rw (tableJudged, e, f, ge-ltb l), tt)
+        (sym (no-room b (length t) c d e f l), rw (tableJudged, e, f, ge-ltb l), tt)
 
 -- ---- both are accepted, and there is room
 
@@ -55,35 +56,36 @@ bit-false true e = absurd (omega arith)
 bit-false false e = refl
 
 -- the slots of the first are in the table
-pub chained-indexed : {c t t′ next head bad full : List ℕ} {used : ℕ} → Chained c used t t′ next head bad full → Indexed (slotsOf c) t′ next head used
+pub chained-indexed : {b : Background} {c t t′ next head bad full : List ℕ} {used : ℕ} → Chained b c used t t′ next head bad full
+    → Indexed (slotsOf b c) t′ next head used
 chained-indexed s = record { kept = s .kept; slotted = s .settled′ .tabled .slotted }
 
-module _ {c t t′ next head bad full : List ℕ} {n m used : ℕ} (d : List ℕ) (e : readingOf Description 1 c ≡ reading.Accepted n) (f : readingOf Description 2 d ≡ reading.Accepted m)
-    (h : n < length t) (s : Chained c used t t′ next head bad full) where
+module _ {b : Background} (law : LawfulBackground b) {c t t′ next head bad full : List ℕ} {n m used : ℕ} (d : List ℕ) (e : readingOf Description 1 c ≡ reading.Accepted n) (f : readingOf Description 2 d ≡ reading.Accepted m)
+    (h : n < length t) (s : Chained b c used t t′ next head bad full) where
   room : length (entriesOf c) < length t
   room = omega (arith, accepted-few 1 c e .0)
 
-  table-judged : t′ ≡ tableJudged c d t
+  table-judged : t′ ≡ tableJudged b c d t
   unfolding tableJudged
   table-judged = rw (tableJudged, e, f, lt-ltb room) (table-exact (s .exact) (s .settled′ .tabled))
 
   -- nothing fits the first: all hold
-  pub judging-bottom : {b : ℕ} → b ≡ getD bad 0 0 → b ≢ 0 → Judges c d t All t′
+  pub judging-bottom : {x : ℕ} → x ≡ getD bad 0 0 → x ≢ 0 → Judges b c d t All t′
   unfolding failingIn
   judging-bottom q z =
-      let none : failingIn c d ≡ 0 = bottom-first (entriesOf c) (entriesOf d) (bit-true (inconsistent 1 (slotsOf c) 0) (λ y. z (q ∙ s .settled′ .bads 0 ∙ y))) in
-      (sym (judged-read (length t) c d e f room ∙ rw (eq-eqb none)), table-judged, tt)
+      let none : failingIn b c d ≡ 0 = bottom-first law (entriesOf c) (entriesOf d) (bit-true (inconsistent 1 (slotsOf b c) 0) (λ y. z (q ∙ s .settled′ .bads 0 ∙ y))) in
+      (sym (judged-read b (length t) c d e f room ∙ rw (eq-eqb none)), table-judged, tt)
 
   -- what is found by them is the first that is not held
-  pub judging-found : {b r : ℕ} {a : Holding} → b ≡ getD bad 0 0 → b ≡ 0 → r ≡ firstFrom (holdsBySlots (slotsOf c) (entriesOf d)) 1 m → a ≡ holdingBy used r → Judges c d t a t′
+  pub judging-found : {x r : ℕ} {a : Holding} → x ≡ getD bad 0 0 → x ≡ 0 → r ≡ firstFrom (holdsBySlots b (slotsOf b c) (entriesOf d)) 1 m → a ≡ holdingBy used r → Judges b c d t a t′
   unfolding failingIn
   judging-found {r = r} q z g k =
-      let lives : inconsistent 1 (slotsOf c) 0 ≡ false = bit-false (inconsistent 1 (slotsOf c) 0) (sym (s .settled′ .bads 0) ∙ sym q ∙ z) in
+      let lives : inconsistent 1 (slotsOf b c) 0 ≡ false = bit-false (inconsistent 1 (slotsOf b c) 0) (sym (s .settled′ .bads 0) ∙ sym q ∙ z) in
       let T = s .settled′ .tabled in
-      let is : r ≡ failingIn c d =
-      g ∙ ap (firstFrom (holdsBySlots (slotsOf c) (entriesOf d)) 1) (accepted-few 2 d f .0)
-      ∙ slots-first (entriesOf c) (entriesOf d) (omega (arith, T .counted, T .few)) (sound-of-accepted Description 2 d f .entries) lives in (
-        k ∙ rw (is, T .counted) (sym (judged-read (length t) c d e f room)),
+      let is : r ≡ failingIn b c d =
+      g ∙ ap (firstFrom (holdsBySlots b (slotsOf b c) (entriesOf d)) 1) (accepted-few 2 d f .0)
+      ∙ slots-first law (entriesOf c) (entriesOf d) (omega (arith, T .counted, T .few)) (sound-of-accepted Description 2 d f .entries) lives in (
+        k ∙ rw (is, T .counted) (sym (judged-read b (length t) c d e f room)),
         table-judged,
         rw k (eq-cases r 0
             (λ y. rw (eq-eqb y) tt)

@@ -19,6 +19,7 @@ use Rattle.blocks.specs.Entries.{entriesOf}
 use Rattle.blocks.specs.Reading.{readingOf}
 use Rattle.blocks.specs.declared.Reading.the-variants as reading
 use Rattle.blocks.specs.declared.Schema.the-variants.{Description}
+use Rattle.logic.specs.Background.{Background}
 use Rattle.passes.proofs.SlotLists.KeyLaws.{key-parts}
 use Rattle.passes.specs.code.Slots.{inconsistent, nonempty, settled}
 use Rattle.slots.proofs.FailingLaws.{accepted-few}
@@ -63,14 +64,14 @@ unfolding stored
 stored-other xs l i j h = sets-other xs l i j h
 
 -- a table is the one before with the slots that stand in it
-pub table-exact : {o t d : List ℕ} {used : ℕ} → Exact o t used → Tabled d used t → t ≡ slotsStored d o
+pub table-exact : {b : Background} {o t d : List ℕ} {used : ℕ} → Exact o t used → Tabled b d used t → t ≡ slotsStored b d o
 unfolding slotsStored
-table-exact {o} {t} {d} {used} x s =
+table-exact {b} {o} {t} {d} {used} x s =
     let ws = listed (λ k. getD t k 0) 1 used in
     let n = length-listed (λ k. getD t k 0) 1 used in
-    let back : map slotWord (settled 1 (slotsOf d)) ≡ ws = rw (← s .slotted) (slots-back t 1 used (λ j lo hi. x .high j lo (omega arith))) in
+    let back : map slotWord (settled 1 (slotsOf b d)) ≡ ws = rw (← s .slotted) (slots-back t 1 used (λ j lo hi. x .high j lo (omega arith))) in
     let l = length-stored o ws 1 in
-    rw (slotsStored, back) (ext-getD 0 t (stored o 1 ws) (x .size ∙ sym l) (λ k b.
+    rw (slotsStored, back) (ext-getD 0 t (stored o 1 ws) (x .size ∙ sym l) (λ k l′.
     eq-cases k 0
     (λ z. rw z (x .top ∙ sym (stored-other ws o 1 0 (inl (omega arith)))))
     (λ z. lt-cases used k
@@ -93,13 +94,13 @@ marks-exact {m} f n e h = sym (marks-listed f 0 n ∙ rw (← e) (listed-eq (λ 
 -- ---- the ways through filling
 
 -- refused: nothing changes
-pub filling-refused : (d : List ℕ) {k i p : ℕ} → readingOf Description 1 d ≡ reading.Refused k i p → (t bad full : List ℕ) → Fills d t bad full (Refused k i p) t bad full
+pub filling-refused : (b : Background) (d : List ℕ) {k i p : ℕ} → readingOf Description 1 d ≡ reading.Refused k i p → (t bad full : List ℕ) → Fills b d t bad full (Refused k i p) t bad full
 unfolding slottingOf tableAfter badAfter fullAfter
-filling-refused d e t bad full = (rw (slottingOf, e), rw (tableAfter, e), rw (badAfter, e), rw (fullAfter, e), λ room. e)
+filling-refused b d e t bad full = (rw (slottingOf, e), rw (tableAfter, e), rw (badAfter, e), rw (fullAfter, e), λ room. e)
 
-module _ (d : List ℕ) {n : ℕ} (e : readingOf Description 1 d ≡ reading.Accepted n) (t bad full : List ℕ) where
+module _ (b : Background) (d : List ℕ) {n : ℕ} (e : readingOf Description 1 d ≡ reading.Accepted n) (t bad full : List ℕ) where
   -- a table is too short: nothing changes
-  pub filling-short : roomIn t bad full ≤ n → Fills d t bad full (Refused 7 0 0) t bad full
+  pub filling-short : roomIn t bad full ≤ n → Fills b d t bad full (Refused 7 0 0) t bad full
   unfolding slottingOf tableAfter badAfter fullAfter
   filling-short h =
       let few = accepted-few 1 d e in
@@ -107,14 +108,14 @@ module _ (d : List ℕ) {n : ℕ} (e : readingOf Description 1 d ≡ reading.Acc
       (rw (slottingOf, e, no), rw (tableAfter, e, no), rw (badAfter, e, no), rw (fullAfter, e, no), λ room. absurd (omega (arith, few .1, h, room)))
 
   -- filled: the marks are those of the slots, whatever they were
-  pub filling-accepted : {t′ bad′ full′ : List ℕ} {used : ℕ} → n < roomIn t bad full → Settled d used t′ bad′ full′ → Exact t t′ used → length bad′ ≡ length bad → length full′ ≡ length full
-      → Fills d t bad full (Filled used) t′ bad′ full′
+  pub filling-accepted : {t′ bad′ full′ : List ℕ} {used : ℕ} → n < roomIn t bad full → Settled b d used t′ bad′ full′ → Exact t t′ used → length bad′ ≡ length bad → length full′ ≡ length full
+      → Fills b d t bad full (Filled used) t′ bad′ full′
   unfolding slottingOf tableAfter badAfter fullAfter
-  filling-accepted h s x b f =
+  filling-accepted h s x m f =
       let there : ltb (length (entriesOf d)) (roomIn t bad full) ≡ true = rw (← accepted-few 1 d e .0) (lt-ltb h) in (
         rw (slottingOf, e, there) (ap Filled (s .tabled .counted)),
         rw (tableAfter, e, there) (table-exact x (s .tabled)),
-        rw (badAfter, e, there) (marks-exact (inconsistent 1 (slotsOf d)) (length bad) b (s .bads)),
-        rw (fullAfter, e, there) (marks-exact (nonempty 1 (settled 1 (slotsOf d))) (length full) f (s .fulls)),
+        rw (badAfter, e, there) (marks-exact (inconsistent 1 (slotsOf b d)) (length bad) m (s .bads)),
+        rw (fullAfter, e, there) (marks-exact (nonempty 1 (settled 1 (slotsOf b d))) (length full) f (s .fulls)),
         record { total = n; read = e; slots-settled = s },
       )

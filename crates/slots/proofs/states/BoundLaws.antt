@@ -14,7 +14,7 @@ use Rattle.logic.specs.Normal.{atMost, found}
 use Rattle.passes.specs.code.Slots.{Slot}
 use Rattle.slots.proofs.states.SlotSearch.{high-slot, low-slot}
 use Rattle.slots.specs.code.States.{Indexed, highAt, lowAt}
-use Rattle.slots.specs.code.Tables.{Exact, Kept, Settling, hashOf, highIn, highPart, lowPart, noBound}
+use Rattle.slots.specs.code.Tables.{Exact, Kept, Settling, hashOf, highIn, highPart, keyIn, lowPart, noBound}
 
 module _ {ss : List Slot} {t next head : List ℕ} {used : ℕ} (i : Indexed ss t next head used) {s x : ℕ} (b : s ≤ used) (e : x ≡ cond (eqb s 0) noBound (getD t s 0)) where
   pub bounds-low : lowPart x ≡ lowAt ss s
@@ -56,12 +56,17 @@ settled-exact x s =
       rest = λ j l. s .rest j l ∙ x .rest j l;
     }
 
-pub settled-kept : {origin t next head bad full : List ℕ} {used : ℕ} → Kept origin next head used → Settling origin used 0 t bad full → Kept t next head used
-settled-kept {head = head} k s =
+-- a table of the same keys has the same chains
+pub kept-keys : {origin t next head : List ℕ} {used : ℕ} → Kept origin next head used → length t ≡ length origin
+    → ((j : ℕ) → keyIn (getD t j 0) ≡ keyIn (getD origin j 0)) → Kept t next head used
+kept-keys {head = head} k size keys =
     record {
-      room = rw (s .size) (k .room);
+      room = rw size (k .room);
       nexts = k .nexts;
       heads = k .heads;
-      chains = chains-same (λ j. ap (hashOf (length head)) (s .keys j)) (k .chains);
-      apart = λ i j lo l hi. rw (s .keys i, s .keys j) (k .apart i j lo l hi);
+      chains = chains-same (λ j. ap (hashOf (length head)) (keys j)) (k .chains);
+      apart = λ i j lo l hi. rw (keys i, keys j) (k .apart i j lo l hi);
     }
+
+pub settled-kept : {origin t next head bad full : List ℕ} {used : ℕ} → Kept origin next head used → Settling origin used 0 t bad full → Kept t next head used
+settled-kept k s = kept-keys k (s .size) (s .keys)

@@ -11,6 +11,7 @@ use Rattle.base.proofs.Tests.{eq-cases}
 use Rattle.blocks.specs.Entries.{entriesOf, nth}
 use Rattle.blocks.specs.Owners.{ownerOf}
 use Rattle.blocks.specs.declared.Entry.{Entry}
+use Rattle.logic.specs.Background.{Background}
 use Rattle.meaning.specs.Owned.{Owned}
 use Rattle.passes.specs.code.Slots.{Slot}
 use Rattle.slots.proofs.HoldingLaws.{state-every}
@@ -63,6 +64,7 @@ module _ {d t next head : List ℕ} {used : ℕ} where
         })
 
     -- it holds in the state of its owner
-    pub holds-here : {m : ℕ} → m ≡ suc n → {r : Bool} (ss : List Slot) → Indexed ss t next head used → r ≡ holdsInState ss s e → holdsBySlots ss (entriesOf d) m ≡ r
+    pub holds-here : {m : ℕ} → m ≡ suc n → {r : Bool} (b : Background) (ss : List Slot) → Indexed ss t next head used → r ≡ holdsInState b ss s e
+        → holdsBySlots b ss (entriesOf d) m ≡ r
     unfolding holdsBySlots
-    holds-here q ss x h = rw (q, ← state-read ss x, ← is′) (sym h)
+    holds-here q b ss x h = rw (q, ← state-read ss x, ← is′) (sym h)

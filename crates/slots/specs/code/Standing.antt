@@ -9,6 +9,7 @@ use Rattle.base.specs.Stores.{stored}
 use Rattle.blocks.specs.Reading.{readingOf, unlessRefused}
 use Rattle.blocks.specs.declared.Reading.the-variants as reading
 use Rattle.blocks.specs.declared.Schema.the-variants.{Description}
+use Rattle.logic.specs.Background.{Background}
 use Rattle.passes.specs.code.Slots.{inconsistent, nonempty, settled}
 use Rattle.slots.specs.Holding.{holdingOf, whereRoom}
 use Rattle.slots.specs.code.Tables.{Settled, Tabled, marksFrom, slotWord, slotsOf}
@@ -24,52 +25,52 @@ abbrev pub roomIn : List ℕ → List ℕ → List ℕ → ℕ
 roomIn t bad full = min (length t) (min (length bad) (length full))
 
 -- how many slots there are; or the refusal; or 7
-unfoldable pub slottingOf : ℕ → List ℕ → Slotting
-slottingOf room d = unlessRefused Refused (readingOf Description 1 d) (whereRoom room d (Refused 7 0 0) (Filled (length (slotsOf d))))
+unfoldable pub slottingOf : Background → ℕ → List ℕ → Slotting
+slottingOf b room d = unlessRefused Refused (readingOf Description 1 d) (whereRoom room d (Refused 7 0 0) (Filled (length (slotsOf b d))))
 
 -- a table that is written where the input is accepted and there is room, and else stays
 abbrev pub filledIn : ℕ → List ℕ → List ℕ → List ℕ → List ℕ
 filledIn room d old new = unlessRefused (λ k i p. old) (readingOf Description 1 d) (whereRoom room d old new)
 
 -- the settled slots from number 1 on; all other numbers stay
-unfoldable pub slotsStored : List ℕ → List ℕ → List ℕ
-slotsStored d t = stored t 1 (map slotWord (settled 1 (slotsOf d)))
+unfoldable pub slotsStored : Background → List ℕ → List ℕ → List ℕ
+slotsStored b d t = stored t 1 (map slotWord (settled 1 (slotsOf b d)))
 
-unfoldable pub tableAfter : ℕ → List ℕ → List ℕ → List ℕ
-tableAfter room d t = filledIn room d t (slotsStored d t)
+unfoldable pub tableAfter : Background → ℕ → List ℕ → List ℕ → List ℕ
+tableAfter b room d t = filledIn room d t (slotsStored b d t)
 
 -- which places are impossible
-unfoldable pub badAfter : ℕ → List ℕ → List ℕ → List ℕ
-badAfter room d bad = filledIn room d bad (marksFrom (inconsistent 1 (slotsOf d)) 0 (length bad))
+unfoldable pub badAfter : Background → ℕ → List ℕ → List ℕ → List ℕ
+badAfter b room d bad = filledIn room d bad (marksFrom (inconsistent 1 (slotsOf b d)) 0 (length bad))
 
 -- which places are not empty
-unfoldable pub fullAfter : ℕ → List ℕ → List ℕ → List ℕ
-fullAfter room d full = filledIn room d full (marksFrom (nonempty 1 (settled 1 (slotsOf d))) 0 (length full))
+unfoldable pub fullAfter : Background → ℕ → List ℕ → List ℕ → List ℕ
+fullAfter b room d full = filledIn room d full (marksFrom (nonempty 1 (settled 1 (slotsOf b d))) 0 (length full))
 
 -- the input is accepted, and its slots stand in the tables, settled
-pub record Standing (d : List ℕ) (used : ℕ) (t bad full : List ℕ) : Type 0 where
+pub record Standing (b : Background) (d : List ℕ) (used : ℕ) (t bad full : List ℕ) : Type 0 where
   pub total : ℕ
   pub read : readingOf Description 1 d ≡ reading.Accepted total
-  pub slots-settled : Settled d used t bad full
+  pub slots-settled : Settled b d used t bad full
 
 -- by the answer: they stand there; or the input is refused, if there is room for any
-abbrev pub FilledBy : ℕ → List ℕ → List ℕ → List ℕ → List ℕ → Slotting → Type 0
-FilledBy room d t bad full (Filled used) = Standing d used t bad full
-FilledBy room d t bad full (Refused k i p) = 1008 < room → readingOf Description 1 d ≡ reading.Refused k i p
+abbrev pub FilledBy : Background → ℕ → List ℕ → List ℕ → List ℕ → List ℕ → Slotting → Type 0
+FilledBy b room d t bad full (Filled used) = Standing b d used t bad full
+FilledBy b room d t bad full (Refused k i p) = 1008 < room → readingOf Description 1 d ≡ reading.Refused k i p
 
 -- all that filling does, with the tables before and after
-abbrev pub Fills : List ℕ → List ℕ → List ℕ → List ℕ → Slotting → List ℕ → List ℕ → List ℕ → Type 0
-Fills d t bad full r t′ bad′ full′ =
-    (r ≡ slottingOf (roomIn t bad full) d) × (t′ ≡ tableAfter (roomIn t bad full) d t) × (bad′ ≡ badAfter (roomIn t bad full) d bad)
-    × (full′ ≡ fullAfter (roomIn t bad full) d full) × FilledBy (roomIn t bad full) d t′ bad′ full′ r
+abbrev pub Fills : Background → List ℕ → List ℕ → List ℕ → List ℕ → Slotting → List ℕ → List ℕ → List ℕ → Type 0
+Fills b d t bad full r t′ bad′ full′ =
+    (r ≡ slottingOf b (roomIn t bad full) d) × (t′ ≡ tableAfter b (roomIn t bad full) d t) × (bad′ ≡ badAfter b (roomIn t bad full) d bad)
+    × (full′ ≡ fullAfter b (roomIn t bad full) d full) × FilledBy b (roomIn t bad full) d t′ bad′ full′ r
 
 -- ---- judging
 
 -- the settled slots of c, where both inputs are accepted and there is room; else the table stays
-unfoldable pub tableJudged : List ℕ → List ℕ → List ℕ → List ℕ
-tableJudged c d t =
+unfoldable pub tableJudged : Background → List ℕ → List ℕ → List ℕ → List ℕ
+tableJudged b c d t =
     unlessRefused (λ k i p. t) (readingOf Description 1 c) (unlessRefused (λ k i p. t) (readingOf Description 2 d)
-    (whereRoom (length t) c t (slotsStored c t)))
+    (whereRoom (length t) c t (slotsStored b c t)))
 
 -- both inputs are accepted
 pub record BothRead (c d : List ℕ) : Type 0 where
@@ -79,17 +80,17 @@ pub record BothRead (c d : List ℕ) : Type 0 where
   pub second-read : readingOf Description 2 d ≡ reading.Accepted second
 
 -- the slots of c stand in the table, settled, and their top is possible
-pub record Judged (c d : List ℕ) (used : ℕ) (t : List ℕ) : Type 0 where
+pub record Judged (b : Background) (c d : List ℕ) (used : ℕ) (t : List ℕ) : Type 0 where
   pub read : BothRead c d
-  pub tabled : Tabled c used t
-  pub possible : inconsistent 1 (slotsOf c) 0 ≡ false
+  pub tabled : Tabled b c used t
+  pub possible : inconsistent 1 (slotsOf b c) 0 ≡ false
 
 -- by the answer: they stand there where an entry fails
-abbrev pub JudgedBy : List ℕ → List ℕ → List ℕ → Holding → Type 0
-JudgedBy c d t holding.All = Unit {0}
-JudgedBy c d t (holding.Fails n used) = Judged c d used t
-JudgedBy c d t (holding.Refused k i p) = Unit {0}
+abbrev pub JudgedBy : Background → List ℕ → List ℕ → List ℕ → Holding → Type 0
+JudgedBy b c d t holding.All = Unit {0}
+JudgedBy b c d t (holding.Fails n used) = Judged b c d used t
+JudgedBy b c d t (holding.Refused k i p) = Unit {0}
 
 -- all that judging does, with the table before and after
-abbrev pub Judges : List ℕ → List ℕ → List ℕ → Holding → List ℕ → Type 0
-Judges c d t r t′ = (r ≡ holdingOf (length t) c d) × (t′ ≡ tableJudged c d t) × JudgedBy c d t′ r
+abbrev pub Judges : Background → List ℕ → List ℕ → List ℕ → Holding → List ℕ → Type 0
+Judges b c d t r t′ = (r ≡ holdingOf b (length t) c d) × (t′ ≡ tableJudged b c d t) × JudgedBy b c d t′ r

@@ -3,7 +3,7 @@
 use Prim.Native.Nat.{_+_, _<_, _≤_, suc, zero, ℕ}
 use lib.Dec.{eqb, leb}
 use lib.ListN.{getD, length}
-use mathlib.Core.Bool.{Bool, cond, not, true}
+use mathlib.Core.Bool.{Bool, _||_, cond, not, true}
 use mathlib.Core.List.{List}
 use mathlib.Core.Logic.{_≢_}
 use mathlib.Core.Option.{Option, none}
@@ -12,7 +12,9 @@ use Rattle.base.specs.Search.{firstFrom}
 use Rattle.blocks.specs.Entries.{entriesOf, nth}
 use Rattle.blocks.specs.Owners.{ownerOf}
 use Rattle.blocks.specs.declared.Entry.{Entry}
+use Rattle.logic.specs.Background.{Background}
 use Rattle.logic.specs.Normal.{atMost, found}
+use Rattle.passes.specs.code.Restrict.{excludedAt}
 use Rattle.passes.specs.code.Slots.{Slot, position, settled, slotAt, slotHigh, slotLow, taken}
 use Rattle.slots.specs.code.Tables.{Kept, linkKind, slotsFrom}
 
@@ -53,24 +55,26 @@ stateOf ss d (suc steps) o = cond (eqb o 0) 0 (stateBelow ss (stateOf ss d steps
 -- ---- support
 
 -- "Kinds 1 and 2 need the same entry; kind 3 needs n = 0 or at least m with m ≥ n; kind 4 needs at most m with m ≤ n; kind 5 always
--- holds; kind 6 never does", by a slot's bounds: kind k and number n
-unfoldable pub supportedBy : ℕ → ℕ → ℕ → Option ℕ → Bool
-supportedBy k n lo hi =
-    cond (eqb k 1) (not (eqb lo 0)) (cond (eqb k 2) (found hi) (cond (eqb k 3) (leb n lo) (cond (eqb k 4) (atMost n hi) (eqb k 5))))
+-- holds; kind 6 never does", by a slot's bounds: kind k, name l and number n. What the background says counts too: an at most that a cap
+-- says, and the lack of a property that is excluded, which x tells.
+unfoldable pub supportedBy : Background → Bool → ℕ → ℕ → ℕ → ℕ → Option ℕ → Bool
+supportedBy b x k l n lo hi =
+    cond (eqb k 1) (not (eqb lo 0))
+    (cond (eqb k 2) (found hi || x) (cond (eqb k 3) (leb n lo) (cond (eqb k 4) (atMost n hi || atMost n (b .cap l)) (eqb k 5))))
 
 -- the slot of an entry at place v
 abbrev pub entrySlot : List Slot → ℕ → Entry → ℕ
 entrySlot ss v e = slotFor ss v (linkKind (e .kind)) (e .name)
 
 -- the entry holds in a place of that state
-unfoldable pub holdsInState : List Slot → ℕ → Entry → Bool
-holdsInState ss s e =
+unfoldable pub holdsInState : Background → List Slot → ℕ → Entry → Bool
+holdsInState b ss s e =
     cond (eqb s passed) true
-    (supportedBy (e .kind) (e .number) (lowAt ss (entrySlot ss s e)) (highAt ss (entrySlot ss s e)))
+    (supportedBy b (excludedAt b ss s (e .name)) (e .kind) (e .name) (e .number) (lowAt ss (entrySlot ss s e)) (highAt ss (entrySlot ss s e)))
 
 -- entry n of D holds
-unfoldable pub holdsBySlots : List Slot → List Entry → ℕ → Bool
-holdsBySlots ss d n = holdsInState ss (stateOf ss d (ownerOf d n) (ownerOf d n)) (nth d n)
+unfoldable pub holdsBySlots : Background → List Slot → List Entry → ℕ → Bool
+holdsBySlots b ss d n = holdsInState b ss (stateOf ss d (ownerOf d n) (ownerOf d n)) (nth d n)
 
 -- ---- the tables
 
@@ -87,7 +91,7 @@ pub record Stated (d : List ℕ) (t next head : List ℕ) (used n : ℕ) (states
   pub right : (ss : List Slot) → Indexed ss t next head used → (o : ℕ) → o ≤ n → (o ≢ 0 → nth (entriesOf d) o .kind ≡ 5) → getD states o 0 ≡ stateOf ss (entriesOf d) o o
 
 -- what a search of `count` entries after the first n answers: the first that fails or 0, and where it is 0 the table of states has theirs
-pub record Searched (d : List ℕ) (t next head : List ℕ) (used n count : ℕ) (states : List ℕ) (r : ℕ) : Type 0 where
+pub record Searched (b : Background) (d : List ℕ) (t next head : List ℕ) (used n count : ℕ) (states : List ℕ) (r : ℕ) : Type 0 where
   pub low : r ≤ n + count
   pub stated : r ≡ 0 → Stated d t next head used (n + count) states
-  pub first : (ss : List Slot) → Indexed ss t next head used → r ≡ firstFrom (holdsBySlots ss (entriesOf d)) (n + 1) count
+  pub first : (ss : List Slot) → Indexed ss t next head used → r ≡ firstFrom (holdsBySlots b ss (entriesOf d)) (n + 1) count

@@ -12,10 +12,12 @@ use Rattle.base.specs.Chain.{Chains}
 use Rattle.blocks.specs.Entries.{Bounded, entriesOf, nth}
 use Rattle.blocks.specs.code.Blockwise.{Whole}
 use Rattle.blocks.specs.declared.Entry.{Entry}
+use Rattle.logic.specs.Background.{Background}
 use Rattle.logic.specs.Normal.{found}
 use Rattle.meaning.specs.Description.{rowOf}
 use Rattle.meaning.specs.Owned.{Owned}
 use Rattle.passes.specs.code.Keys.{keyNumber}
+use Rattle.passes.specs.code.Restrict.{slotsUnder}
 use Rattle.passes.specs.code.Slots.{Slot, broken, build, inconsistent, nonempty, position, settled, slot, slots, tighten}
 
 -- the number that stands for no upper bound: no bound of an entry is as large
@@ -140,28 +142,49 @@ pub record Nodes (node : List ℕ) (used : ℕ) : Type 0 where
   pub top : getD node 0 0 ≡ 0
   pub small : (j : ℕ) → getD node j 0 ≤ used
 
--- the slots of a description
-abbrev pub slotsOf : List ℕ → List Slot
-slotsOf d = slots (map rowOf (entriesOf d))
+-- the slots of a description, as they are built, and under a background
+abbrev pub builtSlots : List ℕ → List Slot
+builtSlots d = slots (map rowOf (entriesOf d))
+
+abbrev pub slotsOf : Background → List ℕ → List Slot
+slotsOf b d = slotsUnder b (map rowOf (entriesOf d))
 
 -- the first n entries are entered, and the slots so far with those of the entries left are all of them; the tables have room for these
 pub record Building (d : List ℕ) (n used : ℕ) (t next head node : List ℕ) : Type 0 where
   pub few : used ≤ n
   pub kept : Kept t next head used
   pub nodes : Nodes node used
-  pub slotted : slotsOf d ≡ build (leadsTo (entriesOf d) node (suc n)) (slotsIn t used) (suc n) (drop n (map rowOf (entriesOf d)))
+  pub slotted : builtSlots d ≡ build (leadsTo (entriesOf d) node (suc n)) (slotsIn t used) (suc n) (drop n (map rowOf (entriesOf d)))
   pub bounded : (j : ℕ) → 1 ≤ j → j ≤ n → Bounded (nth (entriesOf d) j)
   pub room : length (entriesOf d) < length t
   pub nexts : length (entriesOf d) < length next
   pub places : length (entriesOf d) < length node
 
--- they stand in the table, which was `origin` before
-pub record Built (d : List ℕ) (used : ℕ) (origin t next head : List ℕ) : Type 0 where
-  pub slotted : slotsOf d ≡ slotsIn t used
+-- the slots ss, made of d, stand in the table, which was `origin` before
+pub record Built (ss : List Slot) (d : List ℕ) (used : ℕ) (origin t next head : List ℕ) : Type 0 where
+  pub slotted : ss ≡ slotsIn t used
   pub exact : Exact origin t used
   pub kept : Kept t next head used
   pub few : used ≤ length (entriesOf d)
   pub bounded : (n : ℕ) → 1 ≤ n → n ≤ length (entriesOf d) → Bounded (nth (entriesOf d) n)
+
+-- ---- the pass between the first and the second, under the rule that every record keeps
+
+-- the upper bound of a link that leads to one item: nothing meets it where more are asked for, and none where one or more are allowed
+unfoldable pub singleHigh : ℕ → ℕ → ℕ
+singleHigh lo hi = cond (ltb 1 lo || eqb hi 0) 0 noBound
+
+-- a slot under the rule: those of links from 32,768 up change
+unfoldable pub restrictedWord : ℕ → ℕ
+restrictedWord x =
+    cond (ltb (keyIn x % 131072) 98304) x (slotNumber (keyIn x) (lowPart x) (singleHigh (lowPart x) (highPart x)))
+
+-- the slots up to slot s are under the rule; `origin` is the table before the pass
+pub record Restricted (origin : List ℕ) (s : ℕ) (t : List ℕ) : Type 0 where
+  pub size : length t ≡ length origin
+  pub under : (j : ℕ) → 1 ≤ j → j ≤ s → getD t j 0 ≡ restrictedWord (getD origin j 0)
+  pub top : getD t 0 0 ≡ getD origin 0 0
+  pub rest : (j : ℕ) → s < j → getD t j 0 ≡ getD origin j 0
 
 -- ---- the second pass
 
@@ -193,24 +216,24 @@ pub record Slotted (t bad full : List ℕ) (s : ℕ) (t′ bad′ full′ : List
 
 -- ---- what callers build on
 
--- the slots of a description stand in the table, settled, each at a place of a lower number and with a key of its own
-pub record Tabled (d : List ℕ) (used : ℕ) (t : List ℕ) : Type 0 where
+-- the slots of a description under a background stand in the table, settled, each at a place of a lower number and with a key of its own
+pub record Tabled (b : Background) (d : List ℕ) (used : ℕ) (t : List ℕ) : Type 0 where
   pub few : used ≤ 1008
   pub room : used < length t
-  pub counted : used ≡ length (slotsOf d)
-  pub slotted : slotsFrom t 1 used ≡ settled 1 (slotsOf d)
+  pub counted : used ≡ length (slotsOf b d)
+  pub slotted : slotsFrom t 1 used ≡ settled 1 (slotsOf b d)
   pub apart : (i j : ℕ) → 1 ≤ i → i < j → j ≤ used → eqb (keyIn (getD t i 0)) (keyIn (getD t j 0)) ≡ false
   pub lower : (j : ℕ) → 1 ≤ j → j ≤ used → keyIn (getD t j 0) / 131072 < j
   pub bounded : (n : ℕ) → 1 ≤ n → n ≤ length (entriesOf d) → Bounded (nth (entriesOf d) n)
 
 -- and `bad` and `full` are what they say of each place
-pub record Settled (d : List ℕ) (used : ℕ) (t bad full : List ℕ) : Type 0 where
-  pub tabled : Tabled d used t
-  pub bads : (v : ℕ) → getD bad v 0 ≡ bit (inconsistent 1 (slotsOf d) v)
-  pub fulls : (v : ℕ) → getD full v 0 ≡ bit (nonempty 1 (settled 1 (slotsOf d)) v)
+pub record Settled (b : Background) (d : List ℕ) (used : ℕ) (t bad full : List ℕ) : Type 0 where
+  pub tabled : Tabled b d used t
+  pub bads : (v : ℕ) → getD bad v 0 ≡ bit (inconsistent 1 (slotsOf b d) v)
+  pub fulls : (v : ℕ) → getD full v 0 ≡ bit (nonempty 1 (settled 1 (slotsOf b d)) v)
 
 -- the same, with the chains that find them, in a table that was `origin` before
-pub record Chained (d : List ℕ) (used : ℕ) (origin t next head bad full : List ℕ) : Type 0 where
-  pub settled′ : Settled d used t bad full
+pub record Chained (b : Background) (d : List ℕ) (used : ℕ) (origin t next head bad full : List ℕ) : Type 0 where
+  pub settled′ : Settled b d used t bad full
   pub exact : Exact origin t used
   pub kept : Kept t next head used

@@ -1,7 +1,8 @@
 //! The comparison.
 
-use super::entry::Entry;
+use super::entry::{Entry, AT_MOST};
 use super::read::{entry_at, read, DESCRIPTION};
+use super::single::FIRST_SINGLE;
 use super::slots::{bounds, Key, Slots};
 use super::specimen;
 use super::{size, Refusal, Size, TOO_SHORT};
@@ -80,7 +81,13 @@ fn look<const N: usize>(slots: &Slots<N>, state: u16, entry: Entry) -> (bool, u1
         (_, 0) => PASSED,
         _ => found as u16,
     };
-    ((slot.least >= least) & (slot.most <= most), below)
+    let holds = (slot.least >= least) & (slot.most <= most);
+    (holds || is_always_met(entry), below)
+}
+
+/// Whether an entry is at most 1 or more of a link that leads to one item only.
+fn is_always_met(entry: Entry) -> bool {
+    entry.kind() == AT_MOST && entry.name() >= FIRST_SINGLE && entry.number() > 0
 }
 
 /// The links from the top to the place where an entry stands.

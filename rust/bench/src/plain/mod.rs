@@ -10,6 +10,7 @@ mod order;
 mod queue;
 mod read;
 mod rows;
+mod single;
 mod slots;
 mod specimen;
 
@@ -24,7 +25,7 @@ const BLOCK: usize = 512;
 /// What a refused call answers.
 #[derive(Clone, Copy, Debug, PartialEq, Eq)]
 pub struct Refusal {
-    /// The number in the table of refusals, 1 to 7.
+    /// The number in the table of refusals, 1 to 7 or 9.
     pub number: u8,
     /// The input, 1 or 2; 0 for number 7.
     pub input: u16,

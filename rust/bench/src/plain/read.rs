@@ -1,6 +1,7 @@
 //! Reading: one pass over the bytes for checks and frames, one over the entries.
 
 use super::entry::{Entry, AT_LEAST, AT_MOST, EVERY, GROUP, HAS, LACKS, NOTHING};
+use super::single::{is_single_group, Led};
 use super::{size, Refusal, Size, BLOCK};
 
 type Block = [u8; BLOCK];
@@ -130,6 +131,8 @@ fn check_entries<const N: usize>(
     // For each entry the depth of what it owns. Entries not yet come to cannot own.
     let mut levels = [NEVER; N];
     levels[0] = 0;
+    // Made with the first group by a link that leads to one item only, so that other inputs don't pay for clearing it.
+    let mut led: Option<Led<N>> = None;
     let mut number = 0;
     for block in blocks {
         let entries = block[4..508].as_chunks::<8>().0;
@@ -139,6 +142,10 @@ fn check_entries<const N: usize>(
             let level = levels.get(entry.owner()).copied().unwrap_or(NEVER);
             if !entry.form_is_right(rules.kinds) | (level > DEEPEST) {
                 return Err((fault(entry, rules, level), number));
+            }
+            let looked_at = rules.owner_kind == GROUP && is_single_group(entry);
+            if looked_at && led.get_or_insert_with(Led::new).is_second(entry) {
+                return Err((9, number));
             }
             let owns = entry.kind() == rules.owner_kind;
             levels[number] = if owns { level + 1 } else { NEVER };

@@ -1,9 +1,11 @@
 //! What a description says, by place, class and name.
 //!
 //! A slot holds what one place says of one property or one link: at least and at most how many. Has is at least 1, lacks is at
-//! most 0. The place below a link has the number of the link's slot; the top place is 0.
+//! most 0. The place below a link has the number of the link's slot; the top place is 0. At most 1 or more of a link that leads to
+//! one item only says nothing: once settled it is no bound.
 
 use super::entry::{Entry, AT_LEAST, AT_MOST, HAS, LACKS, NOTHING};
+use super::single::FIRST_SINGLE;
 
 /// No bound from above: more than any number of items.
 pub const NO_BOUND: u32 = u32::MAX;
@@ -45,6 +47,13 @@ impl Key {
     #[inline]
     pub fn name(self) -> u16 {
         self.0 as u16
+    }
+
+    /// The most items that there can be: one by a link that leads to one item only.
+    #[inline]
+    fn cap(self) -> u32 {
+        let single = 1 << 16 | u32::from(FIRST_SINGLE);
+        1 | all_if(self.0 & single != single)
     }
 }
 
@@ -146,7 +155,8 @@ impl<const N: usize> Slots<N> {
         held.most = held.most.min(most);
     }
 
-    /// From the last slot to the first: a link to a place that nothing fits gets at most 0, and places are marked.
+    /// From the last slot to the first: a link to a place that nothing fits gets at most 0, and places are marked. Nothing fits
+    /// a place that asks for more items than there can be.
     pub fn settle(&mut self) {
         for number in (1..=self.used).rev() {
             let below = self.marks[number];
@@ -154,7 +164,9 @@ impl<const N: usize> Slots<N> {
             if below & BROKEN != 0 {
                 slot.most = 0;
             }
-            let broken = u8::from(slot.least > slot.most) * BROKEN;
+            let cap = slot.key.cap();
+            let broken = u8::from(slot.least > slot.most.min(cap)) * BROKEN;
+            slot.most |= all_if(slot.most >= cap);
             let says = u8::from((slot.least > 0) | (slot.most < NO_BOUND)) * SAYS;
             self.marks[slot.key.place()] |= broken | says | below & SAYS;
         }

@@ -11,6 +11,8 @@
 //! | several entries of one place | `ObjectIntersectionOf(..)` |
 //! | a place without entries | `owl:Thing` |
 //!
+//! Links from 32,768 up lead to one item only: the axiom `FunctionalObjectProperty(:link_32768)` says so to a reasoner.
+//!
 //! OWL speaks of all records and the paper of finite ones; for this fragment the answers are the same, since the specimen of a no
 //! is finite.
 

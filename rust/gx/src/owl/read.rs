@@ -23,8 +23,8 @@ pub struct Found {
 const DEEPEST: usize = 200;
 const A_CLASS: &str = "a class, ObjectComplementOf a class, ObjectIntersectionOf, ObjectAllValuesFrom, ObjectMinCardinality, \
 ObjectMaxCardinality, ObjectExactCardinality, or ObjectSomeValuesFrom owl:Thing";
-const AN_AXIOM: &str =
-    "a Declaration, an annotation, or EquivalentClasses of a class and an expression";
+const AN_AXIOM: &str = "a Declaration, an annotation, FunctionalObjectProperty, or EquivalentClasses of a class and an expression";
+const A_FUNCTION: &str = "link_32768 to link_65535, which lead to one item only: of other links there may be several items";
 
 /// Reads a class expression, or the one that defines a class in an ontology.
 ///
@@ -38,6 +38,7 @@ pub fn read(text: &str, class: Option<&str>, names: &Names) -> Result<Found, Mis
         names,
         prefixes: BTreeMap::new(),
         labels: BTreeMap::new(),
+        functional: Vec::new(),
         defined: Vec::new(),
         entries: Vec::new(),
         positions: Vec::new(),
@@ -47,6 +48,7 @@ pub fn read(text: &str, class: Option<&str>, names: &Names) -> Result<Found, Mis
     reader.prefixes.insert(":".into(), SPACE.into());
     if reader.next_is("Prefix") || reader.next_is("Ontology") {
         reader.document()?;
+        reader.only_functions()?;
         reader.at = reader.chosen(class)?;
         reader.expression(0, 0)?;
     } else {
@@ -66,6 +68,8 @@ struct Reader<'a> {
     names: &'a Names,
     prefixes: BTreeMap<String, String>,
     labels: BTreeMap<String, String>,
+    /// Where the object properties stand of which it is said that they lead to one item only.
+    functional: Vec<usize>,
     /// The classes that are defined, and where their expressions begin.
     defined: Vec<(String, usize)>,
     entries: Vec<Entry>,
@@ -152,8 +156,27 @@ impl Reader<'_> {
             }
             "AnnotationAssertion" => self.annotation(),
             "EquivalentClasses" => self.definition(),
+            "FunctionalObjectProperty" => {
+                self.take();
+                self.functional.push(self.at + 1);
+                self.pass_over()
+            }
             _ => self.fault(AN_AXIOM),
         }
+    }
+
+    /// That a link leads to one item only is taken where it is so of that link; else the description would mean something else.
+    /// Of an object property that is no link of ours it does not matter.
+    fn only_functions(&mut self) -> Result<(), Mistake> {
+        for at in std::mem::take(&mut self.functional) {
+            self.at = at;
+            let iri = self.iri(&self.next().sign);
+            let link = iri.and_then(|iri| self.link_of(&iri));
+            if link.is_some_and(|link| !link.leads_to_one()) {
+                return self.fault(A_FUNCTION);
+            }
+        }
+        Ok(())
     }
 
     /// Passes over a pair of brackets and what is in it.
@@ -384,15 +407,19 @@ impl Reader<'_> {
         let Some(iri) = self.iri(&self.next().sign) else {
             return self.fault("an object property by its name");
         };
-        let number = numbered(&iri, "link_").map(Link);
-        let found = number.or_else(|| self.called(&iri, |names, word| names.link_called(word)));
-        let Some(link) = found else {
+        let Some(link) = self.link_of(&iri) else {
             return self.fault(format!(
                 "link_1 to link_65535 of <{SPACE}>, or a link's word in the names file"
             ));
         };
         self.take();
         Ok(link)
+    }
+
+    /// The link of an IRI, by its number or by its word.
+    fn link_of(&self, iri: &str) -> Option<Link> {
+        let number = numbered(iri, "link_").map(Link);
+        number.or_else(|| self.called(iri, |names, word| names.link_called(word)))
     }
 
     fn property(&self, iri: &str) -> Result<Property, Mistake> {

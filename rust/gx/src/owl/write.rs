@@ -33,7 +33,7 @@ pub fn question(supplier: &[Entry], service: &[Entry], names: &Names) -> String 
     out
 }
 
-/// The properties and links of both, and their words.
+/// The properties and links of both, their words, and which links lead to one item only.
 fn declared(supplier: &[Entry], service: &[Entry], names: &Names) -> String {
     let all = || supplier.iter().chain(service).map(|e| e.says());
     let properties: BTreeSet<Property> = all().filter_map(Says::property).collect();
@@ -47,6 +47,9 @@ fn declared(supplier: &[Entry], service: &[Entry], names: &Names) -> String {
     for &link in &links {
         let name = format!(":link_{}", link.0);
         out.push_str(&format!("Declaration(ObjectProperty({name}))\n"));
+        if link.leads_to_one() {
+            out.push_str(&format!("FunctionalObjectProperty({name})\n"));
+        }
         out.push_str(&labelled(&name, names.link(link)));
     }
     out

@@ -3,7 +3,7 @@
 //! ```text
 //! every link 1 "sample" [
 //!     at least 1 link 2 "core"
-//!     at most 1 link 32768 "taken from field"
+//!     at least 1 link 32768 "taken from field"
 //!     has property 7 "sealed"
 //! ]
 //! ```

@@ -4,9 +4,9 @@ use gx::blocks::encode;
 
 use crate::support::{ours, repository, Folder};
 
-const NAMES: &str = "link 1 \"sample\" \"samples\"\nlink 2 \"core\" \"cores\"\nlink 32768 \"field\" \"fields\"\nproperty 7 \"sealed\"\n";
-const SUPPLIER: &str = "at least 1 sample\nevery sample [\n    at least 1 field\n]\n";
-const SERVICE: &str = "every sample [\n    at most 1 field\n    has sealed\n]\n";
+const NAMES: &str = "link 1 \"sample\" \"samples\"\nlink 2 \"core\" \"cores\"\nlink 3 \"layer\" \"layers\"\nlink 32768 \"field\" \"fields\"\nproperty 7 \"sealed\"\n";
+const SUPPLIER: &str = "at least 1 sample\nevery sample [\n    at least 1 layer\n]\n";
+const SERVICE: &str = "every sample [\n    at most 1 layer\n    has sealed\n]\n";
 
 fn blocks(desk: &str) -> Vec<u8> {
     encode(&ours(&reference::notation::entries(desk)))
@@ -28,19 +28,19 @@ fn compare_explains_a_no() {
 not contained
 
 Entry 2 of the service's description (line 2) fails:
-    of every sample, at most 1 field
+    of every sample, at most 1 layer
 The supplier's description says there:
-    of every sample, at least 1 field, and no at most - its entry 3 (line 3)
+    of every sample, at least 1 layer, and no at most - its entry 3 (line 3)
 
 The entry in the service's description:
     1  every link 1 \"sample\"
-  > 2      at most 1 link 32768 \"field\"
+  > 2      at most 1 link 3 \"layer\"
     3      has property 7 \"sealed\"
 
 A specimen that fits the supplier's description and not the service's:
     the top item has
         1 sample, which has
-            2 fields    <-- 2 fields, not at most 1
+            2 layers    <-- 2 layers, not at most 1
 ";
     assert_eq!(
         (ran.status, ran.text().as_str(), ran.err.as_str()),
@@ -55,10 +55,10 @@ fn compare_for_programs() {
         "compare", "supplier", "service", "--names", "names", "--json",
     ]);
     let due = "{\"answer\":\"not contained\",\"entry\":2,\"line\":2,\"owners\":[1],\"links\":[1],\
-        \"asks\":\"of every sample, at most 1 field\",\"supplier\":\"of every sample, at least 1 field, and no at most\",\
-        \"supplier_entries\":[3],\"shows\":\"2 fields, not at most 1\",\"specimen_entries\":2,\
+        \"asks\":\"of every sample, at most 1 layer\",\"supplier\":\"of every sample, at least 1 layer, and no at most\",\
+        \"supplier_entries\":[3],\"shows\":\"2 layers, not at most 1\",\"specimen_entries\":2,\
         \"specimen\":[{\"entry\":1,\"kind\":7,\"owner\":0,\"link\":1,\"word\":\"sample\",\"count\":1},\
-        {\"entry\":2,\"kind\":7,\"owner\":1,\"link\":32768,\"word\":\"field\",\"count\":2}]}\n";
+        {\"entry\":2,\"kind\":7,\"owner\":1,\"link\":3,\"word\":\"layer\",\"count\":2}]}\n";
     assert_eq!((ran.status, ran.text().as_str()), (1, due));
 }
 
@@ -122,10 +122,39 @@ const SENTENCES: &[(&str, &str, &str, &str, &str)] = &[
     ),
     (
         "description",
-        "at most 65535 link 3",
-        "at most 65,535 items by link 3",
-        "nothing about items by link 3",
-        "65,536 items by link 3, not at most 65,535",
+        "at most 65535 link 4",
+        "at most 65,535 items by link 4",
+        "nothing about items by link 4",
+        "65,536 items by link 4, not at most 65,535",
+    ),
+    // Links that lead to one item only.
+    (
+        "at least 1 field",
+        "at least 2 field",
+        "of the top item, at least 2 fields",
+        "at least 1 field; at least 2 is impossible, since link 32768 leads to one item only",
+        "1 field, not at least 2",
+    ),
+    (
+        "at most 3 field",
+        "at most 0 field",
+        "of the top item, at most 0 fields",
+        "nothing about fields; its at most says nothing, since link 32768 leads to one item only",
+        "1 field, not at most 0",
+    ),
+    (
+        "has property 9; at least 1 field; at most 1 field",
+        "at most 1 field; at most 0 field",
+        "of the top item, at most 0 fields",
+        "at least 1 field, and no at most; its at most says nothing, since link 32768 leads to one item only",
+        "1 field, not at most 0",
+    ),
+    (
+        "at least 1 field",
+        "at most 0 field",
+        "of the top item, at most 0 fields",
+        "of the top item, at least 1 field, and no at most\"",
+        "1 field, not at most 0",
     ),
 ];
 
@@ -160,15 +189,44 @@ fn compare_says_yes() {
 }
 
 #[test]
+fn links_that_lead_to_one_item_only() {
+    let folder = desk("single");
+    folder
+        .put("met", "every sample [ at most 1 field; at most 7 field ]")
+        .put("impossible", "at least 2 field")
+        .put("below", "every sample [ at least 2 field ]; has sealed")
+        .put("nothing", "nothing fits");
+    for (c, d) in [
+        ("supplier", "met"),
+        ("impossible", "nothing"),
+        ("met", "met"),
+    ] {
+        let ran = folder.gx(&["compare", c, d, "--names", "names"]);
+        assert_eq!(ran.status, 0, "{c} {d}: {}", ran.text());
+    }
+    for (d, normal) in [
+        ("met", "description\n"),
+        ("impossible", "nothing fits\n"),
+        (
+            "below",
+            "has property 7 \"sealed\"\nat most 0 link 1 \"sample\"\n",
+        ),
+    ] {
+        let ran = folder.gx(&["normal", d, "--names", "names"]);
+        assert_eq!((ran.status, ran.text().as_str()), (0, normal));
+    }
+}
+
+#[test]
 fn fit_answers() {
     let folder = desk("fit");
     folder.put(
         "good",
-        "specimen\ngroup of 1 sample [ has sealed; group of 1 field ]",
+        "specimen\ngroup of 1 sample [ has sealed; group of 1 layer; group of 1 field ]",
     );
     folder.put(
         "bad",
-        "group of 1 sample [ has sealed; group of 1 field; group of 1 field ]",
+        "group of 1 sample [ has sealed; group of 1 layer; group of 1 layer ]",
     );
     let ran = folder.gx(&["fit", "good", "service", "--names", "names"]);
     assert_eq!(
@@ -179,7 +237,7 @@ fn fit_answers() {
         )
     );
     let ran = folder.gx(&["fit", "bad", "service", "--names", "names"]);
-    let due = "no: the specimen does not meet entry 2 of the description: of every sample, at most 1 field\n";
+    let due = "no: the specimen does not meet entry 2 of the description: of every sample, at most 1 layer\n";
     assert_eq!((ran.status, ran.text().as_str()), (1, due));
     let ran = folder.gx(&["fit", "service", "good", "--names", "names"]);
     assert_eq!(ran.status, 2);
@@ -229,7 +287,7 @@ fn the_shipped_examples_work() {
     );
     let ran = folder.gx(&["compare", &c, &d, "--names", &names]);
     assert_eq!(ran.status, 1);
-    assert!(ran.text().contains("of every sample, at most 1 field"));
+    assert!(ran.text().contains("of every sample, at most 2 cores"));
     let ran = folder.gx(&["show", &path("examples/supplier.blocks"), "--to", "desk"]);
     assert_eq!(ran.text(), "5,1 [3,2,1; 4,2,1]\n");
 }
@@ -328,6 +386,44 @@ fn check_tells_refusals_of_entries_in_words() {
     ] {
         are_refused(&folder, &bytes, words);
     }
+}
+
+#[test]
+fn check_tells_second_items_in_words() {
+    let folder = Folder::new("refused-items");
+    for (specimen, words) in [
+        (
+            "7,1; 7,32768,1",
+            "refused 9: entry 2: it is a group of 2 items by link 32768, which leads to one item only",
+        ),
+        (
+            "7,65535,65535",
+            "refused 9: entry 1: it is a group of 65,536 items by link 65535, which leads to one item only",
+        ),
+        (
+            "1,7; 7,32768; 7,32769; 7,32768",
+            "refused 9: entry 4: it brings the top item a second item by link 32768, which leads to one item only; entry 2 is the first",
+        ),
+        (
+            "7,40000; 7,1,3 [7,40000 [1,7]; 7,40000]",
+            "refused 9: entry 5: it brings its owner, entry 2, a second item by link 40000, which leads to one item only; entry 3 is the first",
+        ),
+    ] {
+        are_refused(&folder, &blocks(specimen), words);
+    }
+    folder.put("s", "group of 1 link 32768\ngroup of 1 link 32768\n");
+    let ran = folder.put("d", "1,7").gx(&["fit", "s", "d"]);
+    let due = "s: refused 9: entry 2: it brings the top item a second item by link 32768, which leads to one item only; entry 1 is the first (line 2)
+
+  entry 1, at the top: group of 1 link 32768
+> entry 2, at the top: group of 1 link 32768
+
+  entry 2 is in block 1, bytes 12 to 19: 07 00 00 00 00 80 00 00
+";
+    assert_eq!((ran.status, ran.text().as_str()), (2, due));
+    let ran = folder.gx(&["fit", "s", "d", "--json"]);
+    let begin = "{\"answer\":\"refused\",\"refusal\":9,\"input\":1,\"place\":2,\"line\":2,";
+    assert!(ran.text().starts_with(begin), "{}", ran.text());
 }
 
 #[test]
@@ -543,12 +639,9 @@ fn owl_both_ways() {
     ]);
     assert_eq!((ran.status, ran.out.len(), ran.err.as_str()), (0, 0, ""));
     let ran = folder.gx(&["from-owl", "q.ofn", "--class", "Service", "--to", "desk"]);
-    assert_eq!(
-        (ran.status, ran.text().as_str()),
-        (0, "5,1 [4,32768,1; 1,7]\n")
-    );
+    assert_eq!((ran.status, ran.text().as_str()), (0, "5,1 [4,3,1; 1,7]\n"));
     let ran = folder.gx(&["from-owl", "q.ofn", "--class", "Supplier"]);
-    let due = "at least 1 link 1 \"sample\"\nevery link 1 \"sample\" [\n    at least 1 link 32768 \"field\"\n]\n";
+    let due = "at least 1 link 1 \"sample\"\nevery link 1 \"sample\" [\n    at least 1 link 3 \"layer\"\n]\n";
     assert_eq!((ran.status, ran.text().as_str()), (0, due));
     let ran = folder.gx(&["from-owl", "q.ofn", "--class", "SupplierOnly"]);
     assert_eq!((ran.status, ran.out.len()), (2, 0));

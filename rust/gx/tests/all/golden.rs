@@ -5,7 +5,7 @@ use std::path::Path;
 
 use crate::support::{repository, Folder};
 
-const NAMES: &str = "link 1 \"sample\" \"samples\"\nlink 2 \"core\" \"cores\"\nproperty 7 \"sealed\"\nproperty 8 \"<wet & 'cold'>\"\n";
+const NAMES: &str = "link 1 \"sample\" \"samples\"\nlink 2 \"core\" \"cores\"\nlink 32768 \"field\" \"fields\"\nproperty 7 \"sealed\"\nproperty 8 \"<wet & 'cold'>\"\n";
 
 fn is_golden(name: &str, bytes: &[u8]) {
     let path = Path::new(env!("CARGO_MANIFEST_DIR"))
@@ -98,6 +98,15 @@ fn an_item_too_few() {
         "at-least",
         "at least 1 sample; at most 5 sample",
         "at least 65535 sample",
+    );
+}
+
+#[test]
+fn more_than_a_link_leads_to() {
+    both(
+        "one-item",
+        "at least 2 sample; every sample [at least 1 field; at most 3 field]",
+        "every sample [at most 1 field; at least 2 field]",
     );
 }
 

@@ -146,11 +146,18 @@ const OTHERS: &[(&str, usize, usize, &str, &str)] = &[
         "'SubClassOf'",
     ),
     (
-        "Ontology(FunctionalObjectProperty(:link_1))",
+        "Ontology(FunctionalObjectProperty(:link_32767) EquivalentClasses(:A :property_1))",
+        1,
+        35,
+        "link_32768 to link_65535",
+        "':link_32767'",
+    ),
+    (
+        "Ontology(InverseFunctionalObjectProperty(:link_32768))",
         1,
         10,
         "EquivalentClasses",
-        "'FunctionalObjectProperty'",
+        "'InverseFunctionalObjectProperty'",
     ),
     ("Ontology()", 1, 11, "defines a class", "the end"),
     (
@@ -198,6 +205,62 @@ fn other_constructs_are_named() {
             mistake.expected.contains(expected) && mistake.found.contains(found),
             "{told}"
         );
+    }
+}
+
+/// Each link from 32,768 up is functional, and no other.
+#[test]
+fn links_that_lead_to_one_item_only_are_functional() {
+    let description = |desk| parse(desk, &Names::default()).unwrap().entries;
+    let (c, d) = (
+        description("5,32767 [3,32768,1]; 4,65535,0; 1,40000"),
+        description("5,32768 [3,32768,2; 2,50000]"),
+    );
+    let names = Names::read("link 32768 \"field\" \"fields\"").unwrap();
+    let text = question(&c, &d, &names);
+    let functional: Vec<&str> = text
+        .lines()
+        .filter(|line| line.starts_with("Functional"))
+        .collect();
+    let due = [
+        "FunctionalObjectProperty(:link_32768)",
+        "FunctionalObjectProperty(:link_65535)",
+    ];
+    assert_eq!(functional, due);
+    for (class, entries) in [("Supplier", c), ("Service", d)] {
+        let found = read(&text, Some(class), &Names::default()).unwrap();
+        assert_eq!(found.entries, entries);
+    }
+}
+
+/// That a link leads to one item only is passed over where it is so, wherever it stands, and of what is no link of ours.
+#[test]
+fn functional_links_are_read_harmlessly() {
+    let names = Names::read("link 40000 \"taken from\"\nlink 9 \"sample\"").unwrap();
+    let ontology = |axiom: &str| {
+        format!(
+            "Prefix(s:=<http://ex.test/>)\nOntology({axiom} EquivalentClasses(s:a ObjectMinCardinality(1 s:x)) \
+             AnnotationAssertion(rdfs:label s:x \"taken from\") AnnotationAssertion(rdfs:label s:y \"sample\"))"
+        )
+    };
+    let due = parse("3,40000,1", &Names::default()).unwrap().entries;
+    for axiom in [
+        "",
+        "FunctionalObjectProperty(s:x)",
+        "FunctionalObjectProperty( :link_65535 )",
+        "FunctionalObjectProperty(s:other)",
+        "FunctionalObjectProperty(ObjectInverseOf(s:other))",
+    ] {
+        let found = read(&ontology(axiom), None, &names).unwrap();
+        assert_eq!(found.entries, due, "{axiom}");
+    }
+    // Of a link that may lead to several it would say something else, by its number or by its word.
+    for axiom in [
+        "FunctionalObjectProperty(:link_9)",
+        "FunctionalObjectProperty(s:y)",
+    ] {
+        let mistake = read(&ontology(axiom), None, &names).unwrap_err();
+        assert!(mistake.expected.contains("one item only"), "{mistake}");
     }
 }
 

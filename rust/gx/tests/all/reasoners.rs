@@ -5,7 +5,7 @@ use std::process::{Command, Stdio};
 use std::time::{Duration, Instant};
 
 use differential::chance::Chance;
-use differential::draw::{self, Shape};
+use differential::draw::{self, Names as Drawn, Shape};
 use differential::pairs::{missed, weaker};
 use gx::blocks::encode;
 use gx::library::{compare, Compared};
@@ -30,6 +30,7 @@ fn pair(seed: u64) -> (Vec<gx::entry::Entry>, Vec<gx::entry::Entry>) {
         entries: 4 + chance.below(8),
         numbers: 3,
         conflicts: chance.one_of([0, 10, 40]),
+        names: chance.one_of([Drawn::Low, Drawn::Middle, Drawn::High]),
         ..draw::SMALL
     };
     let c = draw::description(&mut chance, &shape);
@@ -176,13 +177,29 @@ fn in_lisp(owl: &str) -> String {
         lisp = lisp.replace(functional, word);
     }
     let mut declared = String::new();
-    for number in 1..=9 {
-        if lisp.contains(&format!("link_{number}")) {
-            declared.push_str(&format!("(defprimrole link_{number})\n"));
-        }
-        if lisp.contains(&format!("property_{number}")) {
-            declared.push_str(&format!("(defprimconcept property_{number})\n"));
+    for line in owl[..from].lines() {
+        for (functional, word) in [
+            ("Declaration(ObjectProperty(:link_", "(defprimrole link_"),
+            ("Declaration(Class(:property_", "(defprimconcept property_"),
+            ("FunctionalObjectProperty(:link_", "(functional link_"),
+        ] {
+            if let Some(number) = line.strip_prefix(functional) {
+                declared.push_str(&format!("{word}{})\n", number.trim_end_matches(')')));
+            }
         }
     }
     declared + &lisp
+}
+
+#[test]
+fn the_notation_of_fact() {
+    let entries = |desk| ours(&reference::notation::entries(desk));
+    let text = question(
+        &entries("1,7; 5,32768 [4,2,0]"),
+        &entries("3,32768,2"),
+        &Names::default(),
+    );
+    let lisp = in_lisp(&text);
+    let declared = "(defprimconcept property_7)\n(defprimrole link_2)\n(defprimrole link_32768)\n(functional link_32768)\n(equal_c Supplier\n";
+    assert!(lisp.starts_with(declared), "{lisp}");
 }

@@ -48,8 +48,17 @@ impl Chance {
 pub struct Size {
     pub entries: usize,
     pub properties: usize,
+    /// The names of the links begin after this.
+    pub links_after: u16,
     pub links: usize,
     pub number: usize,
+}
+
+impl Size {
+    /// A drawn link.
+    fn link(self, chance: &mut Chance) -> u16 {
+        self.links_after + chance.name(self.links)
+    }
 }
 
 /// Draws an accepted description.
@@ -66,8 +75,8 @@ pub fn exact_description(chance: &mut Chance, size: Size, count: usize) -> Vec<E
         let (owner, depth) = owner(chance, &owners);
         let kind = chance.one_of(&[1, 1, 2, 2, 3, 3, 4, 4, 5, 5, 5]);
         let kind = if chance.once_in(25) { 6 } else { kind };
-        let link = chance.name(size.links);
-        let n = chance.below(size.number + 1) as u16;
+        let link = size.link(chance);
+        let n = bound(chance, size, kind, link);
         entries.push(match kind {
             1 | 2 => entry(kind, owner, chance.name(size.properties), 0),
             3 | 4 => entry(kind, owner, link, n),
@@ -81,6 +90,19 @@ pub fn exact_description(chance: &mut Chance, size: Size, count: usize) -> Vec<E
     entries
 }
 
+/// The number of an at least or at most. Of a link that never leads to two
+/// items few at least are above 1, so that not all descriptions become
+/// impossible.
+fn bound(chance: &mut Chance, size: Size, kind: u8, link: u16) -> u16 {
+    let seldom = 2 * size.entries;
+    let most = if kind == 3 && Link(link).is_single() && !chance.once_in(seldom) {
+        1
+    } else {
+        size.number
+    };
+    chance.below(most + 1) as u16
+}
+
 /// Draws an accepted specimen.
 pub fn specimen(chance: &mut Chance, size: Size) -> Vec<Entry> {
     let mut entries: Vec<Entry> = Vec::new();
@@ -91,13 +113,25 @@ pub fn specimen(chance: &mut Chance, size: Size) -> Vec<Entry> {
             entries.push(entry(1, owner, chance.name(size.properties), 0));
             continue;
         }
-        let stored = chance.below(size.number) as u16;
-        entries.push(entry(7, owner, chance.name(size.links), stored));
-        if depth < 32 {
+        let link = size.link(chance);
+        let group = entry(7, owner, link, chance.below(size.number) as u16);
+        entries.push(if brings_two(&entries, &group) {
+            entry(1, owner, chance.name(size.properties), 0)
+        } else {
+            group
+        });
+        if depth < 32 && entries[number - 1].kind == 7 {
             owners.push((number as u16, depth + 1));
         }
     }
     entries
+}
+
+/// Whether the group would bring its owner a second item by a link that never
+/// leads to two.
+fn brings_two(entries: &[Entry], group: &Entry) -> bool {
+    let same = |e: &Entry| (e.kind, e.owner, e.name) == (7, group.owner, group.name);
+    Link(group.name).is_single() && (group.number > 0 || entries.iter().any(same))
 }
 
 /// One of the owners so far, the last ones more often.
@@ -108,7 +142,8 @@ fn owner(chance: &mut Chance, owners: &[(u16, usize)]) -> (u16, usize) {
     owners[owners.len() - 1]
 }
 
-/// Draws a record with this number of items.
+/// Draws a record with this number of items, which keeps the rule on links
+/// that never lead to two items.
 pub fn record(chance: &mut Chance, size: Size, items: usize) -> Record {
     let mut record = Record::of_items(items);
     let thin = 1 + chance.below(4);
@@ -118,10 +153,14 @@ pub fn record(chance: &mut Chance, size: Size, items: usize) -> Record {
                 record.add_property(Property(property), item);
             }
         }
-        for link in 1..=size.links as u16 {
-            for to in 0..items {
-                if chance.once_in(thin) {
-                    record.add_link(Link(link), item, to);
+        for number in 1..=size.links as u16 {
+            let link = Link(size.links_after + number);
+            let mut left = if link.is_single() { 1 } else { items };
+            let first = chance.below(items);
+            for to in (0..items).map(|step| (first + step) % items) {
+                if left > 0 && chance.once_in(thin) {
+                    record.add_link(link, item, to);
+                    left -= 1;
                 }
             }
         }
@@ -129,15 +168,17 @@ pub fn record(chance: &mut Chance, size: Size, items: usize) -> Record {
     record
 }
 
-/// All records of this many items with properties 1 up to this and link 1.
-pub fn all_records(items: usize, properties: usize) -> Vec<Record> {
+/// All records of this many items with properties 1 up to this and this link
+/// that keep the rule on links that never lead to two items.
+pub fn all_records(items: usize, properties: usize, link: Link) -> Vec<Record> {
     let bits = items * items + items * properties;
     (0u32..1 << bits)
-        .map(|pattern| numbered_record(items, properties, pattern))
+        .map(|pattern| numbered_record(items, properties, link, pattern))
+        .filter(Record::keeps_the_rule)
         .collect()
 }
 
-fn numbered_record(items: usize, properties: usize, pattern: u32) -> Record {
+fn numbered_record(items: usize, properties: usize, link: Link, pattern: u32) -> Record {
     let mut record = Record::of_items(items);
     let mut bit = 0;
     let mut set = || {
@@ -147,7 +188,7 @@ fn numbered_record(items: usize, properties: usize, pattern: u32) -> Record {
     for item in 0..items {
         for to in 0..items {
             if set() {
-                record.add_link(Link(1), item, to);
+                record.add_link(link, item, to);
             }
         }
         for property in 1..=properties as u16 {

@@ -1,37 +1,44 @@
 //! The comparison against brute force and against the fit answer.
 
 use reference::record::{fits, specimen_record, Record};
-use reference::{encode, fit, Entry};
+use reference::{encode, fit, Entry, Link};
 
 use crate::chance::{all_records, description, exact_description, record, Chance, Size};
 use crate::notation::{compared, entry, normal, Answer};
+
+/// A link that may lead to several items, and one that never leads to two.
+const EITHER: [u16; 2] = [1, 32_768];
 
 /// What can be told apart by records with properties 1 and 2 and link 1.
 const TINY: Size = Size {
     entries: 5,
     properties: 2,
+    links_after: 0,
     links: 1,
     number: 3,
 };
 const SMALL: Size = Size {
     entries: 10,
     properties: 2,
+    links_after: 0,
     links: 2,
     number: 3,
 };
 const LARGE: Size = Size {
     entries: 120,
     properties: 4,
+    links_after: 0,
     links: 3,
     number: 5,
 };
 
-/// All records of up to 3 items with 1 or 2 properties and 1 link.
-fn every_small_record() -> Vec<Record> {
+/// All records of up to 3 items with 1 or 2 properties and this link that keep
+/// the rule.
+fn every_small_record(link: u16) -> Vec<Record> {
     let mut records = Vec::new();
     for items in 1..=3 {
         for properties in 1..=2 {
-            records.extend(all_records(items, properties));
+            records.extend(all_records(items, properties, Link(link)));
         }
     }
     records
@@ -66,6 +73,7 @@ fn check_specimen(c: &[Entry], d: &[Entry], specimen: &[Entry]) {
     }
     if pairs(specimen) < 2000 {
         let record = specimen_record(specimen);
+        assert!(record.keeps_the_rule());
         assert!(fits(&record, 0, c, 0));
         assert!(!fits(&record, 0, d, 0));
     }
@@ -91,9 +99,9 @@ fn check_first(c: &[Entry], d: &[Entry], failing: usize) {
     assert!(matches!(with, Answer::Not { entry, .. } if entry == failing));
 }
 
-/// Compares each with each and checks against the small records.
-fn against_brute_force(descriptions: &[Vec<Entry>]) -> (usize, usize) {
-    let records = every_small_record();
+/// Compares each with each and checks against the small records of this link.
+fn against_brute_force(link: u16, descriptions: &[Vec<Entry>]) -> (usize, usize) {
+    let records = every_small_record(link);
     let fitting: Vec<Vec<u64>> = descriptions
         .iter()
         .map(|entries| fitting_records(&records, entries))
@@ -118,13 +126,14 @@ fn against_brute_force(descriptions: &[Vec<Entry>]) -> (usize, usize) {
     (contained, not)
 }
 
-/// All descriptions of up to two entries with few names and numbers.
-fn every_tiny_description() -> Vec<Vec<Entry>> {
-    let mut one = vec![entry(6, 0, 0, 0), entry(5, 0, 1, 0)];
+/// All descriptions of up to two entries with this link, few properties and
+/// few numbers.
+fn every_tiny_description(link: u16) -> Vec<Vec<Entry>> {
+    let mut one = vec![entry(6, 0, 0, 0), entry(5, 0, link, 0)];
     one.extend([1, 2].map(|property| entry(1, 0, property, 0)));
     one.extend([1, 2].map(|property| entry(2, 0, property, 0)));
-    one.extend([0, 1, 2, 3].map(|n| entry(3, 0, 1, n)));
-    one.extend([0, 1, 2].map(|n| entry(4, 0, 1, n)));
+    one.extend([0, 1, 2, 3].map(|n| entry(3, 0, link, n)));
+    one.extend([0, 1, 2].map(|n| entry(4, 0, link, n)));
     let mut all = vec![vec![]];
     for &first in &one {
         all.push(vec![first]);
@@ -141,29 +150,51 @@ fn every_tiny_description() -> Vec<Vec<Entry>> {
 
 #[test]
 fn all_tiny_descriptions() {
-    let descriptions = every_tiny_description();
-    let (contained, not) = against_brute_force(&descriptions);
-    assert!(contained > 1000 && not > 1000, "{contained} {not}");
+    for link in EITHER {
+        let descriptions = every_tiny_description(link);
+        let (contained, not) = against_brute_force(link, &descriptions);
+        assert!(contained > 1000 && not > 1000, "{contained} {not}");
+    }
 }
 
 #[test]
 fn drawn_tiny_descriptions() {
-    let mut chance = Chance::from(31);
-    let descriptions: Vec<_> = (0..100).map(|_| description(&mut chance, TINY)).collect();
-    let (contained, not) = against_brute_force(&descriptions);
-    assert!(contained > 500 && not > 500, "{contained} {not}");
+    for link in EITHER {
+        let mut chance = Chance::from(31);
+        let size = Size {
+            links_after: link - 1,
+            ..TINY
+        };
+        let descriptions: Vec<_> = (0..100).map(|_| description(&mut chance, size)).collect();
+        let (contained, not) = against_brute_force(link, &descriptions);
+        assert!(contained > 500 && not > 500, "{contained} {not}");
+    }
 }
 
 #[test]
 fn drawn_descriptions_against_drawn_records() {
+    against_drawn_records(SMALL);
+}
+
+/// Links 32,767 and 32,768: of one there may be several items, of the other
+/// never two.
+#[test]
+fn drawn_descriptions_with_both_sorts_of_links() {
+    against_drawn_records(Size {
+        links_after: 32_766,
+        ..SMALL
+    });
+}
+
+fn against_drawn_records(size: Size) {
     let mut chance = Chance::from(32);
     let records: Vec<Record> = (0..3000)
         .map(|_| {
             let items = 2 + chance.below(6);
-            record(&mut chance, SMALL, items)
+            record(&mut chance, size, items)
         })
         .collect();
-    let descriptions: Vec<_> = (0..120).map(|_| description(&mut chance, SMALL)).collect();
+    let descriptions: Vec<_> = (0..120).map(|_| description(&mut chance, size)).collect();
     let fitting: Vec<Vec<u64>> = descriptions
         .iter()
         .map(|entries| fitting_records(&records, entries))
@@ -217,10 +248,19 @@ fn weakened(chance: &mut Chance, c: &[Entry]) -> Vec<Entry> {
 
 #[test]
 fn large_descriptions_by_fit() {
+    for links_after in [0, 32_766] {
+        large_by_fit(Size {
+            links_after,
+            ..LARGE
+        });
+    }
+}
+
+fn large_by_fit(size: Size) {
     let mut chance = Chance::from(33);
     let (mut contained, mut not, mut deep) = (0, 0, 0);
     for _ in 0..700 {
-        let c: Vec<Entry> = description(&mut chance, LARGE)
+        let c: Vec<Entry> = description(&mut chance, size)
             .into_iter()
             .map(|e| {
                 if e.kind == 6 {
@@ -256,6 +296,7 @@ fn the_largest_descriptions_by_fit() {
     let wide = Size {
         entries: 1008,
         properties: 60000,
+        links_after: 0,
         links: 60000,
         number: 60000,
     };
@@ -287,13 +328,19 @@ fn the_largest_descriptions_by_fit() {
 /// forms are equal; the normal form is contained both ways.
 #[test]
 fn both_ways_is_equal_normal_forms() {
+    for links_after in [0, 32_767] {
+        both_ways(Size {
+            entries: 4,
+            properties: 1,
+            links_after,
+            links: 1,
+            number: 2,
+        });
+    }
+}
+
+fn both_ways(size: Size) {
     let mut chance = Chance::from(35);
-    let size = Size {
-        entries: 4,
-        properties: 1,
-        links: 1,
-        number: 2,
-    };
     let descriptions: Vec<_> = (0..90).map(|_| description(&mut chance, size)).collect();
     let holds = |c: &[Entry], d: &[Entry]| compared(&encode(c), &encode(d)) == Answer::Contained;
     let mut equal = 0;

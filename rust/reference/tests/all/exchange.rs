@@ -13,6 +13,7 @@ use crate::notation::{entries, entry};
 const ANY: Size = Size {
     entries: 200,
     properties: 65_535,
+    links_after: 0,
     links: 65_535,
     number: 65_535,
 };
@@ -21,6 +22,7 @@ const ANY: Size = Size {
 const FEW: Size = Size {
     entries: 200,
     properties: 3,
+    links_after: 0,
     links: 3,
     number: 2,
 };

@@ -9,12 +9,14 @@ use crate::notation::{blocks, entries, entry};
 const SPECIMENS: Size = Size {
     entries: 8,
     properties: 2,
+    links_after: 0,
     links: 2,
     number: 3,
 };
 const DESCRIPTIONS: Size = Size {
     entries: 6,
     properties: 2,
+    links_after: 0,
     links: 2,
     number: 4,
 };
@@ -120,11 +122,17 @@ fn a_cycle() {
 fn fit_is_fitting_in_the_record() {
     let mut chance = Chance::from(21);
     let (mut yes, mut no) = (0, 0);
-    for _ in 0..1500 {
-        let specimen = specimen(&mut chance, SPECIMENS);
+    for round in 0..1500 {
+        let links_after = [0, 32_766][round % 2];
+        let drawn = |size| Size {
+            links_after,
+            ..size
+        };
+        let specimen = specimen(&mut chance, drawn(SPECIMENS));
         let record = specimen_record(&specimen);
+        assert!(record.keeps_the_rule());
         for _ in 0..4 {
-            let description = description(&mut chance, DESCRIPTIONS);
+            let description = description(&mut chance, drawn(DESCRIPTIONS));
             let answer = fit(&encode(&specimen), &encode(&description)).unwrap();
             assert_eq!(answer, fits(&record, 0, &description, 0));
             yes += usize::from(answer);

@@ -11,3 +11,4 @@ mod notation;
 mod program;
 mod refusals;
 mod report;
+mod single;

@@ -1,7 +1,7 @@
 //! The normal form: order, no rule left, twice is once, same meaning.
 
 use reference::record::fits;
-use reference::{encode, Entry};
+use reference::{encode, Entry, Link};
 
 use crate::chance::{description, exact_description, record, reordered, Chance, Size};
 use crate::notation::{blocks, entries, entry, normal};
@@ -9,12 +9,14 @@ use crate::notation::{blocks, entries, entry, normal};
 const SMALL: Size = Size {
     entries: 12,
     properties: 2,
+    links_after: 0,
     links: 2,
     number: 3,
 };
 const LARGE: Size = Size {
     entries: 150,
     properties: 6,
+    links_after: 0,
     links: 4,
     number: 6,
 };
@@ -42,6 +44,9 @@ fn check_normal(found: &[Entry]) {
     for (number, a) in (1u16..).zip(found) {
         assert_ne!(a.kind, 6, "rule 2 or 5");
         assert!(a.kind != 3 || a.number > 0, "rule 8");
+        let single = Link(a.name).is_single();
+        assert!(a.kind != 3 || !single || a.number < 2, "rules 3 and 5");
+        assert!(a.kind != 4 || !single || a.number < 1, "the request");
         assert!(
             a.kind != 5 || found.iter().any(|b| b.owner == number),
             "rule 9"
@@ -135,6 +140,11 @@ fn no_rule_applies_afterwards_and_twice_is_once() {
     let mut kept = 0;
     for round in 0..1500 {
         let size = if round % 5 == 0 { LARGE } else { SMALL };
+        let links_after = [0, 32_766][round % 2];
+        let size = Size {
+            links_after,
+            ..size
+        };
         let found = normal_entries(&description(&mut chance, size));
         check_normal(&found);
         assert_eq!(normal_entries(&found), found);
@@ -146,8 +156,13 @@ fn no_rule_applies_afterwards_and_twice_is_once() {
 #[test]
 fn the_order_of_the_input_does_not_matter() {
     let mut chance = Chance::from(12);
-    for _ in 0..400 {
-        let first = description(&mut chance, SMALL);
+    for round in 0..400 {
+        let links_after = [0, 32_766][round % 2];
+        let size = Size {
+            links_after,
+            ..SMALL
+        };
+        let first = description(&mut chance, size);
         let found = normal_entries(&first);
         let mut again = first.clone();
         again.extend(found.iter().filter(|e| e.kind != 5 && e.owner == 0));
@@ -164,12 +179,18 @@ fn the_order_of_the_input_does_not_matter() {
 fn the_same_items_fit() {
     let mut chance = Chance::from(13);
     let mut fitted = 0;
-    for _ in 0..300 {
-        let before = description(&mut chance, SMALL);
+    for round in 0..300 {
+        let links_after = [0, 32_766][round % 2];
+        let size = Size {
+            links_after,
+            ..SMALL
+        };
+        let before = description(&mut chance, size);
         let after = normal_entries(&before);
         for _ in 0..40 {
             let items = 1 + chance.below(5);
-            let record = record(&mut chance, SMALL, items);
+            let record = record(&mut chance, size, items);
+            assert!(record.keeps_the_rule());
             for item in 0..items {
                 let fit = fits(&record, item, &before, 0);
                 assert_eq!(fits(&record, item, &after, 0), fit);
@@ -186,12 +207,14 @@ fn the_largest_descriptions() {
     let wide = Size {
         entries: 1008,
         properties: 60000,
+        links_after: 0,
         links: 60000,
         number: 60000,
     };
     let narrow = Size {
         entries: 1008,
         properties: 500,
+        links_after: 0,
         links: 3,
         number: 60000,
     };

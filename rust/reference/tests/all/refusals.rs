@@ -10,6 +10,7 @@ use crate::notation::{blocks, entry, FILL};
 const LARGE: Size = Size {
     entries: 200,
     properties: 3,
+    links_after: 0,
     links: 3,
     number: 4,
 };
@@ -365,7 +366,8 @@ fn number_4_name_and_number() {
             Ok(1)
         );
     }
-    assert_eq!(read_specimen(&encode(&[entry(7, 0, 65535, 65535)])), Ok(1));
+    assert_eq!(read_specimen(&encode(&[entry(7, 0, 32767, 65535)])), Ok(1));
+    assert_eq!(read_specimen(&encode(&[entry(7, 0, 65535, 0)])), Ok(1));
 }
 
 #[test]

@@ -2,6 +2,7 @@
 use borrow.Author.Needs.{needs}
 use mathlib.Core.Path.{sym}
 use native.Mathlib.Omega.{arith}
+use Rattle.logic.specs.Background.{standing}
 use Rattle.normal.proofs.AnswerLaws.{input-refused, refused-output}
 use Rattle.normal.proofs.RoomLaws.{roomy-again, roomy-refused}
 use Rattle.normal.proofs.output.normalise_in.Statement.{statement}
@@ -18,8 +19,8 @@ write-normal-requires c κs =
 returns : tie.Need-returns
 returns c =
     let a = c .before .before .before .before .before .before .before .before .before .before .before .before .before .before .before .before .before .before .before .before .before .before .before .args in
-    let e = input-refused (a .d .now) (a .out .now) (roomy-refused (c .before .before .before .before .before .before .before .before .before .before .before .before .before .before .before .before .before .before .before .before .before .before .before .pre) (c .before .before .before .before .before .before .before .before .before .fill .ensures .0) (c .before .slotting .given .1)) in
-    (sym e, sym (refused-output (a .d .now) (a .out .now) e))
+    let e = input-refused standing (a .d .now) (a .out .now) (roomy-refused (c .before .before .before .before .before .before .before .before .before .before .before .before .before .before .before .before .before .before .before .before .before .before .before .pre) (c .before .before .before .before .before .before .before .before .before .fill .ensures .0) (c .before .slotting .given .1)) in
+    (sym e, sym (refused-output standing (a .d .now) (a .out .now) e))
 
 pub normalise-in-spec : {M : Type 1} → statement M
 normalise-in-spec =

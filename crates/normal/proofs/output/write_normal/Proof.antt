@@ -3,6 +3,8 @@ use Prim.Native.Nat.{_+_, _-_}
 use borrow.Author.Needs.{needs}
 use mathlib.Core.Path.{_∙_, _≡_, sym}
 use native.Mathlib.Omega.{arith}
+use Rattle.logic.proofs.Records.Kept.{lawful-standing}
+use Rattle.logic.specs.Background.{standing}
 use Rattle.normal.proofs.AnswerLaws.{refused-output, too-short}
 use Rattle.normal.proofs.NormalWritten.{rows-held, rows-most, rows-written, standing-few, standing-full, standing-lent}
 use Rattle.normal.proofs.tables.PassRows.{front-runnable}
@@ -12,8 +14,8 @@ use Rattle.normal.proofs.output.write_normal.Tie as tie
 returns : tie.Need-returns
 returns c =
     let a = c .before .before .before .before .before .before .before .before .before .before .before in
-    let e = too-short (a .args .d .now) (a .args .out .now) (a .pre .0 .read) (c .if1 .taken) in
-    (sym e, sym (refused-output (a .args .d .now) (a .args .out .now) e))
+    let e = too-short standing (a .args .d .now) (a .args .out .now) (a .pre .0 .read) (c .if1 .taken) in
+    (sym e, sym (refused-output standing (a .args .d .now) (a .args .out .now) e))
 
 part-normal-rows-end : tie.Need-part-normal-rows-end
 part-normal-rows-end c = omega (arith, c .before .before .before .before .before .before .before .before .before .before .before .pre .0 .slots-settled .tabled .room)
@@ -23,20 +25,20 @@ normal-rows-requires c κs =
     let S = c .before .before .before .before .before .before .before .before .before .before .before .before .before .before .before .before .before .pre .0 in
     let R = c .before .before .before .before .before .before .before .before .before .before .before .before .before .before .before .before .before .pre .1 in
     let e : c .before .before .before .before .before .before .before .before .before .before .before .before .before .before .before .before .before .args .used + 1 - 0 ≡ c .before .before .before .before .before .before .before .before .before .before .before .before .before .before .before .before .before .args .used + 1 = omega arith in
-    rw e (front-runnable (S .slots-settled .tabled), omega (arith, R .bad-room), standing-full S R, standing-lent S R, standing-few S R)
+    rw e (front-runnable (S .slots-settled .tabled), omega (arith, R .bad-room), standing-full lawful-standing S R, standing-lent lawful-standing S R, standing-few lawful-standing S R)
 
 cast-t33 : tie.Need-cast-t33
 cast-t33 c =
     let a = c .before .before .before .before .before .before .before .before .before .before .before .before .before .before .before .before .before .before .before .before .before .before .before .before .before .before .before .before .before .before .before .before .before in
     let e : a .args .used + 1 - 0 ≡ a .args .used + 1 = omega arith in
-    omega (arith, rows-most (a .pre .0) (rw e at (c .before .before .before .before .before .before .before .before .before .before .before .before .before .before .before .normal-rows .ensures)))
+    omega (arith, rows-most lawful-standing (a .pre .0) (rw e at (c .before .before .before .before .before .before .before .before .before .before .before .before .before .before .before .normal-rows .ensures)))
 
 returns-2 : tie.Need-returns-2
 returns-2 c =
     let a = c .before .before .before .before .before .before .before .before .before .before .before .before .before .before .before .before .before .before .before .before .before .before .before .before .before .before .before .before .before .before .before .before .before in
     let e : a .args .used + 1 - 0 ≡ a .args .used + 1 = omega arith in
     let p = rw e at (c .before .before .before .before .before .before .before .before .before .before .before .before .before .before .before .normal-rows .ensures) in
-    let w = rows-written (a .pre .0) p (a .args .out .now) (rows-held (a .pre .0) p (a .pre .1)) (c .before .before .before .before .before .before .before .before .before .before .before .before .before .before .before .before .before .before .before .before .before .before .if1 .left) in
+    let w = rows-written lawful-standing (a .pre .0) p (a .args .out .now) (rows-held lawful-standing (a .pre .0) p (a .pre .1)) (c .before .before .before .before .before .before .before .before .before .before .before .before .before .before .before .before .before .before .before .before .before .before .if1 .left) in
     (sym (w .0), c .before .before .write-entries .ensures .1 ∙ w .1)
 
 pub write-normal-spec : {M : Type 1} → statement M

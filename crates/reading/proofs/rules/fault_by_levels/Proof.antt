@@ -7,16 +7,16 @@ use native.Mathlib.Omega.{arith}
 use Rattle.blocks.proofs.Refusing.Blockwise.{at-first, at-next, in-block}
 use Rattle.blocks.proofs.Refusing.LevelLaws.{entries-end, entries-later, entries-sooner, levels-start}
 use Rattle.blocks.specs.Entries.{entriesOf}
-use Rattle.blocks.specs.Faults.{entryFaults, first}
+use Rattle.blocks.specs.Faults.{first}
 use Rattle.blocks.specs.code.Blockwise.{AtBlock, nextCount}
-use Rattle.blocks.specs.code.ReadingSteps.{Levels}
+use Rattle.blocks.specs.code.ReadingSteps.{Levels, ruleFaults}
 use Rattle.reading.proofs.rules.fault_by_levels.Statement.{statement}
 use Rattle.reading.proofs.rules.fault_by_levels.Tie as tie
 
 abbrev Inv-loop : tie.InvT-loop
 Inv-loop s schema total level₀ n₀ at₀ level n at =
     AtBlock total n at × Levels schema (entriesOf s) level (n + 1) × (length level ≡ length level₀)
-    × (first (entryFaults schema (entriesOf s) 1 total) ≡ first (entryFaults schema (entriesOf s) (n + 1) (total + 1 - (n + 1))))
+    × (first (ruleFaults schema (entriesOf s) 1 total) ≡ first (ruleFaults schema (entriesOf s) (n + 1) (total + 1 - (n + 1))))
 
 abbrev μ-loop : tie.MeasureT-loop
 μ-loop s schema total level₀ n₀ at₀ level n at = total - n

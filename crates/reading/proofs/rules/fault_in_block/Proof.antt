@@ -7,15 +7,15 @@ use mathlib.Core.Path.{_∙_, _≡_, ap, refl, sym}
 use native.Mathlib.Omega.{arith}
 use Rattle.blocks.proofs.Refusing.LevelLaws.{entries-end, entries-found, entries-more, level-small, levels-more}
 use Rattle.blocks.specs.Entries.{entriesOf, nth}
-use Rattle.blocks.specs.Faults.{entryFaults, first}
-use Rattle.blocks.specs.code.ReadingSteps.{Levels}
+use Rattle.blocks.specs.Faults.{first}
+use Rattle.blocks.specs.code.ReadingSteps.{Levels, ruleFaults}
 use Rattle.reading.proofs.rules.fault_in_block.Statement.{statement}
 use Rattle.reading.proofs.rules.fault_in_block.Tie as tie
 
 abbrev Inv-loop : tie.InvT-loop
 Inv-loop s schema from count done level₀ i₀ level i =
     (i ≤ count) × Levels schema (entriesOf s) level (done + (i + 1)) × (length level ≡ length level₀)
-    × (first (entryFaults schema (entriesOf s) (done + 1) count) ≡ first (entryFaults schema (entriesOf s) (done + (i + 1)) (done + count + 1 - (done + (i + 1)))))
+    × (first (ruleFaults schema (entriesOf s) (done + 1) count) ≡ first (ruleFaults schema (entriesOf s) (done + (i + 1)) (done + count + 1 - (done + (i + 1)))))
 
 abbrev μ-loop : tie.MeasureT-loop
 μ-loop s schema from count done level₀ i₀ level i = count - i

@@ -1,6 +1,7 @@
 -- `first_failing` meets its contract: the first is refused, or accepted.
 use borrow.Author.Needs.{needs}
 use mathlib.Core.Path.{_∙_, sym}
+use Rattle.logic.specs.Background.{standing}
 use Rattle.slots.proofs.failing.JudgingLaws.{judging-first}
 use Rattle.slots.proofs.failing.first_failing.Statement.{statement}
 use Rattle.slots.proofs.failing.first_failing.Tie as tie
@@ -9,7 +10,7 @@ second-failing-requires : tie.Need-second-failing-requires
 second-failing-requires c κs = sym (c .before .before .before .before .read .ensures) ∙ c .before .before .reading2 .given .1
 
 returns : tie.Need-returns
-returns c = judging-first _ _ _ (sym (c .before .before .before .read .ensures) ∙ c .before .reading .given .1)
+returns c = judging-first standing _ _ _ (sym (c .before .before .before .read .ensures) ∙ c .before .reading .given .1)
 
 returns-2 : tie.Need-returns-2
 returns-2 c = c .before .before .second-failing .ensures

@@ -1,12 +1,13 @@
 -- `judge_read` meets its contract: too short, or judged in tables of one of the two sizes.
 use borrow.Author.Needs.{needs}
 use native.Mathlib.Omega.{arith}
+use Rattle.logic.specs.Background.{standing}
 use Rattle.slots.proofs.failing.JudgingLaws.{judging-short}
 use Rattle.slots.proofs.failing.judge_read.Statement.{statement}
 use Rattle.slots.proofs.failing.judge_read.Tie as tie
 
 returns : tie.Need-returns
-returns c = let a = c .before .before .before .before .pre in judging-short _ _ _ (a .0) (a .1) (omega (arith, c .if1 .taken))
+returns c = let a = c .before .before .before .before .pre in judging-short standing _ _ _ (a .0) (a .1) (omega (arith, c .if1 .taken))
 
 judge-few-requires : tie.Need-judge-few-requires
 judge-few-requires c κs = let a = c .before .before .before .before .before .before .before .pre in (a .0, a .1, omega (arith, c .before .before .before .if1 .left), search needs, search needs)

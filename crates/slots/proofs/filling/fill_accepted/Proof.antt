@@ -2,12 +2,13 @@
 use borrow.Author.Needs.{needs}
 use native.Mathlib.Omega.{arith}
 use Rattle.slots.proofs.FailingLaws.{accepted-few}
+use Rattle.logic.specs.Background.{standing}
 use Rattle.slots.proofs.filling.FillingLaws.{filling-accepted, filling-short}
 use Rattle.slots.proofs.filling.fill_accepted.Statement.{statement}
 use Rattle.slots.proofs.filling.fill_accepted.Tie as tie
 
 returns : tie.Need-returns
-returns c = filling-short _ (c .before .before .before .before .before .before .before .pre) _ _ _ (omega (arith, c .if1 .taken, c .before .smaller2 .ensures, c .before .before .smaller .ensures))
+returns c = filling-short standing _ (c .before .before .before .before .before .before .before .pre) _ _ _ (omega (arith, c .if1 .taken, c .before .smaller2 .ensures, c .before .before .smaller .ensures))
 
 settled-slots-requires : tie.Need-settled-slots-requires
 settled-slots-requires c κs =
@@ -27,7 +28,7 @@ returns-2 : tie.Need-returns-2
 returns-2 c =
     let a = c .before .before .before .before .before .before .before .before .before .before .before .before .before .before .before .before .before .before .before .before .before .before .before .before .before in
     let s = c .before .before .before .before .before .before .settled-slots in
-    filling-accepted (a .args .d .now) (a .pre) (a .args .table .now) (a .args .bad .now) (a .args .full .now) (omega (arith, c .before .before .before .before .before .before .before .before .before .before .before .before .before .before .before .before .before .before .if1 .left, c .before .before .before .before .before .before .before .before .before .before .before .before .before .before .before .before .before .before .before .smaller2 .ensures, c .before .before .before .before .before .before .before .before .before .before .before .before .before .before .before .before .before .before .before .before .smaller .ensures)) (s .ensures .0) (s .ensures .1)
+    filling-accepted standing (a .args .d .now) (a .pre) (a .args .table .now) (a .args .bad .now) (a .args .full .now) (omega (arith, c .before .before .before .before .before .before .before .before .before .before .before .before .before .before .before .before .before .before .if1 .left, c .before .before .before .before .before .before .before .before .before .before .before .before .before .before .before .before .before .before .before .smaller2 .ensures, c .before .before .before .before .before .before .before .before .before .before .before .before .before .before .before .before .before .before .before .before .smaller .ensures)) (s .ensures .0) (s .ensures .1)
     (omega (arith, s .kept, c .before .before .before .before .before .before .before .before .before .before .before .before .before .before .before .before .clear .kept)) (omega (arith, s .kept, c .before .before .before .before .before .before .before .before .before .before .before .before .clear2 .kept))
 
 pub fill-accepted-spec : {M : Type 1} → statement M

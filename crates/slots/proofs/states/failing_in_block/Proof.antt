@@ -5,10 +5,11 @@ use lib.ListN.{getD, length, length-set}
 use mathlib.Core.List.{List}
 use mathlib.Core.Path.{_∙_, _≡_, ap, refl, sym}
 use native.Mathlib.Omega.{arith}
+use Rattle.base.proofs.SearchLaws.{first-end, first-goes, first-stops}
 use Rattle.base.proofs.Tests.{false-of-not, true-of-not}
 use Rattle.base.specs.Search.{firstFrom}
 use Rattle.blocks.specs.Entries.{entriesOf, nth}
-use Rattle.meaning.proofs.Verdicts.FirstLaws.{first-end, first-goes, first-stops}
+use Rattle.logic.specs.Background.{standing}
 use Rattle.passes.specs.code.Slots.{Slot}
 use Rattle.slots.proofs.entries.NextEntry.{owner-before}
 use Rattle.slots.proofs.states.SlotStates.{holds-here, state-small, stated-more}
@@ -20,7 +21,7 @@ abbrev Inv-loop : tie.InvT-loop
 Inv-loop table next head used d from count done states₀ i₀ states i =
     (i ≤ count) × Stated d table next head used (done + i) states × (length states ≡ length states₀)
     × ((ss : List Slot) → Indexed ss table next head used
-    → firstFrom (holdsBySlots ss (entriesOf d)) (done + 1) count ≡ firstFrom (holdsBySlots ss (entriesOf d)) (done + i + 1) (done + count + 1 - (done + i + 1)))
+    → firstFrom (holdsBySlots standing ss (entriesOf d)) (done + 1) count ≡ firstFrom (holdsBySlots standing ss (entriesOf d)) (done + i + 1) (done + count + 1 - (done + i + 1)))
 
 abbrev μ-loop : tie.MeasureT-loop
 μ-loop table next head used d from count done states₀ i₀ states i = count - i
@@ -87,7 +88,7 @@ loop-again c =
       λ ss x.
           l .inv .3 ss x
           ∙ first-goes _ _ _ (omega (arith, b))
-          (holds-here (a .pre .2) (l .inv .1) (entry-there w) (entry-read w) (state-read (c .before .before .before)) (omega arith) ss x (c .before .before .holds .ensures ss x) ∙ true-of-not _ (c .before .if2 .left))
+          (holds-here (a .pre .2) (l .inv .1) (entry-there w) (entry-read w) (state-read (c .before .before .before)) (omega arith) standing ss x (c .before .before .holds .ensures ss x) ∙ true-of-not _ (c .before .if2 .left))
           ∙ rw e,
     )
 
@@ -113,7 +114,7 @@ returns-2 c =
       stated = λ z. absurd (omega (arith, z));
       first = λ ss x. e
           ∙ sym (l .inv .3 ss x ∙ first-stops _ _ _ (omega (arith, b))
-          (holds-here (a .pre .2) (l .inv .1) (entry-there w) (entry-read w) (state-read (c .before .before)) (omega arith) ss x (c .before .holds .ensures ss x) ∙ false-of-not _ (c .if2 .taken)));
+          (holds-here (a .pre .2) (l .inv .1) (entry-there w) (entry-read w) (state-read (c .before .before)) (omega arith) standing ss x (c .before .holds .ensures ss x) ∙ false-of-not _ (c .if2 .taken)));
     }
 
 pub failing-in-block-spec : {M : Type 1} → statement M

@@ -5,11 +5,12 @@ use lib.ListN.{length, length-set}
 use mathlib.Core.List.{List}
 use mathlib.Core.Path.{_∙_, _≡_, refl, sym}
 use native.Mathlib.Omega.{arith}
+use Rattle.base.proofs.SearchLaws.{first-end, first-later, first-sooner}
 use Rattle.base.specs.Search.{firstFrom}
 use Rattle.blocks.proofs.Refusing.Blockwise.{at-first, at-next, in-block}
 use Rattle.blocks.specs.Entries.{entriesOf}
 use Rattle.blocks.specs.code.Blockwise.{AtBlock, nextCount}
-use Rattle.meaning.proofs.Verdicts.FirstLaws.{first-end, first-later, first-sooner}
+use Rattle.logic.specs.Background.{standing}
 use Rattle.passes.specs.code.Slots.{Slot}
 use Rattle.slots.proofs.states.SlotStates.{stated-start}
 use Rattle.slots.specs.code.States.{Indexed, Stated, holdsBySlots}
@@ -20,7 +21,7 @@ abbrev Inv-loop : tie.InvT-loop
 Inv-loop table next head used d total states₀ n₀ at₀ states n at =
     AtBlock total n at × Stated d table next head used n states × (length states ≡ length states₀)
     × ((ss : List Slot) → Indexed ss table next head used
-    → firstFrom (holdsBySlots ss (entriesOf d)) 1 total ≡ firstFrom (holdsBySlots ss (entriesOf d)) (n + 1) (total + 1 - (n + 1)))
+    → firstFrom (holdsBySlots standing ss (entriesOf d)) 1 total ≡ firstFrom (holdsBySlots standing ss (entriesOf d)) (n + 1) (total + 1 - (n + 1)))
 
 abbrev μ-loop : tie.MeasureT-loop
 μ-loop table next head used d total states₀ n₀ at₀ states n at = total - n

@@ -1,7 +1,9 @@
 -- `supported` meets its contract, kind by kind.
-use native.Mathlib.Omega.{arith}
+use borrow.Author.Needs.{needs}
+use mathlib.Core.Bool.{or-false}
+use mathlib.Core.Path.{_∙_, sym}
 use Rattle.base.proofs.Tests.{ne-eqb}
-use Rattle.slots.proofs.states.BoundLaws.{high-most, high-there}
+use Rattle.slots.proofs.states.BoundLaws.{high-there}
 use Rattle.slots.specs.code.States.{supportedBy}
 use Rattle.slots.proofs.states.supported.Statement.{statement}
 use Rattle.slots.proofs.states.supported.Tie as tie
@@ -12,7 +14,7 @@ returns c = rw (supportedBy, c .match .keys1)
 
 returns-2 : tie.Need-returns-2
 unfolding supportedBy
-returns-2 c = rw (supportedBy, c .match .keys2) (high-there (c .before .args .hi))
+returns-2 c = rw (supportedBy, c .match .keys2) (high-there (c .before .args .hi) ∙ sym (or-false _))
 
 returns-3 : tie.Need-returns-3
 unfolding supportedBy
@@ -20,7 +22,7 @@ returns-3 c = rw (supportedBy, c .match .keys3)
 
 returns-4 : tie.Need-returns-4
 unfolding supportedBy
-returns-4 c = rw (supportedBy, c .match .keys4) (high-most (c .before .args .hi) (c .before .args .number) (omega arith))
+returns-4 c = rw (supportedBy, c .before .match .keys4) (c .most-holds .ensures)
 
 returns-5 : tie.Need-returns-5
 unfolding supportedBy
@@ -37,4 +39,4 @@ returns-7 c =
     rw (supportedBy, ne-eqb (z .0 .0 .0 .0 .0 .1), ne-eqb (z .0 .0 .0 .0 .1), ne-eqb (z .0 .0 .0 .1), ne-eqb (z .0 .0 .1), ne-eqb (z .0 .1))
 
 pub supported-spec : {M : Type 1} → statement M
-supported-spec = tie.close (tie.spec returns returns-2 returns-3 returns-4 returns-5 returns-6 returns-7)
+supported-spec = tie.close (tie.spec (λ c κs. search needs) returns returns-2 returns-3 returns-4 returns-5 returns-6 returns-7)
