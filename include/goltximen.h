@@ -50,9 +50,9 @@
  *
  * Stack. The most that each call took of the caller's stack, on the inputs that lead furthest down (`make stack` measures it):
  *
- *     gx_read_description    2,240 bytes
- *     gx_read_specimen       2,240 bytes
- *     gx_fit                23,400 bytes
+ *     gx_read_description    8,248 bytes
+ *     gx_read_specimen       8,296 bytes
+ *     gx_fit                24,568 bytes
  *     gx_normal             50,204 bytes
  *     gx_compare            53,356 bytes
  *
