@@ -6,6 +6,10 @@ pub mod PairsRefused
 pub mod PairsAccepted
 -- Which properties exclude each other under a list.
 pub mod Excluding
+-- The index of a list: how it is filled, and a walk along the chain of a property.
+pub mod IndexLaws
+-- A property and what stands beside it in a list: those exclude it.
+pub mod Partners
 -- The background of a list: lawful, which records keep it, and that of the empty list.
 pub mod Under
 -- Lists of pairs by examples.

@@ -1,11 +1,15 @@
-// Pairs: properties that exclude each other. A list of them is read, or refused by number 11, and a look through it says
-// whether two properties exclude each other.
+// Pairs: properties that exclude each other. A list of them is read, or refused by number 11, and indexed, so that those which exclude a
+// property are found by walking along a chain.
 //
 // The contracts cite specs/Pairs, which also defines the background that a list stands for. That an accepted list gives a lawful
 // one, and which records keep it, is proved in proofs/.
-mod exclusion;
+mod index;
 mod list;
 mod reader;
 
-pub use exclusion::excludes;
+pub use index::beside;
+pub use index::index_pairs;
+pub use index::last_naming;
+pub use index::names;
+pub use index::naming_before;
 pub use reader::read_pairs;

@@ -1,4 +1,0 @@
--- Laws of the code in src/exclusion.rt.
-
--- Laws of the look for a pair, one for each way through the code.
-pub mod ExclusionLaws
