@@ -12,10 +12,14 @@ pub mod BlockLaws
 pub mod LevelLaws
 -- Lists of lines of the table of refusals.
 pub mod RowLaws
+-- A line of the table at many places: the first that applies is that of the lowest place.
+pub mod SearchedRows
 -- Lists of entries that break none of numbers 4 to 6 of the table of refusals, nor a further line of their schema.
 pub mod Legal
 -- Groups by links that lead to one item only: which entries break number 9.
 pub mod SingleLaws
+-- The table of the entries met that count: how it grows, and a walk along a chain.
+pub mod EntryTable
 -- The table of the groups met, by which number 9 is looked for.
 pub mod SingleTable
 -- The search for number 9 begins at the first group by a link that leads to one item only.

@@ -4,5 +4,7 @@
 pub mod ReadingSteps
 -- Passes over entries that go block by block: where one stands before a block, and the entries of the block.
 pub mod Blockwise
+-- A table of the entries met that count, found by owner and name.
+pub mod EntryTable
 -- The steps of the pass that looks for number 9, as the code takes them.
 pub mod SingleSteps

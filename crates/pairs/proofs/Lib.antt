@@ -1,5 +1,3 @@
--- The first of the pairs' lines that applies is that of the lowest wrong pair.
-pub mod SearchedRows
 -- The list of pairs is refused exactly by its first fault, with number 11 and input 0, at the place that 11 gives.
 pub mod PairsRefused
 -- The list of pairs is accepted exactly where it has none of the faults of 11.

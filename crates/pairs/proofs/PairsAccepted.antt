@@ -6,24 +6,17 @@ use lib.ListN.{length}
 use mathlib.Core.Bool.{false, not, true}
 use mathlib.Core.List.{List}
 use mathlib.Core.Logic.{_↔_}
-use mathlib.Core.Path.{_≡_, ap, refl}
+use mathlib.Core.Path.{_≡_, ap}
 use native.Mathlib.Omega.{arith}
 use Rattle.base.proofs.Tests.{neither-left, neither-right, not-to-false, or-none, tests, true-of-not}
 use Rattle.blocks.proofs.Refusing.FirstFault.{clean-none, none-clean}
+use Rattle.blocks.proofs.Refusing.Readings.{accepted-finding}
 use Rattle.blocks.proofs.Refusing.RowLaws.{each-none, none-each}
 use Rattle.blocks.specs.Faults.{first}
 use Rattle.blocks.specs.Promise.{None}
-use Rattle.blocks.specs.Reading.{answer}
-use Rattle.blocks.specs.declared.Finding.the-variants.{Clean, Faulty}
-use Rattle.blocks.specs.declared.Finding.{Finding}
 use Rattle.blocks.specs.declared.Reading.the-variants.{Accepted}
 use Rattle.pairs.specs.Pairs.{listWrong, pairCount, pairFaults, pairRows, pairsReading}
 use Rattle.pairs.specs.Promise.{RightList}
-
--- the finding behind an acceptance
-accepted-finding : (i total : ℕ) (f : Finding) {n : ℕ} → answer i total f ≡ Accepted n → (n ≡ total) × (f ≡ Clean)
-accepted-finding i total Clean {n} e = let a : n ≡ total = cc in (a, refl)
-accepted-finding i total (Faulty m q) e = let z : _≡_ {A = ℕ} 0 1 = cc in absurd (omega arith)
 
 module _ (P : List ℕ) {n : ℕ} where
   pub pairs-right : pairsReading P ≡ Accepted n → RightList P n

@@ -11,7 +11,8 @@ ghost use Rattle.blocks.specs.Entries.{entriesOf, nth};
 ghost use Rattle.blocks.specs.Faults.{entryFaults, first};
 ghost use Rattle.blocks.specs.Single.{itemsUpTo, singleGroup, singleOk};
 ghost use Rattle.blocks.specs.code.Blockwise.{InBlock, Whole};
-ghost use Rattle.blocks.specs.code.SingleSteps.{Met, NoneBefore, noted, otherKind, sameGroup, singleHash, standBefore};
+ghost use Rattle.blocks.specs.code.EntryTable.{Met, entryHash, noted, ownedAs};
+ghost use Rattle.blocks.specs.code.SingleSteps.{NoneBefore, otherKind, standBefore};
 ghost use Rattle.blocks.specs.declared.Schema.{Schema};
 use crate::rules::entry_from;
 use crate::rules::first_rule_fault;
@@ -72,7 +73,7 @@ fn first_single(s: &[u8], n: usize) -> usize
 // The bucket of an entry, of `most`, by its owner and its link. Tables come in two sizes, and a division by a constant is sooner done.
 fn bucket(e: Entry, most: usize) -> usize
     requires { ⌜ 0 < most ⌝ }
-    ensures { λ r. ⌜ (r ≡ singleHash most (e .owner) (e .name)) × (r < most) ⌝ }
+    ensures { λ r. ⌜ (r ≡ entryHash most (e .owner) (e .name)) × (r < most) ⌝ }
 {
     let x = 31 * wide(e.owner) + wide(e.name);
     if most == 2017 {
@@ -86,7 +87,7 @@ fn bucket(e: Entry, most: usize) -> usize
 
 // Whether two entries have one owner and one name.
 fn same_group(e: Entry, x: Entry) -> bool
-    ensures { λ r. ⌜ r ≡ sameGroup e x ⌝ }
+    ensures { λ r. ⌜ r ≡ ownedAs (e .owner) (e .name) x ⌝ }
 {
     if e.owner == x.owner {
         e.name == x.name
@@ -113,7 +114,7 @@ fn set_link(index: &mut [u16], i: usize, x: u16)
 
 // Whether one of the first n entries is a group of the owner and the link of entry e, which is such a group.
 fn met_before(s: &[u8], index: &[u16], most: usize, n: usize, e: Entry) -> bool
-    requires { ⌜ Met (entriesOf (now s)) most (now index) n × (singleGroup e ≡ true) ⌝ }
+    requires { ⌜ Met singleGroup (entriesOf (now s)) most (now index) n × (singleGroup e ≡ true) ⌝ }
     ensures { λ r. ⌜ r ≡ ltb 0 (itemsUpTo (entriesOf (now (s .entry))) (e .owner) (e .name) n) ⌝ }
 {
     let mut k = wide(link_at(index, bucket(e, most)));
@@ -130,7 +131,7 @@ fn met_before(s: &[u8], index: &[u16], most: usize, n: usize, e: Entry) -> bool
 
 // Whether entry e, which stands after the first n, breaks number 9.
 fn brings_second(s: &[u8], index: &[u16], most: usize, n: usize, e: Entry) -> bool
-    requires { ⌜ Met (entriesOf (now s)) most (now index) n × (e ≡ nth (entriesOf (now s)) (n + 1)) ⌝ }
+    requires { ⌜ Met singleGroup (entriesOf (now s)) most (now index) n × (e ≡ nth (entriesOf (now s)) (n + 1)) ⌝ }
     ensures { λ r. ⌜ r ≡ not (singleOk (entriesOf (now (s .entry))) (n + 1)) ⌝ }
 {
     if !single_group(e) {
@@ -145,7 +146,7 @@ fn brings_second(s: &[u8], index: &[u16], most: usize, n: usize, e: Entry) -> bo
 // Puts entry n, which is e, in front of the chain of its bucket, if it is such a group.
 fn note(index: &mut [u16], most: usize, n: usize, e: Entry)
     requires { ⌜ (n < most) × (most ≤ 2017) × (length (now index) ≡ most + most) ⌝ }
-    ensures { λ _. ⌜ now (index .exit) ≡ noted most (now (index .entry)) n e ⌝ }
+    ensures { λ _. ⌜ now (index .exit) ≡ noted singleGroup most (now (index .entry)) n e ⌝ }
 {
     if single_group(e) {
         let b = bucket(e, most);
@@ -156,7 +157,7 @@ fn note(index: &mut [u16], most: usize, n: usize, e: Entry)
 
 // The lowest of the first n entries, from entry `from` on, that breaks number 9, or 0. A table holds the groups met.
 fn double_by(s: &[u8], n: usize, from: usize, index: &mut [u16], most: usize) -> usize
-    requires { ⌜ (1 ≤ from) × (from ≤ n) × (n < most) × (n ≤ length (entriesOf (now s))) × Met (entriesOf (now s)) most (now index) (from - 1) ⌝ }
+    requires { ⌜ (1 ≤ from) × (from ≤ n) × (n < most) × (n ≤ length (entriesOf (now s))) × Met singleGroup (entriesOf (now s)) most (now index) (from - 1) ⌝ }
     ensures { λ r. ⌜ r ≡ firstFrom (singleOk (entriesOf (now (s .entry)))) from (n + 1 - from) ⌝ }
 {
     let mut k = from - 1;

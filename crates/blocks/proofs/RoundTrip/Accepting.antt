@@ -17,6 +17,7 @@ use Rattle.blocks.proofs.Refusing.BlockLaws.{blocks-none, none-blocks}
 use Rattle.blocks.proofs.Refusing.Bounds.{AllBounded}
 use Rattle.blocks.proofs.Refusing.FirstFault.{clean-none, first-found, found-first, none-clean}
 use Rattle.blocks.proofs.Refusing.Legal.{legal-none, none-further, none-legal}
+use Rattle.blocks.proofs.Refusing.Readings.{accepted-finding, refused-finding}
 use Rattle.blocks.proofs.Refusing.RowLaws.{none-both, none-split}
 use Rattle.blocks.proofs.RoundTrip.Decoding.{decode-encode}
 use Rattle.blocks.proofs.RoundTrip.EncodedBlocks.{encode-sound}
@@ -30,8 +31,6 @@ use Rattle.blocks.specs.Promise.{FirstOf, Further, Legal, None}
 use Rattle.blocks.specs.Reading.{readingOf, returned}
 use Rattle.blocks.specs.Words.{wordBytes}
 use Rattle.blocks.specs.declared.Entry.{Entry}
-use Rattle.blocks.specs.declared.Finding.{Finding}
-use Rattle.blocks.specs.declared.Finding.the-variants.{Clean, Faulty}
 use Rattle.blocks.specs.declared.Reading.the-variants.{Accepted, Refused}
 use Rattle.blocks.specs.declared.Schema.{Schema}
 
@@ -44,18 +43,8 @@ module _ (σ : Schema) (i : ℕ) (s : List ℕ) where
 
   pub first-of-refused : {j k p : ℕ} → readingOf σ i s ≡ Refused k j p → (j ≡ i) × FirstOf (faults σ s) k p
   unfolding readingOf
-  first-of-refused {j} {k} {p} e = by-finding (first (faults σ s)) refl
-    where
-      by-finding : (f : Finding) → first (faults σ s) ≡ f → (j ≡ i) × FirstOf (faults σ s) k p
-      by-finding Clean q =
-          let g : Accepted (totalIn plain s) ≡ Refused k j p = rw (readingOf, q) at e in
-          let z : _≡_ {A = ℕ} 0 1 = cc in absurd (omega arith)
-      by-finding (Faulty m r) q =
-          let g : Refused m i r ≡ Refused k j p = rw (readingOf, q) at e in
-          let a : m ≡ k = cc in
-          let b : r ≡ p = cc in
-          let c : j ≡ i = cc in
-          (c, found-first (faults σ s) k p (q ∙ rw (a, b)))
+  first-of-refused {j} {k} {p} e =
+      let r = refused-finding i (totalIn plain s) (first (faults σ s)) e in (r .0, found-first (faults σ s) k p (r .1))
 
   -- ---- accepted exactly where none applies
 
@@ -65,16 +54,8 @@ module _ (σ : Schema) (i : ℕ) (s : List ℕ) where
 
   pub none-of-accepted : {n : ℕ} → readingOf σ i s ≡ Accepted n → None (faults σ s) × (n ≡ length (entriesOf s))
   unfolding readingOf
-  none-of-accepted {n} e = by-finding (first (faults σ s)) refl
-    where
-      by-finding : (f : Finding) → first (faults σ s) ≡ f → None (faults σ s) × (n ≡ length (entriesOf s))
-      by-finding Clean q =
-          let g : Accepted (totalIn plain s) ≡ Accepted n = rw (readingOf, q) at e in
-          let a : n ≡ totalIn plain s = cc in
-          (clean-none (faults σ s) q, a ∙ sym (length-entries s))
-      by-finding (Faulty m r) q =
-          let g : Refused m i r ≡ Accepted n = rw (readingOf, q) at e in
-          let z : _≡_ {A = ℕ} 0 1 = cc in absurd (omega arith)
+  none-of-accepted {n} e =
+      let r = accepted-finding i (totalIn plain s) (first (faults σ s)) e in (clean-none (faults σ s) (r .1), r .0 ∙ sym (length-entries s))
 
   -- ---- the paper's numbers for each of the two
 

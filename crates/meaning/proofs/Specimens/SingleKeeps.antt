@@ -42,10 +42,10 @@ brought-linked es o l = sum-list (itemsFor o l) es
 -- ---- each group has an item
 
 -- a list of items has one of group g
-record Found (g : ℕ) (xs : List Item) : Type 0 where
-  item : ℕ
-  inside : item < length xs
-  right : groupOf (getD xs item top) ≡ g
+pub record Found (g : ℕ) (xs : List Item) : Type 0 where
+  pub item : ℕ
+  pub inside : item < length xs
+  pub right : groupOf (getD xs item top) ≡ g
 
 found-later : {g : ℕ} (x : Item) (xs : List Item) → Found g xs → Found g (x ∷ xs)
 found-later x xs f = record { item = suc (f .item); inside = omega (arith, f .inside); right = f .right }
@@ -71,7 +71,7 @@ entry-found es zero z h q = absurd (z refl)
 entry-found es (suc i) z h q = rw one-add at (group-found 1 es i (omega arith) (eq-eqb q))
 
 -- the top is one of its own, and each owner of an entry is the top or a group
-owner-found : {es : List Entry} → Legal Specimen es → (n : ℕ) → 1 ≤ n → n ≤ length es → Found (ownerOf es n) (allItems es)
+pub owner-found : {es : List Entry} → Legal Specimen es → (n : ℕ) → 1 ≤ n → n ≤ length es → Found (ownerOf es n) (allItems es)
 unfolding nth
 owner-found {es} L n lo hi =
     eq-cases (ownerOf es n) 0

@@ -10,9 +10,9 @@ use mathlib.Core.Path.{_≡_}
 use native.Mathlib.Omega.{arith}
 use Rattle.base.proofs.Tests.{eq-eqb, ge-ltb, lt-ltb, ne-eqb}
 use Rattle.base.specs.Search.{firstFrom}
+use Rattle.blocks.proofs.Refusing.SearchedRows.{foundAt, rows-searched}
 use Rattle.blocks.specs.Faults.{first}
 use Rattle.blocks.specs.declared.Reading.the-variants.{Accepted, Refused}
-use Rattle.pairs.proofs.SearchedRows.{pairFound, rows-searched}
 use Rattle.pairs.specs.Pairs.{listWrong, oneOf, otherOf, pairCount, pairFaults, pairWrong, pairsReading}
 use Rattle.pairs.specs.code.Search.{pairRight}
 
@@ -52,9 +52,9 @@ module _ (P : List ℕ) where
       unfolding listWrong
       list-right = simp (listWrong, ← e, eq-eqb m, ge-ltb few)
 
-      first-pair : first (pairFaults P) ≡ pairFound w
+      first-pair : first (pairFaults P) ≡ foundAt 11 w
       unfolding pairFaults first
-      first-pair = simp (pairFaults, list-right, ← e, rows-searched P 1 n (omega arith), ← f)
+      first-pair = simp (pairFaults, list-right, ← e, rows-searched (pairWrong P) 11 1 n (omega arith), ← f)
 
       pub pair-refused : w ≢ 0 → Refused 11 0 w ≡ pairsReading P
       unfolding pairsReading

@@ -1,7 +1,7 @@
 -- `bucket` meets its contract, for each size of the table.
 use borrow.Author.Needs.{needs}
 use mathlib.Core.Path.{refl}
-use Rattle.blocks.proofs.Refusing.SingleTable.{hash-is}
+use Rattle.blocks.proofs.Refusing.EntryTable.{hash-is}
 use Rattle.reading.proofs.single.bucket.Statement.{statement}
 use Rattle.reading.proofs.single.bucket.Tie as tie
 

@@ -7,16 +7,16 @@ use Rattle.base.proofs.SearchLaws.{first-end, first-goes, first-stops}
 use Rattle.base.proofs.Tests.{false-of-not, true-of-not}
 use Rattle.base.specs.Search.{firstFrom}
 use Rattle.blocks.proofs.Refusing.EntryLaws.{of-front}
-use Rattle.blocks.proofs.Refusing.SingleTable.{met-more}
+use Rattle.blocks.proofs.Refusing.EntryTable.{met-more}
 use Rattle.blocks.specs.Entries.{entriesOf, nth}
-use Rattle.blocks.specs.Single.{singleOk}
-use Rattle.blocks.specs.code.SingleSteps.{Met}
+use Rattle.blocks.specs.Single.{singleGroup, singleOk}
+use Rattle.blocks.specs.code.EntryTable.{Met}
 use Rattle.reading.proofs.single.double_by.Statement.{statement}
 use Rattle.reading.proofs.single.double_by.Tie as tie
 
 abbrev Inv-loop : tie.InvT-loop
 Inv-loop s n from index₀ most k₀ index k =
-    (k ≤ n) × Met (entriesOf s) most index k
+    (k ≤ n) × Met singleGroup (entriesOf s) most index k
     × (firstFrom (singleOk (entriesOf s)) from (n + 1 - from) ≡ firstFrom (singleOk (entriesOf s)) (k + 1) (n + 1 - (k + 1)))
 
 abbrev μ-loop : tie.MeasureT-loop

@@ -12,16 +12,17 @@ use Rattle.base.specs.Chain.{OnChain}
 use Rattle.base.specs.Links.{isSingle}
 use Rattle.blocks.proofs.Refusing.EntryLaws.{of-front}
 use Rattle.blocks.proofs.Refusing.SingleLaws.{items-none}
-use Rattle.blocks.proofs.Refusing.SingleTable.{items-start, met-hit, met-miss, met-starts}
+use Rattle.blocks.proofs.Refusing.EntryTable.{met-starts}
+use Rattle.blocks.proofs.Refusing.SingleTable.{items-start, met-hit, met-miss}
 use Rattle.blocks.specs.Entries.{entriesOf, nth}
-use Rattle.blocks.specs.Single.{itemsUpTo}
-use Rattle.blocks.specs.code.SingleSteps.{sameGroup, singleBucket, singleHash}
+use Rattle.blocks.specs.Single.{itemsUpTo, singleGroup}
+use Rattle.blocks.specs.code.EntryTable.{entryBucket, entryHash, ownedAs}
 use Rattle.reading.proofs.single.met_before.Statement.{statement}
 use Rattle.reading.proofs.single.met_before.Tie as tie
 
 abbrev Inv-loop : tie.InvT-loop
 Inv-loop s index most n e k₀ k =
-    OnChain (singleBucket most (entriesOf s)) (singleHash most (e .owner) (e .name)) k n
+    OnChain (entryBucket singleGroup most (entriesOf s)) (entryHash most (e .owner) (e .name)) k n
     × (itemsUpTo (entriesOf s) (e .owner) (e .name) n ≡ itemsUpTo (entriesOf s) (e .owner) (e .name) k)
 
 abbrev μ-loop : tie.MeasureT-loop
@@ -38,7 +39,7 @@ loop-holds : tie.Need-loop-holds Inv-loop μ-loop
 loop-holds c =
     let a = c .before .before .before .before .before in
     let last = c .wide .ensures .0 ∙ c .before .link-at .ensures ∙ ap (λ (b : ℕ). getD (a .args .index .now) b 0) (c .before .before .bucket .ensures .0) in
-    (met-starts (a .pre .0) _ _ (single a) refl last, items-start (a .pre .0) _ _ (single a) refl last)
+    (met-starts (a .pre .0) _ _ refl last, items-start (a .pre .0) _ _ (single a) refl last)
 
 link-at-requires-2 : tie.Need-link-at-requires-2 Inv-loop μ-loop
 link-at-requires-2 c κs =
@@ -49,12 +50,12 @@ link-at-requires-2 c κs =
 -- the entry that is looked at
 looked : (c : tie.After-same-group Inv-loop μ-loop)
     → (let a = c .before .before .before .before .before .before .before .before .before .args in
-    c .same-group .result ≡ sameGroup (a .e) (nth (entriesOf (a .s .now)) (c .before .before .before .loop .k)))
+    c .same-group .result ≡ ownedAs (a .e .owner) (a .e .name) (nth (entriesOf (a .s .now)) (c .before .before .before .loop .k)))
 looked c =
     let l = c .before .before .before in
     let a = l .before .before .before .before .before .before in
     let is = c .before .nth-entry .ensures ∙ of-front (a .args .s .now) (a .args .n) (l .loop .k) (a .pre .0 .within) (l .loop .inv .0 .bound) in
-    c .same-group .ensures ∙ ap (sameGroup (a .args .e)) is
+    c .same-group .ensures ∙ ap (ownedAs (a .args .e .owner) (a .args .e .name)) is
 
 loop-less : tie.Need-loop-less Inv-loop μ-loop
 loop-less c =

@@ -1,7 +1,7 @@
 -- `note` meets its contract.
 use borrow.Author.Needs.{needs}
 use mathlib.Core.Path.{_∙_}
-use Rattle.blocks.specs.code.SingleSteps.{noted}
+use Rattle.blocks.specs.code.EntryTable.{noted}
 use Rattle.reading.proofs.single.note.Statement.{statement}
 use Rattle.reading.proofs.single.note.Tie as tie
 
