@@ -24,7 +24,7 @@ NEEDED = tac crates.txt | awk -F '[: ]+' '/^goltximen:/ { need[$$1] } \
 # its date is set here: now where all is proved, so that the next run answers at once; else an old one, so that it proves again.
 target/bin/goltximen: SHELL := /bin/bash
 target/bin/goltximen: crates.txt $(shell find crates -type f)
-	@echo "proving $$($(NEEDED)) crates, some 4 minutes the first time; the answer follows"
+	@echo "proving $$($(NEEDED)) crates, some 5 minutes the first time; the answer follows"
 	@mkdir -p target
 	@set -o pipefail; rt check goltximen 2>&1 | tee target/run.log | grep --line-buffered '^rt:' || \
 		{ touch -c -d @0 $@; echo "NOT PROVED. The end of target/run.log:"; tail -n 40 target/run.log; exit 1; }

@@ -14,7 +14,8 @@ pub mod ByNumber
 pub mod EmptyBlock
 -- An encoding breaks none of numbers 1 to 3 of the table of refusals.
 pub mod EncodedBlocks
--- The numbers that reading refuses with are 1 to 6, of the input that was read: 7 is left for an output that is too short.
+-- The numbers that reading refuses with are 1 to 6, and 9 for a specimen, of the input that was read: 7 is left for an output that is
+-- too short.
 pub mod RefusalNumbers
 -- Two used entries of one block of an accepted input exchanged: refused as 2, exactly when.
 pub mod Exchanging

@@ -1,4 +1,4 @@
--- Numbers of two bytes, and the sum that checks a block.
+-- Numbers of two bytes, and the two sums that check a block.
 pub mod Words
 -- The frame of a block: where its entries stand, and which numbers of the table of refusals refuse it.
 pub mod Frame

@@ -4,7 +4,7 @@ pub mod Tree
 pub mod Place
 -- Finite records, and which items fit a place: Table 1 of the report and "Records and fitting".
 pub mod Record
--- What all records that are spoken of keep: nothing so far.
+-- What all records that are spoken of keep: links from 32,768 up lead to one item at most, and what a list of exclusions adds.
 pub mod Background
 -- The normal form of a place, for the records that keep a background.
 pub mod Normal

@@ -8,6 +8,8 @@ pub mod SpecimenRecord
 pub mod SpecimenKeeps
 -- A legal specimen breaks number 9 nowhere exactly where its record keeps the standing rule.
 pub mod SingleKeeps
+-- Of bytes: an accepted specimen's record keeps the rule, and a legal one whose record keeps it is not refused as 9.
+pub mod AcceptedKeeps
 -- A comparison's specimen as entries: they are legal, their fields fit their bytes, and they are no more than those of C and D.
 pub mod SpecimenLegal
 -- The entries of a comparison's specimen ascend by owner, then kind, then name.

@@ -34,7 +34,8 @@ pub record FirstNotEntailed (b : Background) (t : Place) (d : List Entry) (n : �
   pub not-entailed : EntailsEntry b t d n → ⊥
   pub before : (j : ℕ) → 1 ≤ j → j < n → nth d j .kind ≢ 5 → EntailsEntry b t d j
 
--- a specimen, as entries, that is accepted and whose top item fits C and does not fit D
+-- a specimen, as entries, that is legal and whose top item fits C and does not fit D. That its record keeps the background, and so that
+-- it is accepted, is said apart.
 pub record Shown (c d sp : List Entry) : Type 0 where
   pub legal : Legal Specimen sp
   pub fitting : fits (recordOf sp) (placeOf c 0) 0 ≡ true

@@ -76,6 +76,23 @@ impl Model {
         }
     }
 
+    /// A model of which all links lead to one item only. At least 1 of each that is asked for; at most 0, or at most 1, which always
+    /// holds. It is no model of a specimen.
+    pub fn single(entries: usize, shape: Shape, chance: &mut Chance) -> Model {
+        let mut model = Model::new(entries, shape, chance);
+        for link in &mut model.chain {
+            *link += SINGLE;
+        }
+        for (_, kind, name, number) in &mut model.rows {
+            *name += if *kind > 2 { SINGLE } else { 0 };
+            *number = match *kind {
+                3 => 1,
+                _ => chance.below(2) as u16,
+            };
+        }
+        model
+    }
+
     /// The model as a description: has, lacks, at least and at most, behind the chain of 'every' entries.
     pub fn description(&self) -> Vec<Entry> {
         let rows = self.rows.iter().map(|&(owner, kind, name, number)| {
@@ -186,4 +203,25 @@ pub fn single_links() -> (Vec<u8>, Vec<u8>) {
     let groups: Vec<Entry> = groups.collect();
     let description: Vec<Entry> = every.chain(at_most).collect();
     (encode(&groups), encode(&description))
+}
+
+/// A specimen of 2,016 groups by links that lead to one item only, no two of one owner and link, chosen so that they all stand in one
+/// bucket of the library's table of groups met. Each owner has the first 16 such links.
+pub fn one_bucket() -> Vec<u8> {
+    let groups = (0..2016).map(|before| {
+        let owner = before / 16;
+        let first = (usize::from(SINGLE)..)
+            .find(|&link| bucket(owner, link) == 0)
+            .expect("one of any 2,017 links");
+        entry(7, owner, (first + BUCKETS * (before % 16)) as u16, 0)
+    });
+    encode(&groups.collect::<Vec<Entry>>())
+}
+
+/// The buckets of the library's table of groups met, where a specimen has more than 63 entries.
+const BUCKETS: usize = 2017;
+
+/// The bucket of an owner and a link, as in `bucket` of crates/reading/src/single.rt.
+pub fn bucket(owner: usize, link: usize) -> usize {
+    (31 * owner + link) % BUCKETS
 }

@@ -5,7 +5,9 @@
 use std::hint::black_box;
 use std::time::Instant;
 
-use bench::inputs::{entry, single_links, with_first, with_last, worst_fit, Chance, Model, Shape};
+use bench::inputs::{
+    entry, one_bucket, single_links, with_first, with_last, worst_fit, Chance, Model, Shape,
+};
 use bench::plain;
 use reference::{encode, Entry};
 
@@ -16,10 +18,19 @@ const TURNS: usize = 6;
 const ROUNDS: usize = 50;
 /// A repetition makes as many calls as take at least this long.
 const ROUND_NANOSECONDS: u128 = 20_000;
-/// A name that no model has, as a property and as a link.
+/// A property that no model has.
 const STRANGE: u16 = 65_500;
 /// A specimen whose groups are by a link that leads to one item only.
 const SINGLE_LINK: &str = "link to one item";
+
+/// A model, and what a row says of it.
+struct Timed {
+    size: usize,
+    input: String,
+    model: Model,
+    /// Whether its normal form has as many entries, so that there are rows in that order too.
+    sorted_too: bool,
+}
 
 fn main() {
     println!(
@@ -27,29 +38,53 @@ fn main() {
     );
     println!("|---|---:|---|---|---:|---:|---:|");
     let mut chance = Chance::new(0x901d);
-    let models: Vec<(usize, Shape, Model)> = SHAPES
+    let models: Vec<Timed> = SHAPES
         .iter()
         .flat_map(|&shape| SIZES.map(|size| (size, shape)))
-        .map(|(size, shape)| (size, shape, Model::new(size, shape, &mut chance)))
+        .map(|(size, shape)| Timed {
+            size,
+            input: shape_name(shape).to_string(),
+            model: Model::new(size, shape, &mut chance),
+            sorted_too: true,
+        })
         .collect();
-    for (size, shape, model) in &models {
-        compare_rows(*size, *shape, model, &mut chance);
+    // Drawn apart, so that the inputs of the other rows stay.
+    let mut apart = Chance::new(0x901e);
+    let single_models = SHAPES.map(|shape| Timed {
+        size: 1008,
+        input: format!("{}, links to one item", shape_name(shape)),
+        model: Model::single(1008, shape, &mut apart),
+        sorted_too: false,
+    });
+    for timed in &models {
+        compare_rows(timed, &mut chance);
     }
-    for (size, shape, model) in &models {
-        normal_rows(*size, *shape, model);
+    for timed in &single_models {
+        compare_rows(timed, &mut apart);
     }
-    for (size, shape, model) in &models {
-        fit_rows(*size, *shape, model, &mut chance);
+    for timed in models.iter().chain(&single_models) {
+        normal_rows(timed);
+    }
+    for timed in &models {
+        fit_rows(timed, &mut chance);
     }
     worst_fit_row();
     let (specimen, description) = single_links();
     let times = fit_times(&specimen, &description, true);
     print_row("fit", "2,016 and 65", SINGLE_LINK, "yes", times);
-    for (size, shape, model) in &models {
-        read_rows(*size, *shape, model);
+    for timed in &models {
+        read_rows(timed);
     }
     let times = read_times(product_specimen, plain_specimen, &specimen, 2016);
     print_row("read specimen", "2,016", SINGLE_LINK, "accepted", times);
+    let times = read_times(product_specimen, plain_specimen, &one_bucket(), 2016);
+    print_row(
+        "read specimen",
+        "2,016",
+        "links to one item",
+        "one bucket",
+        times,
+    );
 }
 
 /// The best times of two calls in nanoseconds; the two take turns.
@@ -98,6 +133,16 @@ fn print_row(call: &str, size: &str, input: &str, situation: &str, times: (f64, 
     );
 }
 
+impl Timed {
+    fn leaves_out(&self, situation: &str) -> bool {
+        situation.ends_with("sorted") && !self.sorted_too
+    }
+
+    fn print(&self, call: &str, situation: &str, times: (f64, f64)) {
+        print_row(call, &grouped(self.size), &self.input, situation, times);
+    }
+}
+
 /// A number with a comma before its last three digits.
 fn grouped(number: usize) -> String {
     match number {
@@ -122,7 +167,8 @@ fn sorted(entries: &[Entry]) -> Vec<u8> {
     out
 }
 
-fn compare_rows(size: usize, shape: Shape, model: &Model, chance: &mut Chance) {
+fn compare_rows(timed: &Timed, chance: &mut Chance) {
+    let model = &timed.model;
     let (c, looser) = (model.description(), model.looser(chance));
     let strange = |owner| entry(1, owner, STRANGE, 0);
     let last = with_last(strange(model.last_place()), &looser);
@@ -138,14 +184,11 @@ fn compare_rows(size: usize, shape: Shape, model: &Model, chance: &mut Chance) {
         ("failing last, sorted", sorted(&c), encode(&last)),
     ];
     for (situation, c, d) in cases {
+        if timed.leaves_out(situation) {
+            continue;
+        }
         let times = compare_times(&c, &d, situation.starts_with("contained"));
-        print_row(
-            "compare",
-            &grouped(size),
-            shape_name(shape),
-            situation,
-            times,
-        );
+        timed.print("compare", situation, times);
     }
 }
 
@@ -162,9 +205,12 @@ fn compare_times(c: &[u8], d: &[u8], contained: bool) -> (f64, f64) {
     )
 }
 
-fn normal_rows(size: usize, shape: Shape, model: &Model) {
-    let d = model.description();
+fn normal_rows(timed: &Timed) {
+    let d = timed.model.description();
     for (situation, d) in [("mixed", encode(&d)), ("sorted", sorted(&d))] {
+        if timed.leaves_out(situation) {
+            continue;
+        }
         let mut outs = (vec![0; d.len()], vec![0; d.len()]);
         goltximen::normal_form(&d, &mut outs.0).expect("accepted");
         plain::normal_form(&d, &mut outs.1).expect("accepted");
@@ -173,17 +219,12 @@ fn normal_rows(size: usize, shape: Shape, model: &Model) {
             || goltximen::normal_form(black_box(&d), black_box(&mut outs.0[..])),
             || plain::normal_form(black_box(&d), black_box(&mut outs.1[..])),
         );
-        print_row(
-            "normal form",
-            &grouped(size),
-            shape_name(shape),
-            situation,
-            times,
-        );
+        timed.print("normal form", situation, times);
     }
 }
 
-fn fit_rows(size: usize, shape: Shape, model: &Model, chance: &mut Chance) {
+fn fit_rows(timed: &Timed, chance: &mut Chance) {
+    let model = &timed.model;
     let specimen = encode(&model.specimen());
     let looser = model.looser(chance);
     let strange = |owner| entry(1, owner, STRANGE, 0);
@@ -198,7 +239,7 @@ fn fit_rows(size: usize, shape: Shape, model: &Model, chance: &mut Chance) {
     ];
     for (situation, description) in cases {
         let times = fit_times(&specimen, &description, situation.starts_with("yes"));
-        print_row("fit", &grouped(size), shape_name(shape), situation, times);
+        timed.print("fit", situation, times);
     }
 }
 
@@ -218,17 +259,18 @@ fn worst_fit_row() {
     print_row("fit", "2,016 and 1,008", "one link", "worst case", times);
 }
 
-fn read_rows(size: usize, shape: Shape, model: &Model) {
-    let row = ReadRow { size, shape };
-    let description = encode(&model.description());
-    row.print(
-        "read description",
+fn read_rows(timed: &Timed) {
+    let description = encode(&timed.model.description());
+    let times = read_times(
         |bytes| goltximen::read_description(bytes).ok().map(usize::from),
         |bytes| plain::read_description(bytes).ok(),
         &description,
+        timed.size,
     );
-    let specimen = encode(&model.specimen());
-    row.print("read specimen", product_specimen, plain_specimen, &specimen);
+    timed.print("read description", "accepted", times);
+    let specimen = encode(&timed.model.specimen());
+    let times = read_times(product_specimen, plain_specimen, &specimen, timed.size);
+    timed.print("read specimen", "accepted", times);
 }
 
 fn product_specimen(bytes: &[u8]) -> Option<usize> {
@@ -249,25 +291,4 @@ fn read_times(
     assert_eq!(product(bytes), Some(entries));
     assert_eq!(plain(bytes), Some(entries));
     best(|| product(black_box(bytes)), || plain(black_box(bytes)))
-}
-
-/// The inputs of a row that reads.
-struct ReadRow {
-    size: usize,
-    shape: Shape,
-}
-
-impl ReadRow {
-    /// Both sides read the bytes, and find as many entries as the row says.
-    fn print(
-        &self,
-        call: &str,
-        product: impl Fn(&[u8]) -> Option<usize>,
-        plain: impl Fn(&[u8]) -> Option<usize>,
-        bytes: &[u8],
-    ) {
-        let times = read_times(product, plain, bytes, self.size);
-        let (size, shape) = (grouped(self.size), shape_name(self.shape));
-        print_row(call, &size, shape, "accepted", times);
-    }
 }

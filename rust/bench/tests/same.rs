@@ -1,6 +1,6 @@
 //! The plain Rust gives the same answers and output bytes as the reference, and so does the proved library.
 
-use bench::inputs::{entry, single_links, worst_fit, Chance, Model, Shape};
+use bench::inputs::{bucket, entry, one_bucket, single_links, worst_fit, Chance, Model, Shape};
 use bench::plain;
 use reference::{encode, Entry};
 
@@ -437,11 +437,28 @@ fn inputs_of_the_benchmark() {
             assert_eq!(same_fit(&specimen, &description), Some(true));
             assert_eq!(same_fit(&specimen, &looser), Some(true));
         }
+        let model = Model::single(1008, shape, &mut chance);
+        let description = encode(&model.description());
+        let looser = encode(&model.looser(&mut chance));
+        same_normal_form(&description, description.len());
+        same_comparison(&description, &looser, 2 * description.len());
+        same_comparison(&looser, &description, 2 * description.len());
+        assert!(model
+            .description()
+            .iter()
+            .all(|e| e.kind < 3 || e.name >= 32_768));
     }
     let (groups, every) = single_links();
     assert_eq!(same_fit(&groups, &every), Some(true));
     same_reading(&groups);
     assert_eq!(reference::read_specimen(&groups), Ok(2016));
+    let groups = one_bucket();
+    same_reading(&groups);
+    assert_eq!(reference::read_specimen(&groups), Ok(2016));
+    for group in reference::decode(&groups) {
+        assert!(group.kind == 7 && group.name >= 32_768);
+        assert_eq!(bucket(group.owner.into(), group.name.into()), 0);
+    }
     let (groups, every) = worst_fit();
     let shipped = include_bytes!("../../../crates/fits/stdin");
     assert!([&groups[..], &every[..]].concat() == shipped);

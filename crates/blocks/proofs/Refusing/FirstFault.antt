@@ -62,6 +62,12 @@ unfolding first
 first-append [] gs = refl
 first-append (f ∷ fs) gs = bool-cases (f .applies) (λ q. rw q) (λ q. rw q (first-append fs gs))
 
+-- where no later one applies, the search ends with the earlier ones
+pub first-front : (fs gs : List Fault) → None gs → first (fs ++ gs) ≡ first fs
+unfolding first
+first-front [] gs h = none-clean gs h
+first-front (f ∷ fs) gs h = bool-cases (f .applies) (λ q. rw q) (λ q. rw q (first-front fs gs h))
+
 -- what a step of a search finds, by the number of the faults at one place, where 0 is none
 abbrev pub step : ℕ → ℕ → Finding → Finding
 step number p g = elim (eqb number 0) [ true ↦ g | false ↦ Faulty number p ]

@@ -1,5 +1,5 @@
 -- The numbers that reading refuses with are 1 to 6, and 9 for a specimen, of the input that was read: 7 is left for an output that is
--- too short. Where none of 1 to 3 applies, they are from 4 on.
+-- too short. Where none of 1 to 3 applies, they are from 4 on; where no line of an entry does, they are 1 to 3.
 -- Assumes nothing.
 use Prim.Native.Nat.{_≤_, suc, zero, ℕ}
 use lib.ListN.{length}
@@ -9,13 +9,14 @@ use mathlib.Core.Logic.{_≢_, _⊎_, inl, inr, ⊎-elim}
 use mathlib.Core.Path.{_∙_, _≡_, refl, sym}
 use native.Mathlib.Omega.{arith}
 use Rattle.blocks.proofs.Refusing.BlockLaws.{none-blocks}
-use Rattle.blocks.proofs.Refusing.FirstFault.{first-append, first-found, found-first, none-clean}
+use Rattle.blocks.proofs.Refusing.FirstFault.{first-append, first-found, first-front, found-first, none-clean}
+use Rattle.blocks.proofs.Refusing.Legal.{legal-none}
 use Rattle.blocks.proofs.RoundTrip.Accepting.{first-of-refused}
 use Rattle.blocks.proofs.RoundTrip.Unbroken.{Unbroken}
 use Rattle.blocks.specs.Entries.{entriesOf}
-use Rattle.blocks.specs.Faults.{Fault, blockFaults, entryFaults, entryRows, fault, faults, first, rowsFrom}
+use Rattle.blocks.specs.Faults.{Fault, blockFaults, entryFaults, entryRows, fault, faults, first, lengthWrong, rowsFrom}
 use Rattle.blocks.specs.Frame.{blocksIn, plain}
-use Rattle.blocks.specs.Promise.{FirstOf}
+use Rattle.blocks.specs.Promise.{FirstOf, Further, Legal}
 use Rattle.blocks.specs.Reading.{readingOf}
 use Rattle.blocks.specs.declared.Entry.{Entry}
 use Rattle.blocks.specs.declared.Finding.the-variants.{Clean}
@@ -95,6 +96,18 @@ module _ (σ : Schema) (i : ℕ) (s : List ℕ) {k j p : ℕ} (e : readingOf σ 
       let skips : first (faults σ s) ≡ first entries = rw (u .length, first-append blocks entries, sound) in
       number-first P (numbers-rows P (entryRows σ es) (entry-numbers P σ (entry-low σ) es) 1 (length es))
       (found-first entries k p (sym skips ∙ first-found (faults σ s) k p (first-of-refused σ i s e .1)))
+
+  -- where the entries are legal and keep the further lines it is by the length or a block
+  pub legal-number : Legal σ (entriesOf s) → Further σ (entriesOf s) → k ≤ 3
+  unfolding faults
+  legal-number L f =
+      let P : ℕ → Type 0 = λ k. k ≤ 3 in
+      let n = blocksIn s in
+      let es = entriesOf s in
+      let front = fault (lengthWrong σ s) 1 0 ∷ blockFaults plain s n 0 n in
+      let alike : first (faults σ s) ≡ first front = first-front front (entryFaults σ es 1 (length es)) (legal-none L f) in
+      number-first P {fs = front} (omega arith, numbers-blocks P (omega arith) (omega arith) s n 0 n)
+      (found-first front k p (sym alike ∙ first-found (faults σ s) k p (first-of-refused σ i s e .1)))
 
 -- "A description is accepted when none of 1 to 6 applies to it"
 pub description-number : (i : ℕ) (s : List ℕ) {k j p : ℕ} → readingOf Description i s ≡ reading.Refused k j p → k ≤ 6

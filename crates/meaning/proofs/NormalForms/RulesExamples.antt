@@ -1,15 +1,18 @@
--- For each rule of the normal form a small list of entries that it applies to.
+-- For each of the twelve rules of the normal form a small list of entries that it applies to: rule 11, and the part of rule 2 that speaks of
+-- exclusions, where two properties exclude each other; all others under the standing rule alone.
 -- Assumes nothing.
 use Prim.Native.Nat.{_≤_, ℕ}
+use lib.Dec.{eqb}
+use mathlib.Core.Bool.{_&&_, _||_}
 use mathlib.Core.List.{List, [], _∷_}
 use mathlib.Core.Logic.{_≢_, inl, inr}
 use mathlib.Core.Path.{_≡_, refl}
 use native.Mathlib.Omega.{arith}
 use Rattle.blocks.specs.Entries.{nth}
 use Rattle.blocks.specs.declared.Entry.{Entry}
-use Rattle.logic.specs.Background.{standing}
+use Rattle.logic.specs.Background.{Background, standing}
 use Rattle.meaning.proofs.NormalForms.RulesLaws.{six-no-rule}
-use Rattle.meaning.specs.Rules.{Applies, Is, IsEvery, Twice, rule-1, rule-10, rule-12, rule-2, rule-3, rule-4, rule-5, rule-6, rule-7, rule-8, rule-9}
+use Rattle.meaning.specs.Rules.{Applies, Is, IsEvery, Twice, rule-1, rule-10, rule-11, rule-12, rule-2, rule-3, rule-4, rule-5, rule-6, rule-7, rule-8, rule-9}
 
 -- an entry of a kind, an owner, a name and a number
 abbrev entry : ℕ → ℕ → ℕ → ℕ → Entry
@@ -196,6 +199,47 @@ equal =
       different = one-two;
       is-one = first (entry 1 0 7 0) (entry 1 0 7 0 ∷ []);
       is-other = second (entry 1 0 7 0) (entry 1 0 7 0) [];
+    })
+
+-- properties 7 and 8 exclude each other
+abbrev sevenEight : Background
+sevenEight = record { cap = standing .cap; excludes = λ p q. (eqb p 7 && eqb q 8) || (eqb p 8 && eqb q 7) }
+
+-- (2) 5,1 [1,7; 1,8], two properties that exclude each other
+has-both : Applies sevenEight 2 (entry 5 0 1 0 ∷ entry 1 1 7 0 ∷ entry 1 1 8 0 ∷ [])
+has-both =
+    rule-2
+    (record {
+      place = 1;
+      every = every-first (entry 1 1 7 0 ∷ entry 1 1 8 0 ∷ []);
+      clashes = inr (inr (record {
+        one = 2;
+        other = 3;
+        property = 7;
+        property′ = 8;
+        number = 0;
+        number′ = 0;
+        excluding = refl;
+        is-one = second (entry 5 0 1 0) (entry 1 1 7 0) (entry 1 1 8 0 ∷ []);
+        is-other = third (entry 5 0 1 0) (entry 1 1 7 0) (entry 1 1 8 0) [];
+      }));
+    })
+
+-- (11) 1,7; 2,8, a lack that the property implies
+implied-lack : Applies sevenEight 11 (entry 1 0 7 0 ∷ entry 2 0 8 0 ∷ [])
+implied-lack =
+    rule-11
+    (record {
+      having = 1;
+      lacking = 2;
+      owner = 0;
+      property = 7;
+      property′ = 8;
+      number = 0;
+      number′ = 0;
+      excluding = refl;
+      is-having = first (entry 1 0 7 0) (entry 2 0 8 0 ∷ []);
+      is-lacking = second (entry 1 0 7 0) (entry 2 0 8 0) [];
     })
 
 -- (12) 4,40000,1, an at most that always holds

@@ -54,9 +54,10 @@ fn framed(title: &str, body: &str) -> String {
     )
 }
 
-const FOOTER: &str = "<footer>\n<p>Contained means: in every finite record, each item that fits the supplier’s description fits \
-the service’s description. The answer, the entry that fails and the specimen are those of the proved library; this page words and \
-draws them. Small numbers before entries are their numbers, counted from 1 over all blocks.</p>\n</footer>\n";
+const FOOTER: &str = "<footer>\n<p>Contained means: in every finite record that keeps the rule that links from 32,768 up never lead \
+to two items, each item that fits the supplier’s description fits the service’s description. The answer, the entry that fails and \
+the specimen are those of the proved library; this page words and draws them. Small numbers before entries are their numbers, \
+counted from 1 over all blocks.</p>\n</footer>\n";
 
 /// The answer, large.
 fn answer(class: &str, sign: &str, says: &str, sentence: &str) -> String {
