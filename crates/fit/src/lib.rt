@@ -7,6 +7,7 @@ mod answer;
 mod groups;
 mod index;
 mod judge;
+mod totals;
 
 pub use answer::fit;
 
