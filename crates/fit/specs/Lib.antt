@@ -6,3 +6,5 @@ pub mod code
 pub mod Promise
 -- The table of totals that is worked out before the walk over entries.
 pub mod Totals
+-- The fit answer with the additions that it took.
+pub mod Counted

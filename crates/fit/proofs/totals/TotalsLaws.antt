@@ -9,8 +9,9 @@ use mathlib.Core.Bool.{false, true}
 use mathlib.Core.List.{List}
 use mathlib.Core.Logic.{_≢_}
 use mathlib.Core.Path.{_∙_, _≡_, ap, refl, sym}
+use native.Mathlib.Numerals.{add-one}
 use native.Mathlib.Omega.{arith}
-use Rattle.base.proofs.Tests.{eq-cases, eq-eqb, eqb-eq, ne-eqb}
+use Rattle.base.proofs.Tests.{bool-cases, eq-cases, eq-eqb, eqb-eq}
 use Rattle.base.specs.Range.{bit, sum}
 use Rattle.blocks.proofs.Refusing.SingleLaws.{adds-cases, group-adds, items-more, items-none}
 use Rattle.blocks.specs.Entries.{nth}
@@ -183,10 +184,12 @@ pub groups-none : (es : List Entry) → groupsUpTo es 0 ≡ 0
 unfolding groupsUpTo sum
 groups-none es = refl
 
-pub groups-other : (es : List Entry) (n : ℕ) → nth es (suc n) .kind ≢ 7 → groupsUpTo es (suc n) ≡ groupsUpTo es n
+-- one entry more, counted where it is one
+pub groups-next : (es : List Entry) (n : ℕ) {e : Entry} {a b : ℕ} → e ≡ nth es (n + 1) → a ≡ groupsUpTo es n → b ≡ a + bit (eqb (e .kind) 7) → b ≡ groupsUpTo es (n + 1)
 unfolding groupsUpTo sum
-groups-other es n z = rw (groupsUpTo, sum, ne-eqb z) (omega arith)
+groups-next es n at h m = m ∙ rw (h, at, add-one)
 
-pub groups-more : (es : List Entry) (n : ℕ) → nth es (suc n) .kind ≡ 7 → groupsUpTo es (suc n) ≡ groupsUpTo es n + 1
+pub groups-few : (es : List Entry) (n : ℕ) → groupsUpTo es n ≤ n
 unfolding groupsUpTo sum
-groups-more es n z = rw (groupsUpTo, sum, eq-eqb z)
+groups-few es zero = omega arith
+groups-few es (suc n) = bool-cases (eqb (nth es (suc n) .kind) 7) (λ q. rw q (omega (arith, groups-few es n))) (λ q. rw q (omega (arith, groups-few es n)))
