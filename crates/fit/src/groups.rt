@@ -79,7 +79,7 @@ pub(crate) fn meets_atom(
     n: Sizes,
     g: usize,
     e: Entry,
-    adds: &mut u32,
+    adds: &mut u16,
 ) -> bool
     requires { ⌜ Known (n .most) (now s) (n .specimen) (now si) (now rows) (now links) (n .rows) × (g < 2017) ⌝ }
     ensures { λ r. ⌜ (r ≡ meetsAtom (entriesOf (now (s .entry))) g e) × (now (adds .exit) ≡ now (adds .entry)) ⌝ }

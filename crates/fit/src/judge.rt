@@ -28,7 +28,7 @@ pub(crate) fn fits_place(
     g: usize,
     o: usize,
     left: usize,
-    adds: &mut u32,
+    adds: &mut u16,
 ) -> bool
     requires { ⌜ Known (n .most) (now s) (n .specimen) (now si) (now rows) (now links) (n .rows) × Ready Schema.Description (n .most) (now d) (n .description) (now di) × (g < 2017) × (o < n .most) × (left ≤ 33) ⌝ }
     ensures { λ r. ⌜ (r ≡ fitsPlace left (entriesOf (now (s .entry))) (entriesOf (now (d .entry))) g o) × (now (adds .exit) ≡ now (adds .entry)) ⌝ }
@@ -57,7 +57,7 @@ pub(crate) fn meets_entry(
     g: usize,
     e: usize,
     left: usize,
-    adds: &mut u32,
+    adds: &mut u16,
 ) -> bool
     requires { ⌜ Known (n .most) (now s) (n .specimen) (now si) (now rows) (now links) (n .rows) × Ready Schema.Description (n .most) (now d) (n .description) (now di) × (g < 2017) × (e < n .most) × (left ≤ 33) ⌝ }
     ensures { λ r. ⌜ (r ≡ meetsEntry left (entriesOf (now (s .entry))) (entriesOf (now (d .entry))) g e) × (now (adds .exit) ≡ now (adds .entry)) ⌝ }

@@ -23,8 +23,8 @@ pub enum FitAnswer {
 // The fit answer, with the number of additions of items in making the table of totals and in the walk over entries.
 pub struct Counted {
     pub answer: FitAnswer,
-    pub table: u32,
-    pub walk: u32,
+    pub table: u16,
+    pub walk: u16,
 }
 
 // The numbers of entries of the two inputs, of rows of the table of totals, and of buckets.

@@ -16,8 +16,8 @@ use blocks::Schema;
 // Whether the top item fits, and how many additions the table of totals and the walk over entries took.
 pub(crate) struct Judged {
     pub fits: bool,
-    pub table: u32,
-    pub walk: u32,
+    pub table: u16,
+    pub walk: u16,
 }
 
 // Judges the top item of a specimen with n entries by a description with m entries, both accepted, with tables that are lent. One counter
@@ -37,7 +37,7 @@ fn judge_with(
         × (now si ≡ replicate (most + most) 0) × (now di ≡ replicate (most + most) 0) × (length (now rows) ≡ most) × (now links ≡ replicate (most + most) 0) ⌝ }
     ensures { λ r. ⌜ (r .fits ≡ topFits (now (s .entry)) (now (d .entry))) × (r .table ≡ groupsIn (now (s .entry))) × (r .walk ≡ 0) ⌝ }
 {
-    let mut adds: u32 = 0;
+    let mut adds: u16 = 0;
     let used = fill_totals(s, n, most, rows, links, &mut adds);
     let table = adds;
     index_entries(s, n, Schema::Specimen, most, si);

@@ -98,8 +98,8 @@ pub(crate) fn total_of(
 }
 
 // Adds the items of a group to a row, and counts that. Items are added nowhere else.
-fn add_items(row: u64, e: Entry, adds: &mut u32) -> u64
-    requires { ⌜ (itemsIn row + 65536 < 4294967296) × (now adds < 4294967295) ⌝ }
+fn add_items(row: u64, e: Entry, adds: &mut u16) -> u64
+    requires { ⌜ (itemsIn row + 65536 < 4294967296) × (now adds < 65535) ⌝ }
     ensures { λ r. ⌜ (r ≡ row + (e .number + 1)) × (e .number < 65536) × (now (adds .exit) ≡ now (adds .entry) + 1) ⌝ }
 {
     *adds += 1;
@@ -115,7 +115,7 @@ fn enter(
     n: usize,
     used: usize,
     e: Entry,
-    adds: &mut u32,
+    adds: &mut u16,
 ) -> usize
     requires { ⌜ Rows most (now rows) (now links) used × Small n (now rows) used × (n + 1 < most) × (now adds ≤ n) ⌝ }
     ensures { λ r. ⌜ Rows most (now (rows .exit)) (now (links .exit)) r × Small (n + 1) (now (rows .exit)) r
@@ -148,7 +148,7 @@ pub(crate) fn fill_totals(
     most: usize,
     rows: &mut [u64],
     links: &mut [u16],
-    adds: &mut u32,
+    adds: &mut u16,
 ) -> usize
     requires { ⌜ (total ≡ length (entriesOf (now s))) × (total < most) × (most ≤ 2017) × (length (now rows) ≡ most) × (now links ≡ replicate (most + most) 0) × (now adds ≡ 0) ⌝ }
     ensures { λ r. ⌜ Rows most (now (rows .exit)) (now (links .exit)) r × TotalsOf (entriesOf (now (s .entry))) total (now (rows .exit)) r
