@@ -8,7 +8,8 @@ use mathlib.Core.Logic.{_≢_}
 use mathlib.Core.Path.{_∙_, _≡_, ap, refl, sym}
 use native.Mathlib.Numerals.{sub-one}
 use native.Mathlib.Omega.{arith}
-use Rattle.base.proofs.Tests.{bool-cases, eq-cases, eq-eqb, eqb-eq, ne-eqb, tests}
+use Rattle.base.proofs.Missing.{not-true}
+use Rattle.base.proofs.Tests.{bool-cases, both-ways, eq-cases, eq-eqb, eqb-eq, ne-eqb, tests}
 use Rattle.base.specs.Chain.{Chains, OnChain, lastWhere}
 
 -- ---- the last number of a bucket
@@ -94,6 +95,26 @@ module _ {c next head : ℕ → ℕ} {most n : ℕ} (C : Chains c next head most
 
     pub skip-goes : {A : Type 0} (F : ℕ → A) → ((i : ℕ) → eqb (c (suc i)) b ≡ false → F (suc i) ≡ F i) → F (k - 1) ≡ F j
     skip-goes F skip = last-skips c F b skip (k - 1) ∙ ap F (sym before-is)
+
+-- ---- a search by key: each number has a key, and the bucket is made of it
+
+module _ (key bucket : ℕ → ℕ) where
+  -- a number of another bucket has another key
+  skip-key : (x i : ℕ) → eqb (bucket (key (suc i))) (bucket x) ≡ false → lastWhere key x (suc i) ≡ lastWhere key x i
+  skip-key x i e = last-other key x i (not-true (λ q. both-ways (eq-eqb (ap bucket (eqb-eq q))) e))
+
+  module _ {next head : ℕ → ℕ} {most n : ℕ} (C : Chains (λ j. bucket (key j)) next head most n) (x : ℕ) {k : ℕ} where
+    -- it begins at the last number of the key's bucket
+    pub key-starts : bucket x < most → k ≡ head (bucket x) → lastWhere key x n ≡ lastWhere key x k
+    key-starts h e = skip-starts C (bucket x) h e (lastWhere key x) (skip-key x)
+
+    -- it goes on past a number of another key
+    pub key-goes : OnChain (λ j. bucket (key j)) (bucket x) k n → (z : k ≢ 0) {j : ℕ} → j ≡ next k → key k ≢ x → lastWhere key x k ≡ lastWhere key x j
+    key-goes S z e other =
+        let at : k ≡ suc (k - 1) = omega arith in
+        ap (lastWhere key x) at
+        ∙ last-other key x (k - 1) (ne-eqb (λ y. other (ap key at ∙ y)))
+        ∙ skip-goes C (bucket x) S z e (lastWhere key x) (skip-key x)
 
 -- ---- the chains
 

@@ -1,16 +1,18 @@
-// The library's calls for C and Rust: five functions under their plain names, each slice a pointer and a length. Each answers what the
+// The library's calls for C and Rust: six functions under their plain names, each slice a pointer and a length. Each answers what the
 // call that it wraps answers, as one number of 64 bits; include/goltximen.h states the terms for a C program.
 //
 // The contracts cite Packing of `packing`, which has the table of these numbers, and the specs of the calls.
 ghost use mathlib.Core.Path.{_≡_};
 ghost use Rattle.blocks.specs.Reading.{readingOf};
 ghost use Rattle.blocks.specs.declared.Schema.{Schema};
-ghost use Rattle.packing.specs.Packing.{packComparison, packFit, packNormal, packReading};
+ghost use Rattle.packing.specs.Packing.{packComparison, packCounted, packFit, packNormal, packReading};
 ghost use Rattle.compare.specs.Answer.{compareOf, outputOf};
 ghost use Rattle.logic.specs.Background.{standing};
 ghost use Rattle.fit.specs.Answer.{fitOf};
+ghost use Rattle.fit.specs.Counted.{countedOf};
 ghost use Rattle.normal.specs.Answer.{normaliseOf, normalisedOf};
 use packing::pack_comparison;
+use packing::pack_counted;
 use packing::pack_fit;
 use packing::pack_normal;
 use packing::pack_reading;
@@ -37,6 +39,14 @@ pub extern "C" fn gx_fit(s: &[u8], d: &[u8]) -> u64
     ensures { λ r. ⌜ r ≡ packFit (fitOf (now (s .entry)) (now (d .entry))) ⌝ }
 {
     pack_fit(fit::fit(s, d))
+}
+
+// The same, with the additions of items that it took: in the walk over entries, and in making the table of totals.
+#[no_mangle]
+pub extern "C" fn gx_fit_counted(s: &[u8], d: &[u8]) -> u64
+    ensures { λ r. ⌜ r ≡ packCounted (countedOf (now (s .entry)) (now (d .entry))) ⌝ }
+{
+    pack_counted(fit::fit_counted(s, d))
 }
 
 // Writes the normal form of a description from the start of the output: its number of entries, or the refusal.

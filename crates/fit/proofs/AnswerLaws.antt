@@ -17,8 +17,10 @@ use Rattle.blocks.specs.declared.Schema.{Schema}
 use Rattle.blocks.specs.declared.Schema.the-variants.{Description, Specimen}
 use Rattle.fit.proofs.FitByNumber.{fit-by-groups}
 use Rattle.fit.specs.Answer.{fitOf, secondOf, topFits}
+use Rattle.fit.specs.Counted.{countedOf, groupsIn, tableAdds, unlessStopped, withTable}
 use Rattle.fit.specs.code.Groups.{fitsPlace}
 use Rattle.fit.specs.code.Index.{Ordered}
+use Rattle.fit.specs.declared.Counted.{Counted}
 use Rattle.fit.specs.declared.FitAnswer.{FitAnswer}
 use Rattle.fit.specs.declared.FitAnswer.the-variants.{No, Refused, Yes}
 
@@ -64,3 +66,30 @@ pub first-accepted : (s d : List ℕ) {x : Reading} {n : ℕ} {r : FitAnswer} �
     → r ≡ secondOf s d (readingOf Description 2 d) → r ≡ fitOf s d
 unfolding fitOf
 first-accepted s d e f h = h ∙ rw (fitOf, ← e, f)
+
+-- ---- with the additions
+
+-- what was counted where the specimen is accepted, by what reading the description answers
+abbrev countedBy : List ℕ → List ℕ → Reading → Counted
+countedBy s d r = withTable (secondOf s d r) (unlessStopped r (groupsIn s))
+
+module _ (s d : List ℕ) {x : Reading} (read : x ≡ readingOf Description 2 d) where
+  pub counted-refused : {k i p : ℕ} {c : Counted} → x ≡ reading.Refused k i p → c ≡ withTable (Refused k i p) 0 → c ≡ countedBy s d (readingOf Description 2 d)
+  counted-refused f h = h ∙ rw (← read, f)
+
+  -- both inputs are accepted, and the top item was judged
+  module _ {m t w : ℕ} {r : Bool} (f : x ≡ reading.Accepted m) (h : r ≡ topFits s d) where
+    pub counted-yes : r ≡ true → t ≡ groupsIn s → w ≡ 0 → record { answer = Yes; table = t; walk = w } ≡ countedBy s d (readingOf Description 2 d)
+    counted-yes y a b = rw (a, b, ← read, f, ← h, y)
+
+    pub counted-no : r ≡ false → t ≡ groupsIn s → w ≡ 0 → record { answer = No; table = t; walk = w } ≡ countedBy s d (readingOf Description 2 d)
+    counted-no y a b = rw (a, b, ← read, f, ← h, y)
+
+module _ (s d : List ℕ) {x : Reading} {c : Counted} (read : x ≡ readingOf Specimen 1 s) where
+  pub counted-first-refused : {k i p : ℕ} → x ≡ reading.Refused k i p → c ≡ withTable (Refused k i p) 0 → c ≡ countedOf s d
+  unfolding fitOf tableAdds
+  counted-first-refused f h = h ∙ rw (fitOf, tableAdds, ← read, f)
+
+  pub counted-first : {n : ℕ} → x ≡ reading.Accepted n → c ≡ countedBy s d (readingOf Description 2 d) → c ≡ countedOf s d
+  unfolding fitOf tableAdds
+  counted-first f h = h ∙ rw (fitOf, tableAdds, ← read, f)

@@ -21,10 +21,10 @@ use Rattle.blocks.specs.declared.Schema.{Schema}
 use Rattle.blocks.specs.declared.Schema.the-variants.{Description, Specimen}
 use Rattle.fit.proofs.FitByNumber.{fit-by-groups}
 use Rattle.fit.specs.Promise.{Shows}
-use Rattle.fit.specs.code.Groups.{fitsPlace, groupsBy, hasProperty, meetsEntry, totalBy}
+use Rattle.fit.specs.code.Groups.{fitsPlace, groupsBy, hasProperty, meetsEntry}
 use Rattle.logic.proofs.Records.Counting.{everyIn}
 use Rattle.meaning.specs.FitExamples.{Case, cases}
-use Rattle.meaning.specs.Owned.{allWhere, sumWhere}
+use Rattle.meaning.specs.Owned.{allWhere}
 
 -- ---- by computing
 
@@ -85,5 +85,5 @@ all-show (b ∷ cs) e c m =
 
 -- every desk example is shown by its specimen
 pub cases-show : (c : Case) → List·Memᴰ c cases → Shows c
-unfolding cases everyIn first entryFaults rowsFrom singleOk itemsUpTo sum formOk nameOk numberOk ownerOk ownerOf nth depthOk depthOf chain allWhere sumWhere hasProperty totalBy groupsBy meetsEntry
+unfolding cases everyIn first entryFaults rowsFrom singleOk itemsUpTo sum formOk nameOk numberOk ownerOk ownerOf nth depthOk depthOf chain allWhere hasProperty groupsBy meetsEntry
 cases-show = all-show cases refl

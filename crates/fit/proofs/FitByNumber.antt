@@ -16,13 +16,14 @@ use Rattle.blocks.specs.Promise.{Legal}
 use Rattle.blocks.specs.declared.Entry.{Entry}
 use Rattle.blocks.specs.declared.Schema.the-variants.{Description}
 use Rattle.fit.specs.code.Groups.{fitsPlace, groupsBy, hasProperty, meetsEntry, totalBy}
-use Rattle.logic.proofs.Records.Counting.{every-from-ext, everyFrom, sumIn}
+use Rattle.logic.proofs.Records.Counting.{every-from-ext, everyFrom}
 use Rattle.logic.specs.Place.{Place, kindOf}
 use Rattle.logic.specs.Record.{fits}
 use Rattle.logic.specs.Tree.{end, leaf, node}
-use Rattle.meaning.proofs.Descriptions.OwnedLaws.{owned-ext, owned-from, sum-from}
+use Rattle.meaning.proofs.Descriptions.OwnedLaws.{owned-ext, owned-from}
 use Rattle.meaning.proofs.Descriptions.Places.{allHere, asks, place-owned}
-use Rattle.meaning.proofs.Specimens.Items.{eachGroup, fits-groups, fitsBy, groupUnder, linkedItems, meetsBy}
+use Rattle.meaning.proofs.Specimens.Items.{eachGroup, fits-groups, fitsBy, groupUnder, meetsBy}
+use Rattle.meaning.proofs.Specimens.SingleKeeps.{brought-linked}
 use Rattle.meaning.specs.Description.{placeOf}
 use Rattle.meaning.specs.Owned.{allOwned}
 use Rattle.meaning.specs.Specimen.{owns, recordOf}
@@ -53,14 +54,6 @@ module _ (s : List Entry) (g : ℕ) where
   unfolding hasProperty
   property-owns p = ap not (owned-from (λ k e. not (eqb (e .kind) 1 && eqb (e .name) p)) s g) ∙ sym (owns-from g p 1 s)
 
-  -- the items that the items of a group are linked to
-  total-linked : (l : ℕ) → totalBy s g l ≡ linkedItems s g l
-  unfolding totalBy linkedItems
-  total-linked l =
-      sum-from (λ e. cond (eqb (e .kind) 7 && eqb (e .name) l) (suc (e .number)) 0) s g
-      ∙ ap (λ (f : Entry → ℕ). sumIn f s)
-      (fun-ext (λ e. rw (under-owner g l e) (bool-cases (eqb (e .owner) g) (λ q. rw q) (λ q. rw q))))
-
   -- the groups of a group by a link
   groups-each : (p : ℕ → Bool) (l : ℕ) → groupsBy p s g l ≡ eachGroup p s g l
   unfolding groupsBy eachGroup
@@ -84,8 +77,8 @@ unfolding meetsEntry kindOf
 meets-asks left s d g n below =
     eq-cases (nth d n .kind) 1 (λ z. rw z (property-owns s g (nth d n .name))) (λ z₁.
     eq-cases (nth d n .kind) 2 (λ z. rw z (ap not (property-owns s g (nth d n .name)))) (λ z₂.
-    eq-cases (nth d n .kind) 3 (λ z. rw z (ap (λ (t : ℕ). leb (nth d n .number) t) (total-linked s g (nth d n .name)))) (λ z₃.
-    eq-cases (nth d n .kind) 4 (λ z. rw z (ap (λ (t : ℕ). leb t (nth d n .number)) (total-linked s g (nth d n .name)))) (λ z₄.
+    eq-cases (nth d n .kind) 3 (λ z. rw z (ap (λ (t : ℕ). leb (nth d n .number) t) (brought-linked s g (nth d n .name)))) (λ z₃.
+    eq-cases (nth d n .kind) 4 (λ z. rw z (ap (λ (t : ℕ). leb t (nth d n .number)) (brought-linked s g (nth d n .name)))) (λ z₄.
     eq-cases (nth d n .kind) 5
     (λ z. rw z (ap (λ (p : ℕ → Bool). groupsBy p s g (nth d n .name)) (fun-ext below) ∙ groups-each s g (fitsBy s (placeOf d n)) (nth d n .name)))
     (λ z₅. rw (ne-eqb z₁, ne-eqb z₂, ne-eqb z₃, ne-eqb z₄, ne-eqb z₅))))))

@@ -4,3 +4,5 @@
 pub mod Groups
 -- The index of the entries of an input, as the code keeps it: of a description by owner, of a specimen by owner, kind and name.
 pub mod Index
+-- The rows of the table of totals as the code finds them, and what the walk over entries has at hand.
+pub mod Rows

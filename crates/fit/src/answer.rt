@@ -3,45 +3,60 @@ ghost use mathlib.Core.Path.{_≡_};
 ghost use Rattle.blocks.specs.Reading.{readingOf};
 ghost use Rattle.blocks.specs.declared.Reading.{Reading};
 ghost use Rattle.blocks.specs.declared.Schema.{Schema};
-ghost use Rattle.fit.specs.Answer.{topFits, secondOf, fitOf};
+ghost use Rattle.fit.specs.Answer.{secondOf, fitOf};
+ghost use Rattle.fit.specs.Counted.{countedOf, groupsIn, unlessStopped, withTable};
+use crate::Counted;
 use crate::FitAnswer;
-use crate::index::index_entries;
-use crate::judge::Totals;
-use crate::judge::fits_place;
+use crate::tables::judge_top;
 use blocks::Reading;
 use blocks::Schema;
 
-// Whether the top item of a specimen with n entries fits a description with m entries, both accepted.
-fn top_fits(s: &[u8], n: usize, d: &[u8], m: usize) -> bool
-    requires { ⌜ (readingOf Schema.Specimen 1 (now s) ≡ Reading.Accepted n) × (readingOf Schema.Description 2 (now d) ≡ Reading.Accepted m) ⌝ }
-    ensures { λ r. ⌜ r ≡ topFits (now (s .entry)) (now (d .entry)) ⌝ }
+// A refusal: nothing was added.
+fn refused(number: u8, input: u16, place: u16) -> Counted
+    ensures { λ r. ⌜ r ≡ withTable (FitAnswer.Refused number input place) 0 ⌝ }
 {
-    let mut si = [0u16; 4034];
-    index_entries(s, n, Schema::Specimen, &mut si);
-    let mut di = [0u16; 4034];
-    index_entries(d, m, Schema::Description, &mut di);
-    let totals = Totals {
-        specimen: n,
-        description: m,
-    };
-    fits_place(s, &si, d, &di, totals, 0, 0, 33)
+    Counted {
+        answer: FitAnswer::Refused(number, input, place),
+        table: 0,
+        walk: 0,
+    }
 }
 
 // The answer for a specimen that is accepted, with n entries: the description is read, and the top item judged.
-fn fit_accepted(s: &[u8], n: usize, d: &[u8]) -> FitAnswer
+fn fit_accepted(s: &[u8], n: usize, d: &[u8]) -> Counted
     requires { ⌜ readingOf Schema.Specimen 1 (now s) ≡ Reading.Accepted n ⌝ }
-    ensures { λ r. ⌜ r ≡ secondOf (now (s .entry)) (now (d .entry)) (readingOf Schema.Description 2 (now (d .entry))) ⌝ }
+    ensures { λ r. ⌜ r ≡ withTable (secondOf (now (s .entry)) (now (d .entry)) (readingOf Schema.Description 2 (now (d .entry)))) (unlessStopped (readingOf Schema.Description 2 (now (d .entry))) (groupsIn (now (s .entry)))) ⌝ }
 {
     let second = reading::read(d, Schema::Description, 2);
     match second {
-        Reading::Refused(number, input, place) => FitAnswer::Refused(number, input, place),
+        Reading::Refused(number, input, place) => refused(number, input, place),
         Reading::Accepted(m) => {
-            if top_fits(s, n, d, m as usize) {
-                FitAnswer::Yes
+            let j = judge_top(s, n, d, m as usize);
+            if j.fits {
+                Counted {
+                    answer: FitAnswer::Yes,
+                    table: j.table,
+                    walk: j.walk,
+                }
             } else {
-                FitAnswer::No
+                Counted {
+                    answer: FitAnswer::No,
+                    table: j.table,
+                    walk: j.walk,
+                }
             }
         }
+    }
+}
+
+// The fit answer, with the number of additions of items that it took: in making the table of totals, and in the walk over entries.
+pub fn fit_counted(specimen: &[u8], description: &[u8]) -> Counted
+    ensures { λ r. ⌜ r ≡ countedOf (now (specimen .entry)) (now (description .entry)) ⌝ }
+{
+    let first = reading::read(specimen, Schema::Specimen, 1);
+    match first {
+        Reading::Refused(number, input, place) => refused(number, input, place),
+        Reading::Accepted(n) => fit_accepted(specimen, n as usize, description),
     }
 }
 
@@ -49,9 +64,6 @@ fn fit_accepted(s: &[u8], n: usize, d: &[u8]) -> FitAnswer
 pub fn fit(specimen: &[u8], description: &[u8]) -> FitAnswer
     ensures { λ r. ⌜ r ≡ fitOf (now (specimen .entry)) (now (description .entry)) ⌝ }
 {
-    let first = reading::read(specimen, Schema::Specimen, 1);
-    match first {
-        Reading::Refused(number, input, place) => FitAnswer::Refused(number, input, place),
-        Reading::Accepted(n) => fit_accepted(specimen, n as usize, description),
-    }
+    let counted = fit_counted(specimen, description);
+    counted.answer
 }

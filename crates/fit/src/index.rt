@@ -1,77 +1,115 @@
-// The entries of an input, indexed by buckets, so that a look costs the entries of a bucket and not all of them. A description's bucket is
-// a place, since a place is gone over whole. A specimen's entries are looked for by owner, kind and name.
+// Numbers in buckets: of each bucket the last number, and of each number the one before it in its bucket, so that a look costs the numbers
+// of a bucket and not all of them. The entries of an input are indexed so. A description's bucket is a place, since a place is gone over
+// whole. A specimen's entries are looked for by owner, kind and name.
 ghost use mathlib.Core.Path.{_≡_};
-ghost use Prim.Native.Nat.{_+_, _≤_, _<_};
-ghost use lib.ListN.{length, getD, replicate};
+ghost use Prim.Native.Nat.{_+_, _%_, _≤_, _<_};
+ghost use lib.ListN.{length, getD, replicate, set};
 ghost use Rattle.blocks.specs.Entries.{entriesOf};
-ghost use Rattle.fit.specs.code.Index.{Ordered, Ready, bucketIn, hashOf};
+ghost use Rattle.fit.specs.code.Index.{Ordered, Ready, bucketIn, chained, hashOf};
 use base::wide;
 use blocks::Entry;
 use blocks::Link;
-use blocks::Property;
 use blocks::Schema;
 
-// The bucket of an owner, a kind and a name. Of one kind and name, different owners have different buckets: so all groups together look at
-// each entry of a specimen at most once for an entry of a description, whatever names were chosen.
-fn hash(owner: usize, kind: u8, name: u16) -> usize
-    requires { ⌜ owner < 65536 ⌝ }
-    ensures { λ r. ⌜ (r ≡ hashOf owner kind name) × (r < 2017) ⌝ }
+// What is left of a number by the number of buckets. Tables come in three sizes, and a division by a constant is sooner done.
+fn reduced(x: usize, most: usize) -> usize
+    requires { ⌜ 0 < most ⌝ }
+    ensures { λ r. ⌜ (r ≡ x % most) × (r < most) ⌝ }
 {
-    (owner + (8 * wide(name) + kind as usize)) % 2017
+    if most == 2017 {
+        return x % 2017;
+    }
+    if most == 256 {
+        return x % 256;
+    }
+    if most == 64 {
+        return x % 64;
+    }
+    x % most
+}
+
+// The bucket, of `most`, of an owner, a kind and a name. Of one kind and name, different owners have different buckets: so all groups together
+// look at each entry of a specimen at most once for an entry of a description, whatever names were chosen.
+pub(crate) fn hash(most: usize, owner: usize, kind: u8, name: u16) -> usize
+    requires { ⌜ (0 < most) × (owner < 65536) ⌝ }
+    ensures { λ r. ⌜ (r ≡ hashOf most owner kind name) × (r < most) ⌝ }
+{
+    reduced(owner + (8 * wide(name) + kind as usize), most)
 }
 
 // The bucket of an entry.
-fn bucket(e: Entry, schema: Schema) -> usize
-    ensures { λ r. ⌜ (r ≡ bucketIn schema e) × (r < 65536) ⌝ }
+fn bucket(e: Entry, schema: Schema, most: usize) -> usize
+    requires { ⌜ 0 < most ⌝ }
+    ensures { λ r. ⌜ r ≡ bucketIn schema most e ⌝ }
 {
     match schema {
         Schema::Description => wide(e.owner),
-        Schema::Specimen => hash(wide(e.owner), e.kind, e.name),
+        Schema::Specimen => hash(most, wide(e.owner), e.kind, e.name),
     }
 }
 
-// The last entry of bucket b, or 0.
-pub(crate) fn last_of(index: &[u16; 4034], b: usize) -> usize
-    requires { ⌜ b < 2017 ⌝ }
+// The last number of bucket b, or 0.
+pub(crate) fn last_of(index: &[u16], b: usize) -> usize
+    requires { ⌜ b < length (now index) ⌝ }
     ensures { λ r. ⌜ r ≡ getD (now (index .entry)) b 0 ⌝ }
 {
     wide(index[b])
 }
 
-// The last entry of the bucket where group g's entry of a property stands, or 0.
-pub(crate) fn last_property(index: &[u16; 4034], g: usize, p: Property) -> usize
-    requires { ⌜ g < 2017 ⌝ }
-    ensures { λ r. ⌜ r ≡ getD (now (index .entry)) (hashOf g 1 (p .0)) 0 ⌝ }
-{
-    last_of(index, hash(g, 1, p.0))
-}
-
 // The last entry of the bucket where group g's groups by a link stand, or 0.
-pub(crate) fn last_group(index: &[u16; 4034], g: usize, l: Link) -> usize
-    requires { ⌜ g < 2017 ⌝ }
-    ensures { λ r. ⌜ r ≡ getD (now (index .entry)) (hashOf g 7 (l .0)) 0 ⌝ }
+pub(crate) fn last_group(index: &[u16], most: usize, g: usize, l: Link) -> usize
+    requires { ⌜ (0 < most) × (most ≤ length (now index)) × (g < 2017) ⌝ }
+    ensures { λ r. ⌜ r ≡ getD (now (index .entry)) (hashOf most g 7 (l .0)) 0 ⌝ }
 {
-    last_of(index, hash(g, 7, l.0))
+    last_of(index, hash(most, g, 7, l.0))
 }
 
-// The entry of the same bucket before entry k, or 0.
-pub(crate) fn previous_of(index: &[u16; 4034], k: usize) -> usize
-    requires { ⌜ k < 2017 ⌝ }
-    ensures { λ r. ⌜ r ≡ getD (now (index .entry)) (2017 + k) 0 ⌝ }
+// The number of the same bucket before number k, or 0.
+pub(crate) fn previous_of(index: &[u16], most: usize, k: usize) -> usize
+    requires { ⌜ most + k < length (now index) ⌝ }
+    ensures { λ r. ⌜ r ≡ getD (now (index .entry)) (most + k) 0 ⌝ }
 {
-    wide(index[2017 + k])
+    wide(index[most + k])
+}
+
+// The number at an index of the table.
+fn number_at(index: &[u16], i: usize) -> u16
+    requires { ⌜ i < length (now index) ⌝ }
+    ensures { λ r. ⌜ r ≡ getD (now (index .entry)) i 0 ⌝ }
+{
+    index[i]
+}
+
+// Sets the number at an index of the table.
+fn set_number(index: &mut [u16], i: usize, x: u16)
+    requires { ⌜ i < length (now index) ⌝ }
+    ensures { λ _. ⌜ now (index .exit) ≡ set (now (index .entry)) i x ⌝ }
+{
+    index[i] = x;
+}
+
+// Puts number n in front of the chain of bucket b.
+pub(crate) fn put(index: &mut [u16], most: usize, n: usize, b: usize)
+    requires { ⌜ (most ≤ 2017) × (length (now index) ≡ most + most) × (n < most) × (b < most) ⌝ }
+    ensures { λ _. ⌜ now (index .exit) ≡ chained (now (index .entry)) most n b ⌝ }
+{
+    set_number(index, most + n, number_at(index, b));
+    set_number(index, b, n as u16);
 }
 
 // Fills the index in one pass over the entries.
-pub(crate) fn index_entries(s: &[u8], total: usize, schema: Schema, index: &mut [u16; 4034])
-    requires { ⌜ (total ≡ length (entriesOf (now s))) × (total ≤ 2016) × Ordered (entriesOf (now s)) × (now index ≡ replicate 4034 0) ⌝ }
-    ensures { λ _. ⌜ Ready schema (now (s .entry)) total (now (index .exit)) ⌝ }
+pub(crate) fn index_entries(s: &[u8], total: usize, schema: Schema, most: usize, index: &mut [u16])
+    requires { ⌜ (total ≡ length (entriesOf (now s))) × (total < most) × (most ≤ 2017) × Ordered (entriesOf (now s)) × (now index ≡ replicate (most + most) 0) ⌝ }
+    ensures { λ _. ⌜ Ready schema most (now (s .entry)) total (now (index .exit)) ⌝ }
 {
     let mut n: usize = 1;
     while n <= total {
-        let b = bucket(blocks::nth_entry(s, total, n), schema);
-        index[2017 + n] = index[b];
-        index[b] = n as u16;
+        put(
+            index,
+            most,
+            n,
+            bucket(blocks::nth_entry(s, total, n), schema, most),
+        );
         n += 1;
     }
 }

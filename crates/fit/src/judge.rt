@@ -8,57 +8,59 @@ ghost use Rattle.blocks.specs.Entries.{entriesOf};
 ghost use Rattle.blocks.specs.declared.Schema.{Schema};
 ghost use Rattle.fit.specs.code.Groups.{meetsEntry, fitsPlace};
 ghost use Rattle.fit.specs.code.Index.{Ready};
+ghost use Rattle.fit.specs.code.Rows.{Known};
+use crate::Sizes;
 use crate::groups::is_group;
 use crate::groups::meets_atom;
 use crate::index::last_group;
 use crate::index::last_of;
 use crate::index::previous_of;
 
-// The numbers of entries of the two inputs.
-pub(crate) struct Totals {
-    pub specimen: usize,
-    pub description: usize,
-}
-
 // Whether the items of group g fit the place that entry o of the description owns, followed down for `left` levels.
 pub(crate) fn fits_place(
     s: &[u8],
-    si: &[u16; 4034],
+    si: &[u16],
+    rows: &[u64],
+    links: &[u16],
     d: &[u8],
-    di: &[u16; 4034],
-    n: Totals,
+    di: &[u16],
+    n: Sizes,
     g: usize,
     o: usize,
     left: usize,
+    adds: &mut u16,
 ) -> bool
-    requires { ⌜ Ready Schema.Specimen (now s) (n .specimen) (now si) × Ready Schema.Description (now d) (n .description) (now di) × (g < 2017) × (o < 2017) × (left ≤ 33) ⌝ }
-    ensures { λ r. ⌜ r ≡ fitsPlace left (entriesOf (now (s .entry))) (entriesOf (now (d .entry))) g o ⌝ }
+    requires { ⌜ Known (n .most) (now s) (n .specimen) (now si) (now rows) (now links) (n .rows) × Ready Schema.Description (n .most) (now d) (n .description) (now di) × (g < 2017) × (o < n .most) × (left ≤ 33) ⌝ }
+    ensures { λ r. ⌜ (r ≡ fitsPlace left (entriesOf (now (s .entry))) (entriesOf (now (d .entry))) g o) × (now (adds .exit) ≡ now (adds .entry)) ⌝ }
 {
     let mut e = last_of(di, o);
     loop {
         if e == 0 {
             break true;
         }
-        if !meets_entry(s, si, d, di, n, g, e, left) {
+        if !meets_entry(s, si, rows, links, d, di, n, g, e, left, adds) {
             break false;
         }
-        e = previous_of(di, e);
+        e = previous_of(di, n.most, e);
     }
 }
 
 // Whether the items of group g meet entry e of the description.
 pub(crate) fn meets_entry(
     s: &[u8],
-    si: &[u16; 4034],
+    si: &[u16],
+    rows: &[u64],
+    links: &[u16],
     d: &[u8],
-    di: &[u16; 4034],
-    n: Totals,
+    di: &[u16],
+    n: Sizes,
     g: usize,
     e: usize,
     left: usize,
+    adds: &mut u16,
 ) -> bool
-    requires { ⌜ Ready Schema.Specimen (now s) (n .specimen) (now si) × Ready Schema.Description (now d) (n .description) (now di) × (g < 2017) × (e < 2017) × (left ≤ 33) ⌝ }
-    ensures { λ r. ⌜ r ≡ meetsEntry left (entriesOf (now (s .entry))) (entriesOf (now (d .entry))) g e ⌝ }
+    requires { ⌜ Known (n .most) (now s) (n .specimen) (now si) (now rows) (now links) (n .rows) × Ready Schema.Description (n .most) (now d) (n .description) (now di) × (g < 2017) × (e < n .most) × (left ≤ 33) ⌝ }
+    ensures { λ r. ⌜ (r ≡ meetsEntry left (entriesOf (now (s .entry))) (entriesOf (now (d .entry))) g e) × (now (adds .exit) ≡ now (adds .entry)) ⌝ }
 {
     if left == 0 {
         return false;
@@ -66,19 +68,19 @@ pub(crate) fn meets_entry(
     let entry = blocks::nth_entry(d, n.description, e);
     let kind = entry.kind;
     if kind != 5 {
-        return meets_atom(s, si, n.specimen, g, entry);
+        return meets_atom(s, si, rows, links, n, g, entry, adds);
     }
     let link = entry.link();
-    let mut h = last_group(si, g, link);
+    let mut h = last_group(si, n.most, g, link);
     loop {
         if h == 0 {
             break true;
         }
         if is_group(blocks::nth_entry(s, n.specimen, h), g, link) {
-            if !fits_place(s, si, d, di, n, h, e, left - 1) {
+            if !fits_place(s, si, rows, links, d, di, n, h, e, left - 1, adds) {
                 break false;
             }
         }
-        h = previous_of(si, h);
+        h = previous_of(si, n.most, h);
     }
 }

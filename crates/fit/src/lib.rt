@@ -7,12 +7,30 @@ mod answer;
 mod groups;
 mod index;
 mod judge;
+mod tables;
+mod totals;
 
 pub use answer::fit;
+pub use answer::fit_counted;
 
 // The fit answer: yes, no, or the refusal's number, the input and the place.
 pub enum FitAnswer {
     Yes,
     No,
     Refused(u8, u16, u16),
+}
+
+// The fit answer, with the number of additions of items in making the table of totals and in the walk over entries.
+pub struct Counted {
+    pub answer: FitAnswer,
+    pub table: u16,
+    pub walk: u16,
+}
+
+// The numbers of entries of the two inputs, of rows of the table of totals, and of buckets.
+pub(crate) struct Sizes {
+    pub specimen: usize,
+    pub description: usize,
+    pub rows: usize,
+    pub most: usize,
 }

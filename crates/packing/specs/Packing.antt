@@ -5,6 +5,7 @@ use Rattle.blocks.specs.declared.Reading.{Reading}
 use Rattle.blocks.specs.declared.Reading.the-variants as reading
 use Rattle.compare.specs.declared.Comparison.{Comparison}
 use Rattle.compare.specs.declared.Comparison.the-variants as comparison
+use Rattle.fit.specs.declared.Counted.{Counted}
 use Rattle.fit.specs.declared.FitAnswer.{FitAnswer}
 use Rattle.fit.specs.declared.FitAnswer.the-variants as fit
 use Rattle.normal.specs.declared.NormalAnswer.{NormalAnswer}
@@ -32,6 +33,15 @@ abbrev pub packFit : FitAnswer → ℕ
 packFit fit.Yes = packed 1 0 0 0
 packFit fit.No = packed 2 0 0 0
 packFit (fit.Refused k i p) = refusal k i p
+
+-- fitting with counts: "yes, no; first: additions in the walk, second: additions in making the table"
+abbrev pub packAdds : FitAnswer → ℕ → ℕ → ℕ
+packAdds fit.Yes walk table = packed 1 0 walk table
+packAdds fit.No walk table = packed 2 0 walk table
+packAdds (fit.Refused k i p) walk table = refusal k i p
+
+abbrev pub packCounted : Counted → ℕ
+packCounted c = packAdds (c .answer) (c .walk) (c .table)
 
 -- normalising: the entries written
 abbrev pub packNormal : NormalAnswer → ℕ

@@ -4,6 +4,7 @@
 mod packing;
 
 pub use packing::pack_comparison;
+pub use packing::pack_counted;
 pub use packing::pack_fit;
 pub use packing::pack_normal;
 pub use packing::pack_reading;

@@ -1,8 +1,9 @@
 // The number of 64 bits that stands for an answer.
 ghost use mathlib.Core.Path.{_≡_};
-ghost use Rattle.packing.specs.Packing.{packComparison, packFit, packNormal, packReading, packed};
+ghost use Rattle.packing.specs.Packing.{packAdds, packComparison, packCounted, packFit, packNormal, packReading, packed};
 use blocks::Reading;
 use compare::Comparison;
+use fit::Counted;
 use fit::FitAnswer;
 use normal::NormalAnswer;
 
@@ -32,6 +33,24 @@ pub fn pack_fit(answer: FitAnswer) -> u64
         FitAnswer::No => pack(2, 0, 0, 0),
         FitAnswer::Refused(number, input, place) => pack(0, number, input, place),
     }
+}
+
+// A fit answer with its counts of additions, in the walk and in making the table; or the refusal.
+fn pack_adds(answer: FitAnswer, walk: u16, table: u16) -> u64
+    ensures { λ r. ⌜ r ≡ packAdds answer walk table ⌝ }
+{
+    match answer {
+        FitAnswer::Yes => pack(1, 0, walk, table),
+        FitAnswer::No => pack(2, 0, walk, table),
+        FitAnswer::Refused(number, input, place) => pack(0, number, input, place),
+    }
+}
+
+// The fit answer with its counts: yes or no, with the additions; or the refusal.
+pub fn pack_counted(counted: Counted) -> u64
+    ensures { λ r. ⌜ r ≡ packCounted counted ⌝ }
+{
+    pack_adds(counted.answer, counted.walk, counted.table)
 }
 
 // What normalising answers: the entries written, or the refusal.

@@ -3,29 +3,31 @@
 use Prim.Native.Nat.{ℕ}
 use lib.Dec.{eqb}
 use lib.ListN.{length}
-use mathlib.Core.Bool.{Bool, _&&_, _||_, cond, false, not, true}
+use mathlib.Core.Bool.{Bool, _&&_, _||_, false, not, true}
 use mathlib.Core.List.{List}
-use mathlib.Core.Path.{_∙_, _≡_, ap, refl, sym}
+use mathlib.Core.Path.{_∙_, _≡_, ap, sym}
 use Rattle.base.proofs.Tests.{and-cases, and-left, and-right, or-one}
 use Rattle.blocks.proofs.Refusing.EntryLaws.{of-nth}
 use Rattle.blocks.specs.Entries.{entriesOf, entryOf, nth}
 use Rattle.blocks.specs.Owners.{ownerOf}
+use Rattle.blocks.specs.Single.{itemsUpTo}
 use Rattle.blocks.specs.declared.Entry.{Entry}
 use Rattle.blocks.specs.declared.Schema.{Schema}
 use Rattle.blocks.specs.declared.Schema.the-variants.{Specimen}
-use Rattle.fit.proofs.index.BucketLaws.{all-bucket, elsewhere, sum-bucket}
-use Rattle.fit.specs.code.Groups.{givesProperty, hasProperty, itemsBy, totalBy}
-use Rattle.fit.specs.code.Index.{Ready, bucketOf, hashOf, isOf}
-use Rattle.meaning.specs.Owned.{allWhere, sumWhere}
+use Rattle.fit.proofs.index.BucketLaws.{all-bucket, elsewhere}
+use Rattle.fit.specs.Totals.{TotalsOf}
+use Rattle.fit.specs.code.Groups.{givesProperty, hasProperty, totalBy}
+use Rattle.fit.specs.code.Index.{Ready, anyOf, bucketOf, hashOf, isOf, notOf}
+use Rattle.fit.specs.code.Rows.{Known}
 
 -- what was worked out of the entry that was read is true of entry k of the list
-pub read-here : {A : Type 0} {σ : Schema} {s : List ℕ} {total : ℕ} {t : List ℕ} → Ready σ s total t → (f : Entry → A) (k : ℕ) {e : Entry} {r : A}
+pub read-here : {A : Type 0} {σ : Schema} {most : ℕ} {s : List ℕ} {total : ℕ} {t : List ℕ} → Ready σ most s total t → (f : Entry → A) (k : ℕ) {e : Entry} {r : A}
     → e ≡ entryOf s total k → r ≡ f e → f (nth (entriesOf s) k) ≡ r
-read-here {A} {σ} {s} {total} R f k a b = sym (b ∙ ap f (a ∙ of-nth s total k (R .count)))
+read-here {A} {σ} {most} {s} {total} R f k a b = sym (b ∙ ap f (a ∙ of-nth s total k (R .count)))
 
 -- ---- an entry that was read
 
-module _ {s : List ℕ} {total : ℕ} {t : List ℕ} (R : Ready Specimen s total t) (g kind name k : ℕ) {e : Entry} {r : Bool}
+module _ {most : ℕ} {s : List ℕ} {total : ℕ} {t : List ℕ} (R : Ready Specimen most s total t) (g kind name k : ℕ) {e : Entry} {r : Bool}
     (a : e ≡ entryOf s total k) (b : r ≡ isOf e g kind name) where
   of-read : isOf (nth (entriesOf s) k) g kind name ≡ r
   of-read = read-here R (λ (x : Entry). isOf x g kind name) k a b
@@ -46,46 +48,26 @@ module _ {s : List ℕ} {total : ℕ} {t : List ℕ} (R : Ready Specimen s total
       let x = nth (entriesOf s) k in
       and-cases (eqb (x .owner) g) (eqb (x .kind) kind && eqb (x .name) name) (of-read ∙ y)
 
+-- what entry k was read to be decides
+module _ {most : ℕ} {s : List ℕ} {total : ℕ} {t : List ℕ} (R : Ready Specimen most s total t) (g kind name k : ℕ) {e : Entry} {r : Bool}
+    (a : e ≡ entryOf s total k) (b : r ≡ isOf e g kind name) where
+  pub is-here : r ≡ true → notOf (entriesOf s) g kind name k ≡ false
+  is-here q = let y = owned-here R g kind name k a b q in rw (y .0, y .1)
+
+  pub is-else : r ≡ false → notOf (entriesOf s) g kind name k ≡ true
+  is-else q = owned-else R g kind name k a b q (λ o. rw o) (λ m. rw m (or-one (not (eqb (ownerOf (entriesOf s) k) g))))
+
 -- ---- properties
 
--- entry k does not give property p to group g
-abbrev pub withoutProperty : List Entry → ℕ → ℕ → ℕ → Bool
-withoutProperty es g p k = not (eqb (ownerOf es k) g) || not (givesProperty es p k)
-
-pub property-bucket : (es : List Entry) (g p : ℕ)
-    → hasProperty es g p ≡ not (allWhere (bucketOf Specimen es) (withoutProperty es g p) (hashOf g 1 p) (length es))
-unfolding hasProperty
-property-bucket es g p =
-    ap not (all-bucket (ownerOf es) (bucketOf Specimen es) (λ k. not (givesProperty es p k)) g (hashOf g 1 p)
-    (λ k out. elsewhere es g 1 p k out (λ o. rw o) (λ m. rw m (or-one (not (eqb (ownerOf es k) g))))) (length es))
-
--- what entry k was read to be decides
-module _ {s : List ℕ} {total : ℕ} {t : List ℕ} (R : Ready Specimen s total t) (g p k : ℕ) {e : Entry} {r : Bool}
-    (a : e ≡ entryOf s total k) (b : r ≡ isOf e g 1 p) where
-  pub property-here : r ≡ true → withoutProperty (entriesOf s) g p k ≡ false
-  property-here q = let y = owned-here R g 1 p k a b q in rw (y .0, y .1)
-
-  pub property-else : r ≡ false → withoutProperty (entriesOf s) g p k ≡ true
-  property-else q = owned-else R g 1 p k a b q (λ o. rw o) (λ m. rw m (or-one (not (eqb (ownerOf (entriesOf s) k) g))))
+pub property-bucket : (most : ℕ) (es : List Entry) (g p : ℕ) {b : ℕ} {r : Bool} → b ≡ hashOf most g 1 p → r ≡ anyOf most es b g 1 p → r ≡ hasProperty es g p
+unfolding hasProperty anyOf
+property-bucket most es g p is h =
+    h ∙ rw (is, anyOf) (ap not (sym (all-bucket (ownerOf es) (bucketOf Specimen most es) (λ k. not (givesProperty es p k)) g (hashOf most g 1 p)
+    (λ k out. elsewhere most es g 1 p k out (λ o. rw o) (λ m. rw m (or-one (not (eqb (ownerOf es k) g))))) (length es))))
 
 -- ---- totals
 
-pub cond-none : (b : Bool) → cond {A = ℕ} b 0 0 ≡ 0
-cond-none true = refl
-cond-none false = refl
-
--- the items that entry k adds for group g and link l
-abbrev pub itemsAt : List Entry → ℕ → ℕ → ℕ → ℕ
-itemsAt es g l k = cond (eqb (ownerOf es k) g) (itemsBy (nth es k) l) 0
-
-pub total-bucket : (es : List Entry) (g l : ℕ) → totalBy es g l ≡ sumWhere (bucketOf Specimen es) (itemsAt es g l) (hashOf g 7 l) (length es)
-unfolding totalBy
-total-bucket es g l =
-    sum-bucket (ownerOf es) (bucketOf Specimen es) (λ k. itemsBy (nth es k) l) g (hashOf g 7 l)
-    (λ k out. elsewhere es g 7 l k out (λ o. rw o) (λ m. rw m (cond-none (eqb (ownerOf es k) g)))) (length es)
-
--- the items that the entry that was read adds
-pub items-here : {s : List ℕ} {total : ℕ} {t : List ℕ} → Ready Specimen s total t → (g l k : ℕ) {e : Entry} {r : ℕ}
-    → e ≡ entryOf s total k → r ≡ cond (eqb (e .owner) g) (itemsBy e l) 0 → itemsAt (entriesOf s) g l k ≡ r
-unfolding ownerOf
-items-here R g l k a b = read-here R (λ (e : Entry). cond (eqb (e .owner) g) (itemsBy e l) 0) k a b
+-- what the table has for every list of entries that it is of, it has for the specimen's
+pub table-total : {most : ℕ} {s : List ℕ} {n : ℕ} {si rows links : List ℕ} {used r : ℕ} (o l : ℕ) → Known most s n si rows links used
+    → ((es : List Entry) → (m : ℕ) → TotalsOf es m rows used → r ≡ itemsUpTo es o l m) → r ≡ totalBy (entriesOf s) o l
+table-total {most} {s} o l K h = h (entriesOf s) (length (entriesOf s)) (rw (K .ready .count) at (K .totals))

@@ -16,8 +16,8 @@ use Rattle.base.proofs.Tests.{eq-eqb, or-one}
 use Rattle.base.specs.Chain.{OnChain}
 use Rattle.blocks.specs.Entries.{entriesOf}
 use Rattle.blocks.specs.declared.Schema.{Schema}
-use Rattle.fit.specs.code.Index.{Indexed, Ready, bucketOf}
-use Rattle.meaning.specs.Owned.{allWhere, sumWhere}
+use Rattle.fit.specs.code.Index.{Indexed, Ready, bucketOf, chained}
+use Rattle.meaning.specs.Owned.{allWhere}
 
 module _ (c : ℕ → ℕ) where
   -- ---- an entry that is not the bucket's
@@ -25,10 +25,6 @@ module _ (c : ℕ → ℕ) where
   skip-all : (p : ℕ → Bool) (b k : ℕ) → eqb (c (suc k)) b ≡ false → allWhere c p b (suc k) ≡ allWhere c p b k
   unfolding allWhere
   skip-all p b k q = rw q
-
-  skip-sum : (f : ℕ → ℕ) (b k : ℕ) → eqb (c (suc k)) b ≡ false → sumWhere c f b (suc k) ≡ sumWhere c f b k
-  unfolding sumWhere
-  skip-sum f b k q = rw q (omega arith)
 
   -- ---- an entry of the bucket
 
@@ -42,64 +38,53 @@ module _ (c : ℕ → ℕ) where
   all-no p b zero z q y = absurd (z refl)
   all-no p b (suc k) z q y = rw (allWhere, y, eq-eqb q)
 
-  sum-here : (f : ℕ → ℕ) (b k : ℕ) → k ≢ 0 → c k ≡ b → sumWhere c f b k ≡ f k + sumWhere c f b (k - 1)
-  unfolding sumWhere
-  sum-here f b zero z q = absurd (z refl)
-  sum-here f b (suc k) z q = rw (sumWhere, eq-eqb q, sub-one)
-
   -- ---- the end of a walk
 
   pub all-ends : (p : ℕ → Bool) (b : ℕ) {k : ℕ} → k ≡ 0 → allWhere c p b k ≡ true
   unfolding allWhere
   all-ends p b e = rw e
 
-  pub sum-ends : (f : ℕ → ℕ) (b : ℕ) {k : ℕ} → k ≡ 0 → sumWhere c f b k ≡ 0
-  unfolding sumWhere
-  sum-ends f b e = rw e
-
 -- ---- a walk
 
 -- the buckets of an input's entries
-abbrev buckets : Schema → List ℕ → ℕ → ℕ
-buckets σ s = bucketOf σ (entriesOf s)
+abbrev buckets : Schema → ℕ → List ℕ → ℕ → ℕ
+buckets σ most s = bucketOf σ most (entriesOf s)
 
-module _ {σ : Schema} {s : List ℕ} {total : ℕ} {t : List ℕ} (R : Ready σ s total t) (b : ℕ) {k : ℕ} where
+module _ {σ : Schema} {most : ℕ} {s : List ℕ} {total : ℕ} {t : List ℕ} (R : Ready σ most s total t) (b : ℕ) {k : ℕ} where
   -- it begins at the last entry
-  pub all-starts : (p : ℕ → Bool) → b < 2017 → k ≡ getD t b 0 → allWhere (buckets σ s) p b (length (entriesOf s)) ≡ allWhere (buckets σ s) p b k
-  all-starts p h e = rw (← R .count) (skip-starts (R .index .chains) b h e (allWhere (buckets σ s) p b) (skip-all (buckets σ s) p b))
-
-  pub sum-starts : (f : ℕ → ℕ) → b < 2017 → k ≡ getD t b 0 → sumWhere (buckets σ s) f b (length (entriesOf s)) ≡ sumWhere (buckets σ s) f b k
-  sum-starts f h e = rw (← R .count) (skip-starts (R .index .chains) b h e (sumWhere (buckets σ s) f b) (skip-sum (buckets σ s) f b))
+  pub all-starts : (p : ℕ → Bool) → b < most → k ≡ getD t b 0 → allWhere (buckets σ most s) p b (length (entriesOf s)) ≡ allWhere (buckets σ most s) p b k
+  all-starts p h e = rw (← R .count) (skip-starts (R .index .chains) b h e (allWhere (buckets σ most s) p b) (skip-all (buckets σ most s) p b))
 
   -- it goes on to the entry before
-  module _ (S : OnChain (buckets σ s) b k total) (z : k ≢ 0) {j : ℕ} (e : j ≡ getD t (2017 + k) 0) where
-    pub all-goes : (p : ℕ → Bool) → p k ≡ true → allWhere (buckets σ s) p b k ≡ allWhere (buckets σ s) p b j
-    all-goes p y = all-yes (buckets σ s) p b k z y ∙ skip-goes (R .index .chains) b S z e (allWhere (buckets σ s) p b) (skip-all (buckets σ s) p b)
-
-    pub sum-goes : (f : ℕ → ℕ) → sumWhere (buckets σ s) f b k ≡ f k + sumWhere (buckets σ s) f b j
-    sum-goes f =
-        sum-here (buckets σ s) f b k z (S .bucket z)
-        ∙ ap (λ (x : ℕ). f k + x) (skip-goes (R .index .chains) b S z e (sumWhere (buckets σ s) f b) (skip-sum (buckets σ s) f b))
+  module _ (S : OnChain (buckets σ most s) b k total) (z : k ≢ 0) {j : ℕ} (e : j ≡ getD t (most + k) 0) where
+    pub all-goes : (p : ℕ → Bool) → p k ≡ true → allWhere (buckets σ most s) p b k ≡ allWhere (buckets σ most s) p b j
+    all-goes p y = all-yes (buckets σ most s) p b k z y ∙ skip-goes (R .index .chains) b S z e (allWhere (buckets σ most s) p b) (skip-all (buckets σ most s) p b)
 
 -- ---- the index
 
-pub index-starts : (c : ℕ → ℕ) {t : List ℕ} → t ≡ replicate 4034 0 → Indexed c t 0
-index-starts c {t} e = record {
-  size = ap length e ∙ length-replicate {A = ℕ} 4034 0;
-  chains = chains-start c (λ k. getD t (2017 + k) 0) (λ b h. zeros-read 4034 e b);
+pub index-starts : (most : ℕ) (c : ℕ → ℕ) {t : List ℕ} → 0 < most → most ≤ 2017 → t ≡ replicate (most + most) 0 → Indexed most c t 0
+index-starts most c {t} pos small e = record {
+  sized = small;
+  below = pos;
+  size = ap length e ∙ length-replicate {A = ℕ} (most + most) 0;
+  chains = chains-start c (λ k. getD t (most + k) 0) (λ b h. zeros-read (most + most) e b);
 }
 
-pub index-more : (c : ℕ → ℕ) (t : List ℕ) (n : ℕ) {b : ℕ} → 1 ≤ n → n ≤ 2016 → Indexed c t (n - 1) → b ≡ c n → b < 2017
-    → Indexed c (set (set t (2017 + n) (getD t b 0)) b n) n
-index-more c t n {b} lo hi I e l =
+-- a number more, put in front of the chain of its bucket; the buckets of the others are what they were
+pub index-more : {most : ℕ} {c c′ : ℕ → ℕ} {t t′ : List ℕ} {n m b : ℕ} → Indexed most c t n → m ≡ suc n → m < most → ((k : ℕ) → k ≢ m → c′ k ≡ c k)
+    → c′ m ≡ b → b < most → t′ ≡ chained t most m b → Indexed most c′ t′ m
+unfolding chained
+index-more {most} {c} {c′} {t} {t′} {n} {m} {b} I is below old new l e =
     let x = getD t b 0 in
-    let u = set t (2017 + n) x in
-    let long : length u ≡ 4034 = length-set t (2017 + n) x ∙ I .size in
-    record {
-      size = length-set u b n ∙ long;
-      chains = chains-more (I .chains) (omega arith) (λ k z. refl) (sym e) l
-          (λ k z. getD-set-other u b (2017 + k) n 0 (λ y. omega arith) ∙ getD-set-other t (2017 + n) (2017 + k) x 0 (λ y. omega arith))
-          (getD-set-other u b (2017 + n) n 0 (λ y. omega arith) ∙ getD-set-same t (2017 + n) x 0 (omega (arith, I .size)))
-          (λ q h z. getD-set-other u b q n 0 z ∙ getD-set-other t (2017 + n) q x 0 (λ y. omega arith))
-          (getD-set-same u b n 0 (omega arith));
-    }
+    let u = set t (most + m) x in
+    let long : length u ≡ most + most = length-set t (most + m) x ∙ I .size in
+    rw e (record {
+      sized = I .sized;
+      below = below;
+      size = length-set u b m ∙ long;
+      chains = chains-more (I .chains) is old new l
+          (λ k z. getD-set-other u b (most + k) m 0 (λ y. omega arith) ∙ getD-set-other t (most + m) (most + k) x 0 (λ y. omega arith))
+          (getD-set-other u b (most + m) m 0 (λ y. omega arith) ∙ getD-set-same t (most + m) x 0 (omega (arith, I .size)))
+          (λ q h z. getD-set-other u b q m 0 z ∙ getD-set-other t (most + m) q x 0 (λ y. omega arith))
+          (getD-set-same u b m 0 (omega arith));
+    })

@@ -46,15 +46,15 @@ meets-groups (suc left) s d g e z a k n =
 abbrev pub ownFits : ℕ → List Entry → List Entry → ℕ → ℕ → ℕ → ℕ → Bool
 ownFits left s d e g l k = not (eqb (ownerOf s k) g) || groupFits left s d e l k
 
-pub meets-bucket : (left : ℕ) (s d : List Entry) (g e : ℕ) {x : Entry} {l : ℕ} → left ≢ 0 → x ≡ nth d e → x .kind ≡ 5 → l ≡ x .name
-    → meetsEntry left s d g e ≡ allWhere (bucketOf Specimen s) (ownFits (left - 1) s d e g l) (hashOf g 7 l) (length s)
-meets-bucket left s d g e {x} {l} z a k n =
+pub meets-bucket : (most left : ℕ) (s d : List Entry) (g e : ℕ) {x : Entry} {l : ℕ} → left ≢ 0 → x ≡ nth d e → x .kind ≡ 5 → l ≡ x .name
+    → meetsEntry left s d g e ≡ allWhere (bucketOf Specimen most s) (ownFits (left - 1) s d e g l) (hashOf most g 7 l) (length s)
+meets-bucket most left s d g e {x} {l} z a k n =
     meets-groups left s d g e z a k n
-    ∙ all-bucket (ownerOf s) (bucketOf Specimen s) (groupFits (left - 1) s d e l) g (hashOf g 7 l)
-    (λ k out. elsewhere s g 7 l k out (λ o. rw o) (λ m. rw m (or-one (not (eqb (ownerOf s k) g))))) (length s)
+    ∙ all-bucket (ownerOf s) (bucketOf Specimen most s) (groupFits (left - 1) s d e l) g (hashOf most g 7 l)
+    (λ k out. elsewhere most s g 7 l k out (λ o. rw o) (λ m. rw m (or-one (not (eqb (ownerOf s k) g))))) (length s)
 
 -- what entry k was read to be decides
-module _ {s : List ℕ} {total : ℕ} {t : List ℕ} (R : Ready Specimen s total t) (left : ℕ) (d : List Entry) (e g l k : ℕ) {x : Entry} {r : Bool}
+module _ {most : ℕ} {s : List ℕ} {total : ℕ} {t : List ℕ} (R : Ready Specimen most s total t) (left : ℕ) (d : List Entry) (e g l k : ℕ) {x : Entry} {r : Bool}
     (a : x ≡ entryOf s total k) (b : r ≡ isOf x g 7 l) where
   pub other-passes : r ≡ false → ownFits left (entriesOf s) d e g l k ≡ true
   other-passes q = owned-else R g 7 l k a b q (λ o. rw o) (λ m. rw m (or-one (not (eqb (ownerOf (entriesOf s) k) g))))

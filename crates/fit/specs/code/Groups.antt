@@ -7,8 +7,9 @@ use Prim.Native.Nat.{ℕ, zero, suc}
 use lib.Dec.{leb, eqb}
 use lib.ListN.{length}
 use Rattle.blocks.specs.Entries.{nth}
+use Rattle.blocks.specs.Single.{itemsUpTo}
 use Rattle.blocks.specs.declared.Entry.{Entry}
-use Rattle.meaning.specs.Owned.{allOwned, sumOwned}
+use Rattle.meaning.specs.Owned.{allOwned}
 
 -- entry k gives property p; it is a group by link l
 abbrev pub givesProperty : List Entry → ℕ → ℕ → Bool
@@ -21,13 +22,9 @@ isGroup s l k = eqb (nth s k .kind) 7 && eqb (nth s k .name) l
 unfoldable pub hasProperty : List Entry → ℕ → ℕ → Bool
 hasProperty s g p = not (allOwned (λ k. not (givesProperty s p k)) s g (length s))
 
--- the items that an entry adds for link l
-abbrev pub itemsBy : Entry → ℕ → ℕ
-itemsBy e l = cond (eqb (e .kind) 7 && eqb (e .name) l) (suc (e .number)) 0
-
 -- the items that an item of group g is linked to by l: "Groups of one owner and link add up"
-unfoldable pub totalBy : List Entry → ℕ → ℕ → ℕ
-totalBy s g l = sumOwned (λ k. itemsBy (nth s k) l) s g (length s)
+abbrev pub totalBy : List Entry → ℕ → ℕ → ℕ
+totalBy s g l = itemsUpTo s g l (length s)
 
 -- each group of owner g by link l passes
 unfoldable pub groupsBy : (ℕ → Bool) → List Entry → ℕ → ℕ → Bool

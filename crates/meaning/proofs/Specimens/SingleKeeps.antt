@@ -35,7 +35,7 @@ unfolding sum sumIn
 sum-list f [] = refl
 sum-list f (e ∷ es) = sum-front (λ i. f (getD (e ∷ es) i zeroEntry)) (length es) ∙ rw (sum-list f es)
 
-brought-linked : (es : List Entry) (o l : ℕ) → itemsUpTo es o l (length es) ≡ linkedItems es o l
+pub brought-linked : (es : List Entry) (o l : ℕ) → itemsUpTo es o l (length es) ≡ linkedItems es o l
 unfolding itemsUpTo linkedItems nth
 brought-linked es o l = sum-list (itemsFor o l) es
 

@@ -1,22 +1,12 @@
--- `fit` meets its contract.
+-- `fit` meets its contract: the answer, without the counts.
 use borrow.Author.Needs.{needs}
-use mathlib.Core.Path.{_∙_, sym}
-use Rattle.fit.proofs.AnswerLaws.{first-accepted, first-refused}
+use mathlib.Core.Path.{ap}
+use Rattle.fit.specs.declared.Counted.{Counted}
 use Rattle.fit.proofs.answer.fit.Statement.{statement}
 use Rattle.fit.proofs.answer.fit.Tie as tie
 
-fit-accepted-requires : tie.Need-fit-accepted-requires
-fit-accepted-requires c κs = sym (c .before .before .before .read .ensures) ∙ c .before .first2 .given .1
-
 returns : tie.Need-returns
-returns c = first-refused _ _ (c .before .before .before .read .ensures) (c .before .first .given .1)
-
-returns-2 : tie.Need-returns-2
-returns-2 c =
-    first-accepted _ _ (c .before .before .before .before .read .ensures) (c .before .before .first2 .given .1) (c .fit-accepted .ensures)
+returns c = ap (λ (r : Counted). r .answer) (c .fit-counted .ensures)
 
 pub fit-spec : {M : Type 1} → statement M
-fit-spec =
-    tie.close
-    (tie.spec (λ c κs. search needs) (λ c. search needs) (λ c. search needs) (λ c. search needs) fit-accepted-requires
-    returns returns-2)
+fit-spec = tie.close (tie.spec (λ c κs. search needs) returns)

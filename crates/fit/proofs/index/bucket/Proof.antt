@@ -2,19 +2,18 @@
 use borrow.Author.Needs.{needs}
 use mathlib.Core.Path.{_∙_, ap}
 use Prim.Native.Nat.{ℕ}
-use native.Mathlib.Omega.{arith}
 use Rattle.fit.specs.code.Index.{hashOf}
 use Rattle.fit.proofs.index.bucket.Statement.{statement}
 use Rattle.fit.proofs.index.bucket.Tie as tie
 
 returns : tie.Need-returns
-returns c = (rw (c .before .enum-told .given .1) (c .wide .ensures .0), c .wide .ensures .1)
+returns c = rw (c .before .enum-told .given .1) (c .wide .ensures .0)
 
 returns-2 : tie.Need-returns-2
 returns-2 c =
-    let e = c .before .before .before .before .args .e in
-    let h = c .hash .ensures in
-    (rw (c .before .before .enum-told2 .given .1) (h .0 ∙ ap (λ (o : ℕ). hashOf o (e .kind) (e .name)) (c .before .wide2 .ensures .0)), omega arith)
+    let a = c .before .before .before .before .args in
+    rw (c .before .before .enum-told2 .given .1)
+    (c .hash .ensures .0 ∙ ap (λ (o : ℕ). hashOf (a .most) o (a .e .kind) (a .e .name)) (c .before .wide2 .ensures .0))
 
 pub bucket-spec : {M : Type 1} → statement M
 bucket-spec =

@@ -8,10 +8,8 @@ use Rattle.fit.proofs.index.last_group.Tie as tie
 
 returns : tie.Need-returns
 returns c =
-    let a = c .before .before in
+    let a = c .before .before .before in
     c .last-of .ensures ∙ ap (λ (b : ℕ). getD (a .args .index .now) b 0) (c .before .hash .ensures .0)
 
 pub last-group-spec : {M : Type 1} → statement M
-last-group-spec =
-    tie.close
-    (tie.spec (λ c κs. search needs) (λ c κs. search needs) returns)
+last-group-spec = tie.close (tie.spec (λ c κs. search needs) (λ c κs. search needs) returns)

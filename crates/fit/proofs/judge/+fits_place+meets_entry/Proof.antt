@@ -1,7 +1,8 @@
--- `fits_place` and `meets_entry` meet their contracts. Each call goes to fewer levels, or from a place to its entries at the same level.
+-- `fits_place` and `meets_entry` meet their contracts. Each call goes to fewer levels, or from a place to its entries at the same level. The
+-- counter of additions comes back as it was.
 use Prim.Native.Nat.{ℕ, _+_, _*_, _-_, _<_}
 use native.Mathlib.Omega.{arith}
-use mathlib.Core.Path.{_≡_, sym, _∙_}
+use mathlib.Core.Path.{_≡_, refl, sym, _∙_}
 use mathlib.Core.Logic.{⊎-elim}
 use borrow.Author.Needs.{needs}
 use borrow.Fn.Kinds.{In}
@@ -35,23 +36,23 @@ use Rattle.fit.proofs.index.previous_of.Reads as previous-of-reads
 use Rattle.fit.proofs.judge.+fits_place+meets_entry.{statement}
 use Rattle.fit.proofs.judge.+fits_place+meets_entry.Tie.{close}
 
-abbrev μ-fits-place : Measures 4 fits-place-kinds.ps ℕ
-μ-fits-place κs a = 2 * a .1 .1 .1 .1 .1 .1 .1 .0 + 1
+abbrev μ-fits-place : Measures 7 fits-place-kinds.ps ℕ
+μ-fits-place κs a = 2 * a .1 .1 .1 .1 .1 .1 .1 .1 .1 .0 + 1
 
-abbrev μ-meets-entry : Measures 4 meets-entry-kinds.ps ℕ
-μ-meets-entry κs a = 2 * a .1 .1 .1 .1 .1 .1 .1 .0
+abbrev μ-meets-entry : Measures 7 meets-entry-kinds.ps ℕ
+μ-meets-entry κs a = 2 * a .1 .1 .1 .1 .1 .1 .1 .1 .1 .0
 
-abbrev fits-place-at : ℕ → In 4 fits-place-kinds.ps
-fits-place-at t = and 4 fits-place-kinds.ps (is 4 fits-place-kinds.ps μ-fits-place t) fits-place.Pre
+abbrev fits-place-at : ℕ → In 7 fits-place-kinds.ps
+fits-place-at t = and 7 fits-place-kinds.ps (is 7 fits-place-kinds.ps μ-fits-place t) fits-place.Pre
 
-abbrev fits-place-below : ℕ → In 4 fits-place-kinds.ps
-fits-place-below t = and 4 fits-place-kinds.ps (falls 4 fits-place-kinds.ps _<_ μ-fits-place t) fits-place.Pre
+abbrev fits-place-below : ℕ → In 7 fits-place-kinds.ps
+fits-place-below t = and 7 fits-place-kinds.ps (falls 7 fits-place-kinds.ps _<_ μ-fits-place t) fits-place.Pre
 
-abbrev meets-entry-at : ℕ → In 4 meets-entry-kinds.ps
-meets-entry-at t = and 4 meets-entry-kinds.ps (is 4 meets-entry-kinds.ps μ-meets-entry t) meets-entry.Pre
+abbrev meets-entry-at : ℕ → In 7 meets-entry-kinds.ps
+meets-entry-at t = and 7 meets-entry-kinds.ps (is 7 meets-entry-kinds.ps μ-meets-entry t) meets-entry.Pre
 
-abbrev meets-entry-below : ℕ → In 4 meets-entry-kinds.ps
-meets-entry-below t = and 4 meets-entry-kinds.ps (falls 4 meets-entry-kinds.ps _<_ μ-meets-entry t) meets-entry.Pre
+abbrev meets-entry-below : ℕ → In 7 meets-entry-kinds.ps
+meets-entry-below t = and 7 meets-entry-kinds.ps (falls 7 meets-entry-kinds.ps _<_ μ-meets-entry t) meets-entry.Pre
 
 -- what each knows of the functions that it calls
 abbrev fits-place-calls : ℕ → fits-place-lts.Claims
@@ -76,160 +77,188 @@ meets-entry-calls t = (
   previous-of-reads.Learnt,
 )
 
--- ---- fitting a place: what the entries left ask is what the place asks
+-- ---- fitting a place: what the entries left ask is what the place asks, and nothing was added
 
 abbrev fits-place-Inv-loop : fits-place-lts.InvT-loop
-fits-place-Inv-loop s si d di n g o left e₀ e =
+fits-place-Inv-loop s si rows links d di n g o left adds₀ e₀ adds e =
     OnChain (ownerOf (entriesOf d)) o e (n .description)
     × (fitsPlace left (entriesOf s) (entriesOf d) g o ≡ allOwned (meetsEntry left (entriesOf s) (entriesOf d) g) (entriesOf d) o e)
+    × (adds ≡ adds₀)
 
 abbrev fits-place-μ-loop : fits-place-lts.MeasureT-loop
-fits-place-μ-loop s si d di n g o left e₀ e = e
+fits-place-μ-loop s si rows links d di n g o left adds₀ e₀ adds e = e
+
+fits-place-last-of-requires : (t : ℕ) → fits-place-lts.Need-last-of-requires (fits-place-calls t) (fits-place-at t) fits-place.Post fits-place-Inv-loop fits-place-μ-loop
+fits-place-last-of-requires t c κs =
+    let a = c .before .before .before .before .before .before in
+    omega (arith, a .pre .1 .1 .index .size, a .pre .1 .3)
 
 fits-place-loop-holds : (t : ℕ) → fits-place-lts.Need-loop-holds (fits-place-calls t) (fits-place-at t) fits-place.Post fits-place-Inv-loop fits-place-μ-loop
 fits-place-loop-holds t c =
-    let a = c .before .before .before in
+    let a = c .before .before .before .before .before .before .before in
     let R = a .pre .1 .1 in (
       walk-starts (R .index .chains) _ (a .pre .1 .3) (c .last-of .ensures),
       all-starts R _ (meetsEntry (a .args .left) (entriesOf (a .args .s .now)) (entriesOf (a .args .d .now)) (a .args .g)) (a .pre .1 .3) (c .last-of .ensures),
+      refl,
     )
 
 fits-place-meets-entry-requires : (t : ℕ) → fits-place-lts.Need-meets-entry-requires (fits-place-calls t) (fits-place-at t) fits-place.Post fits-place-Inv-loop fits-place-μ-loop
 fits-place-meets-entry-requires t c κs =
-    let l = c .before in
-    let a = l .before .before .before .before in
-    (omega arith, (a .pre .1 .0, a .pre .1 .1, a .pre .1 .2, omega (arith, l .loop .inv .0 .bound, a .pre .1 .1 .few), a .pre .1 .4))
+    let l = c .before .before in
+    let a = l .before .before .before .before .before .before .before .before in
+    (omega arith, (a .pre .1 .0, a .pre .1 .1, a .pre .1 .2, omega (arith, l .loop .inv .0 .bound, a .pre .1 .1 .index .below), a .pre .1 .4))
 
 fits-place-previous-of-requires : (t : ℕ) → fits-place-lts.Need-previous-of-requires (fits-place-calls t) (fits-place-at t) fits-place.Post fits-place-Inv-loop fits-place-μ-loop
 fits-place-previous-of-requires t c κs =
-    let l = c .before .before .before in
-    let a = l .before .before .before .before in
-    omega (arith, l .loop .inv .0 .bound, a .pre .1 .1 .few)
+    let l = c .before .before .before .before in
+    let a = l .before .before .before .before .before .before .before .before in
+    omega (arith, l .loop .inv .0 .bound, a .pre .1 .1 .index .below, a .pre .1 .1 .index .size)
 
 fits-place-loop-less : (t : ℕ) → fits-place-lts.Need-loop-less (fits-place-calls t) (fits-place-at t) fits-place.Post fits-place-Inv-loop fits-place-μ-loop
 fits-place-loop-less t c =
-    let l = c .before .before .before .before in
-    let a = l .before .before .before .before in
-    walk-falls (a .pre .1 .1 .index .chains) _ (l .loop .inv .0) (c .before .before .before .if1 .left) (c .previous-of .ensures)
+    let l = c .before .before .before .before .before in
+    let a = l .before .before .before .before .before .before .before .before in
+    walk-falls (a .pre .1 .1 .index .chains) _ (l .loop .inv .0) (c .before .before .before .before .if1 .left) (c .previous-of .ensures)
 
 fits-place-loop-again : (t : ℕ) → fits-place-lts.Need-loop-again (fits-place-calls t) (fits-place-at t) fits-place.Post fits-place-Inv-loop fits-place-μ-loop
 fits-place-loop-again t c =
-    let l = c .before .before .before .before in
-    let a = l .before .before .before .before in
-    let z = c .before .before .before .if1 .left in (
+    let l = c .before .before .before .before .before in
+    let a = l .before .before .before .before .before .before .before .before in
+    let z = c .before .before .before .before .if1 .left in (
       walk-goes (a .pre .1 .1 .index .chains) _ (l .loop .inv .0) z (c .previous-of .ensures),
       l .loop .inv .1 ∙ all-goes (a .pre .1 .1) _ (l .loop .inv .0) z (c .previous-of .ensures)
           (meetsEntry (a .args .left) (entriesOf (a .args .s .now)) (entriesOf (a .args .d .now)) (a .args .g))
-          (confirmed (c .before .before .meets-entry .ensures) (c .before .if2 .left)),
+          (confirmed (c .before .before .meets-entry .ensures .0) (c .before .if2 .left)),
+      c .before .before .meets-entry .ensures .1 ∙ l .loop .inv .2,
     )
 
 fits-place-returns : (t : ℕ) → fits-place-lts.Need-returns (fits-place-calls t) (fits-place-at t) fits-place.Post fits-place-Inv-loop fits-place-μ-loop
 fits-place-returns t c =
     let l = c .before in
-    let a = l .before .before .before .before in
-    sym (l .loop .inv .1 ∙ all-ends (ownerOf (entriesOf (a .args .d .now))) (meetsEntry (a .args .left) (entriesOf (a .args .s .now)) (entriesOf (a .args .d .now)) (a .args .g)) _ (c .if1 .taken))
+    let a = l .before .before .before .before .before .before .before .before in
+    (sym (l .loop .inv .1 ∙ all-ends (ownerOf (entriesOf (a .args .d .now))) (meetsEntry (a .args .left) (entriesOf (a .args .s .now)) (entriesOf (a .args .d .now)) (a .args .g)) _ (c .if1 .taken)), l .loop .inv .2)
 
 fits-place-returns-2 : (t : ℕ) → fits-place-lts.Need-returns-2 (fits-place-calls t) (fits-place-at t) fits-place.Post fits-place-Inv-loop fits-place-μ-loop
 fits-place-returns-2 t c =
-    let l = c .before .before .before in
-    let a = l .before .before .before .before in
-    let z = c .before .before .if1 .left in
-    sym (l .loop .inv .1 ∙ all-no (ownerOf (entriesOf (a .args .d .now))) (meetsEntry (a .args .left) (entriesOf (a .args .s .now)) (entriesOf (a .args .d .now)) (a .args .g)) _ _ z (l .loop .inv .0 .bucket z)
-    (refuted (c .before .meets-entry .ensures) (c .if2 .taken)))
+    let l = c .before .before .before .before in
+    let a = l .before .before .before .before .before .before .before .before in
+    let z = c .before .before .before .if1 .left in (
+      sym (l .loop .inv .1 ∙ all-no (ownerOf (entriesOf (a .args .d .now))) (meetsEntry (a .args .left) (entriesOf (a .args .s .now)) (entriesOf (a .args .d .now)) (a .args .g)) _ _ z (l .loop .inv .0 .bucket z)
+          (refuted (c .before .meets-entry .ensures .0) (c .if2 .taken))),
+      c .before .meets-entry .ensures .1 ∙ l .loop .inv .2,
+    )
 
--- ---- meeting an entry: of an 'every', what the groups left ask is what all ask
+-- ---- meeting an entry: of an 'every', what the groups left ask is what all ask, and nothing was added
 
 abbrev meets-entry-Inv-loop : meets-entry-lts.InvT-loop
-meets-entry-Inv-loop s si d di n g e left kind link h₀ h =
-    OnChain (bucketOf Specimen (entriesOf s)) (hashOf g 7 (link .0)) h (n .specimen)
+meets-entry-Inv-loop s si rows links d di n g e left adds₀ kind link h₀ adds h =
+    OnChain (bucketOf Specimen (n .most) (entriesOf s)) (hashOf (n .most) g 7 (link .0)) h (n .specimen)
     × (meetsEntry left (entriesOf s) (entriesOf d) g e
-    ≡ allWhere (bucketOf Specimen (entriesOf s)) (ownFits (left - 1) (entriesOf s) (entriesOf d) e g (link .0)) (hashOf g 7 (link .0)) h)
+    ≡ allWhere (bucketOf Specimen (n .most) (entriesOf s)) (ownFits (left - 1) (entriesOf s) (entriesOf d) e g (link .0)) (hashOf (n .most) g 7 (link .0)) h)
+    × (adds ≡ adds₀)
 
 abbrev meets-entry-μ-loop : meets-entry-lts.MeasureT-loop
-meets-entry-μ-loop s si d di n g e left kind link h₀ h = h
+meets-entry-μ-loop s si rows links d di n g e left adds₀ kind link h₀ adds h = h
 
 meets-entry-returns : (t : ℕ) → meets-entry-lts.Need-returns (meets-entry-calls t) (meets-entry-at t) meets-entry.Post meets-entry-Inv-loop meets-entry-μ-loop
-meets-entry-returns t c = meets-bottom _ _ _ _ _ (c .if1 .taken)
+meets-entry-returns t c = (meets-bottom _ _ _ _ _ (c .if1 .taken), refl)
 
 meets-entry-returns-2 : (t : ℕ) → meets-entry-lts.Need-returns-2 (meets-entry-calls t) (meets-entry-at t) meets-entry.Post meets-entry-Inv-loop meets-entry-μ-loop
 meets-entry-returns-2 t c =
-    let a = c .before .before .before .before .before .before in
-    meets-atoms _ _ _ _ _ (c .before .before .before .if1 .left) (c .before .before .nth-entry .ensures ∙ of-nth _ _ _ (a .pre .1 .1 .count))
-    (c .before .if2 .taken) (c .meets-atom .ensures)
+    let a = c .before .before .before .before .before .before .before .before .before .before .before in (
+      meets-atoms _ _ _ _ _ (c .before .before .before .before .if1 .left) (c .before .before .before .nth-entry .ensures ∙ of-nth _ _ _ (a .pre .1 .1 .count))
+          (c .before .before .if2 .taken) (c .meets-atom .ensures .0),
+      c .meets-atom .ensures .1,
+    )
+
+meets-entry-last-group-requires : (t : ℕ) → meets-entry-lts.Need-last-group-requires (meets-entry-calls t) (meets-entry-at t) meets-entry.Post meets-entry-Inv-loop meets-entry-μ-loop
+meets-entry-last-group-requires t c κs =
+    let a = c .before .before .before .before .before .before .before .before .before .before in
+    let I = a .pre .1 .0 .ready .index in
+    (omega (arith, I .below), omega (arith, I .size), a .pre .1 .2)
 
 meets-entry-loop-holds : (t : ℕ) → meets-entry-lts.Need-loop-holds (meets-entry-calls t) (meets-entry-at t) meets-entry.Post meets-entry-Inv-loop meets-entry-μ-loop
 meets-entry-loop-holds t c =
-    let a = c .before .before .before .before .before .before .before in
-    let R = a .pre .1 .0 in
+    let a = c .before .before .before .before .before .before .before .before .before .before .before in
+    let R = a .pre .1 .0 .ready in
+    let most = a .args .n .most in
     let g = a .args .g in
-    let link = c .before .link .result .0 in (
-      walk-starts (R .index .chains) _ (hash-below g 7 link) (c .last-group .ensures),
-      meets-bucket _ _ _ _ _ (c .before .before .before .before .if1 .left) (c .before .before .before .nth-entry .ensures ∙ of-nth _ _ _ (a .pre .1 .1 .count))
+    let link = c .before .link .result .0 in
+    let below = hash-below most g 7 link (omega (arith, R .index .below)) in (
+      walk-starts (R .index .chains) _ below (c .last-group .ensures),
+      meets-bucket most _ _ _ _ _ (c .before .before .before .before .if1 .left) (c .before .before .before .nth-entry .ensures ∙ of-nth _ _ _ (a .pre .1 .1 .count))
           (c .before .before .if2 .left) (c .before .link .ensures)
-          ∙ all-starts R _ (ownFits (a .args .left - 1) (entriesOf (a .args .s .now)) (entriesOf (a .args .d .now)) (a .args .e) g link) (hash-below g 7 link) (c .last-group .ensures),
+          ∙ all-starts R _ (ownFits (a .args .left - 1) (entriesOf (a .args .s .now)) (entriesOf (a .args .d .now)) (a .args .e) g link) below (c .last-group .ensures),
+      refl,
     )
 
 meets-entry-fits-place-requires : (t : ℕ) → meets-entry-lts.Need-fits-place-requires (meets-entry-calls t) (meets-entry-at t) meets-entry.Post meets-entry-Inv-loop meets-entry-μ-loop
 meets-entry-fits-place-requires t c κs =
-    let l = c .before .before .before .before in
-    let a = l .before .before .before .before .before .before .before .before in
-    (omega arith, (a .pre .1 .0, a .pre .1 .1, omega (arith, l .loop .inv .0 .bound, a .pre .1 .0 .few), a .pre .1 .3, omega arith))
+    let l = c .before .before .before .before .before in
+    let a = l .before .before .before .before .before .before .before .before .before .before .before .before in
+    let I = a .pre .1 .0 .ready .index in
+    (omega arith, (a .pre .1 .0, a .pre .1 .1, omega (arith, l .loop .inv .0 .bound, I .below, I .sized), a .pre .1 .3, omega arith))
 
 meets-entry-previous-of-requires : (t : ℕ) → meets-entry-lts.Need-previous-of-requires (meets-entry-calls t) (meets-entry-at t) meets-entry.Post meets-entry-Inv-loop meets-entry-μ-loop
 meets-entry-previous-of-requires t c κs =
     let l = c .before .before .before .before in
-    let a = l .before .before .before .before .before .before .before .before in
-    omega (arith, l .loop .inv .0 .bound, a .pre .1 .0 .few)
+    let a = l .before .before .before .before .before .before .before .before .before .before .before .before in
+    let I = a .pre .1 .0 .ready .index in
+    omega (arith, l .loop .inv .0 .bound, I .below, I .size)
 
 meets-entry-loop-less : (t : ℕ) → meets-entry-lts.Need-loop-less (meets-entry-calls t) (meets-entry-at t) meets-entry.Post meets-entry-Inv-loop meets-entry-μ-loop
 meets-entry-loop-less t c =
     let l = c .before .before .before .before .before in
-    let a = l .before .before .before .before .before .before .before .before in
-    walk-falls (a .pre .1 .0 .index .chains) _ (l .loop .inv .0) (c .before .before .before .before .if3 .left) (c .previous-of .ensures)
+    let a = l .before .before .before .before .before .before .before .before .before .before .before .before in
+    walk-falls (a .pre .1 .0 .ready .index .chains) _ (l .loop .inv .0) (c .before .before .before .before .if3 .left) (c .previous-of .ensures)
 
 meets-entry-loop-again : (t : ℕ) → meets-entry-lts.Need-loop-again (meets-entry-calls t) (meets-entry-at t) meets-entry.Post meets-entry-Inv-loop meets-entry-μ-loop
 meets-entry-loop-again t c =
     let l = c .before .before .before .before .before in
-    let a = l .before .before .before .before .before .before .before .before in
+    let a = l .before .before .before .before .before .before .before .before .before .before .before .before in
+    let R = a .pre .1 .0 .ready in
     let z = c .before .before .before .before .if3 .left in
     let link = l .before .before .link .result .0 in
     let read = c .before .before .before .nth-entry2 .ensures in
     let is′ = c .before .before .is-group .ensures in (
-      walk-goes (a .pre .1 .0 .index .chains) _ (l .loop .inv .0) z (c .previous-of .ensures),
-      l .loop .inv .1 ∙ all-goes (a .pre .1 .0) _ (l .loop .inv .0) z (c .previous-of .ensures)
+      walk-goes (R .index .chains) _ (l .loop .inv .0) z (c .previous-of .ensures),
+      l .loop .inv .1 ∙ all-goes R _ (l .loop .inv .0) z (c .previous-of .ensures)
           (ownFits (a .args .left - 1) (entriesOf (a .args .s .now)) (entriesOf (a .args .d .now)) (a .args .e) (a .args .g) link)
           (⊎-elim
-          (λ w. group-decides (a .pre .1 .0) (a .args .left - 1) _ (a .args .e) (a .args .g) link (l .loop .h) read is′ (w .0 .taken) (w .1 .ensures) ∙ true-of-not _ (w .2 .left))
-          (λ w. other-passes (a .pre .1 .0) (a .args .left - 1) _ (a .args .e) (a .args .g) link (l .loop .h) read is′ (w .left))
+          (λ w. group-decides R (a .args .left - 1) _ (a .args .e) (a .args .g) link (l .loop .h) read is′ (w .0 .taken) (w .2 .ensures .0) ∙ true-of-not _ (w .3 .left))
+          (λ w. other-passes R (a .args .left - 1) _ (a .args .e) (a .args .g) link (l .loop .h) read is′ (w .0 .left))
           (c .before .if4 .came)),
+      ⊎-elim (λ w. w .4 ∙ w .2 .ensures .1 ∙ l .loop .inv .2) (λ w. w .1 ∙ l .loop .inv .2) (c .before .if4 .came),
     )
 
 meets-entry-returns-3 : (t : ℕ) → meets-entry-lts.Need-returns-3 (meets-entry-calls t) (meets-entry-at t) meets-entry.Post meets-entry-Inv-loop meets-entry-μ-loop
 meets-entry-returns-3 t c =
     let l = c .before in
-    let a = l .before .before .before .before .before .before .before .before in
-    sym (l .loop .inv .1 ∙ all-ends (bucketOf Specimen (entriesOf (a .args .s .now))) (ownFits (a .args .left - 1) (entriesOf (a .args .s .now)) (entriesOf (a .args .d .now)) (a .args .e) (a .args .g) (l .before .before .link .result .0)) _ (c .if3 .taken))
+    let a = l .before .before .before .before .before .before .before .before .before .before .before .before in
+    (sym (l .loop .inv .1 ∙ all-ends (bucketOf Specimen (a .args .n .most) (entriesOf (a .args .s .now))) (ownFits (a .args .left - 1) (entriesOf (a .args .s .now)) (entriesOf (a .args .d .now)) (a .args .e) (a .args .g) (l .before .before .link .result .0)) _ (c .if3 .taken)), l .loop .inv .2)
 
 meets-entry-returns-4 : (t : ℕ) → meets-entry-lts.Need-returns-4 (meets-entry-calls t) (meets-entry-at t) meets-entry.Post meets-entry-Inv-loop meets-entry-μ-loop
 meets-entry-returns-4 t c =
-    let l = c .before .before .before .before .before .before in
-    let a = l .before .before .before .before .before .before .before .before in
-    let z = c .before .before .before .before .before .if3 .left in
-    let link = l .before .before .link .result .0 in
-    sym (l .loop .inv .1 ∙ all-no (bucketOf Specimen (entriesOf (a .args .s .now))) (ownFits (a .args .left - 1) (entriesOf (a .args .s .now)) (entriesOf (a .args .d .now)) (a .args .e) (a .args .g) link) _ _ z (l .loop .inv .0 .bucket z)
-    (group-decides (a .pre .1 .0) (a .args .left - 1) _ (a .args .e) (a .args .g) link (l .loop .h) (c .before .before .before .before .nth-entry2 .ensures)
-    (c .before .before .before .is-group .ensures) (c .before .before .if4 .taken) (c .before .fits-place .ensures) ∙ false-of-not _ (c .if5 .taken)))
+    let l = c .before .before .before .before .before .before .before in
+    let a = l .before .before .before .before .before .before .before .before .before .before .before .before in
+    let z = c .before .before .before .before .before .before .if3 .left in
+    let link = l .before .before .link .result .0 in (
+      sym (l .loop .inv .1 ∙ all-no (bucketOf Specimen (a .args .n .most) (entriesOf (a .args .s .now))) (ownFits (a .args .left - 1) (entriesOf (a .args .s .now)) (entriesOf (a .args .d .now)) (a .args .e) (a .args .g) link) _ _ z (l .loop .inv .0 .bucket z)
+          (group-decides (a .pre .1 .0 .ready) (a .args .left - 1) _ (a .args .e) (a .args .g) link (l .loop .h) (c .before .before .before .before .before .nth-entry2 .ensures)
+          (c .before .before .before .before .is-group .ensures) (c .before .before .before .if4 .taken) (c .before .fits-place .ensures .0) ∙ false-of-not _ (c .if5 .taken))),
+      c .before .fits-place .ensures .1 ∙ l .loop .inv .2,
+    )
 
 pub +fits-place+meets-entry-spec : {M : Type 1} → statement M
 +fits-place+meets-entry-spec =
     close μ-fits-place μ-meets-entry
     (λ t. fits-place-lts.spec (fits-place-calls t) (fits-place-at t) fits-place.Post fits-place-Inv-loop fits-place-μ-loop
-    (λ c κs. search needs) (fits-place-loop-holds t) (fits-place-meets-entry-requires t)
+    (fits-place-last-of-requires t) (fits-place-loop-holds t) (fits-place-meets-entry-requires t)
     (fits-place-previous-of-requires t) (fits-place-loop-less t) (fits-place-loop-again t) (fits-place-returns t)
     (fits-place-returns-2 t))
     (λ t. meets-entry-lts.spec (meets-entry-calls t) (meets-entry-at t) meets-entry.Post meets-entry-Inv-loop meets-entry-μ-loop
     (meets-entry-returns t) (λ c κs. search needs) (λ c κs. search needs) (meets-entry-returns-2 t)
-    (λ c κs. search needs) (λ c κs. search needs) (meets-entry-loop-holds t) (λ c κs. search needs)
+    (λ c κs. search needs) (meets-entry-last-group-requires t) (meets-entry-loop-holds t) (λ c κs. search needs)
     (λ c κs. search needs) (λ c. search needs) (meets-entry-fits-place-requires t)
     (meets-entry-previous-of-requires t) (meets-entry-loop-less t) (meets-entry-loop-again t)
     (meets-entry-returns-3 t) (meets-entry-returns-4 t))

@@ -1,0 +1,75 @@
+-- `fill_totals` meets its contract: before entry n + 1 the table is that of the first n entries.
+use Prim.Native.Nat.{_+_, _-_, _≤_, ℕ}
+use borrow.Author.Needs.{needs}
+use lib.ListN.{length, length-replicate}
+use mathlib.Core.Path.{_∙_, _≡_, ap, sym}
+use native.Mathlib.Omega.{arith}
+use Rattle.blocks.proofs.Refusing.EntryLaws.{of-nth}
+use Rattle.blocks.specs.Entries.{entriesOf}
+use Rattle.fit.proofs.index.BucketWalk.{index-starts}
+use Rattle.fit.proofs.totals.TotalsLaws.{groups-few, groups-next, groups-none, totals-start}
+use Rattle.fit.specs.Totals.{TotalsOf, groupsUpTo}
+use Rattle.fit.specs.code.Rows.{Rows, Small}
+use Rattle.fit.proofs.totals.fill_totals.Statement.{statement}
+use Rattle.fit.proofs.totals.fill_totals.Tie as tie
+
+abbrev Inv-loop : tie.InvT-loop
+Inv-loop s total most rows₀ links₀ adds₀ used₀ n₀ rows links adds used n =
+    (n ≤ total) × Rows most rows links used × Small n rows used × TotalsOf (entriesOf s) n rows used × (adds ≡ groupsUpTo (entriesOf s) n)
+
+abbrev μ-loop : tie.MeasureT-loop
+μ-loop s total most rows₀ links₀ adds₀ used₀ n₀ rows links adds used n = total - n
+
+loop-holds : tie.Need-loop-holds Inv-loop μ-loop
+loop-holds c =
+    let a = c .before .before .before in
+    let es = entriesOf (a .args .s .now) in (
+      omega arith,
+      record { room = a .pre .3; index = index-starts _ _ (omega arith) (a .pre .2) (a .pre .4) },
+      record { within = omega arith; items = λ r lo hi. absurd (omega arith) },
+      totals-start es _,
+      a .pre .5 ∙ sym (groups-none es),
+    )
+
+enter-requires : tie.Need-enter-requires Inv-loop μ-loop
+enter-requires c κs =
+    let l = c .before .before .before .before .before in
+    let a = l .before .before .before .before in
+    let few = groups-few (entriesOf (a .args .s .now)) (l .loop .n) in
+    (l .loop .inv .1, l .loop .inv .2, omega arith, omega (arith, l .loop .inv .4, few))
+
+loop-again : tie.Need-loop-again Inv-loop μ-loop
+loop-again c =
+    let x = c .before .before .before .before in
+    let l = x .before .before .before .before .before .before in
+    let a = l .before .before .before .before in
+    let e = x .enter .ensures in
+    let es = entriesOf (a .args .s .now) in
+    let at = x .before .before .nth-entry .ensures ∙ of-nth _ _ _ (a .pre .0) in (
+      omega arith,
+      e .0,
+      e .1,
+      e .3 es at (l .loop .inv .3),
+      groups-next es (l .loop .n) at (l .loop .inv .4) (e .2),
+    )
+
+same-length : tie.Need-same-length Inv-loop μ-loop
+same-length c = let a = c .before .before .before .before .before in omega (arith, c .before .loop .inv .1 .room, a .pre .3)
+
+same-length-2 : tie.Need-same-length-2 Inv-loop μ-loop
+same-length-2 c =
+    let a = c .before .before .before .before .before in
+    omega (arith, c .before .loop .inv .1 .index .size, ap length (a .pre .4), length-replicate {A = ℕ} (a .args .most + a .args .most) 0)
+
+returns : tie.Need-returns Inv-loop μ-loop
+returns c =
+    let l = c .before in
+    let a = l .before .before .before .before in
+    let e : l .loop .n ≡ a .args .total = omega arith in
+    (l .loop .inv .1, rw e at (l .loop .inv .3), rw e at (l .loop .inv .4))
+
+pub fill-totals-spec : {M : Type 1} → statement M
+fill-totals-spec =
+    tie.close
+    (tie.spec Inv-loop μ-loop loop-holds (λ c. search needs) (λ c κs. search needs) enter-requires (λ c. search needs)
+    (λ c. search needs) loop-again same-length same-length-2 returns)

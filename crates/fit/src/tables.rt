@@ -1,0 +1,114 @@
+// The tables that judging needs, in three sizes: what is short is judged with short tables, which are sooner cleared.
+ghost use mathlib.Core.Path.{_≡_};
+ghost use Prim.Native.Nat.{_+_, _≤_, _<_};
+ghost use lib.ListN.{length, replicate};
+ghost use Rattle.blocks.specs.Reading.{readingOf};
+ghost use Rattle.blocks.specs.declared.Reading.{Reading};
+ghost use Rattle.blocks.specs.declared.Schema.{Schema};
+ghost use Rattle.fit.specs.Answer.{topFits};
+ghost use Rattle.fit.specs.Counted.{groupsIn};
+use crate::Sizes;
+use crate::index::index_entries;
+use crate::judge::fits_place;
+use crate::totals::fill_totals;
+use blocks::Schema;
+
+// Whether the top item fits, and how many additions the table of totals and the walk over entries took.
+pub(crate) struct Judged {
+    pub fits: bool,
+    pub table: u16,
+    pub walk: u16,
+}
+
+// Judges the top item of a specimen with n entries by a description with m entries, both accepted, with tables that are lent. One counter
+// goes through the making of the table and then through the walk.
+fn judge_with(
+    s: &[u8],
+    n: usize,
+    d: &[u8],
+    m: usize,
+    most: usize,
+    si: &mut [u16],
+    di: &mut [u16],
+    rows: &mut [u64],
+    links: &mut [u16],
+) -> Judged
+    requires { ⌜ (readingOf Schema.Specimen 1 (now s) ≡ Reading.Accepted n) × (readingOf Schema.Description 2 (now d) ≡ Reading.Accepted m) × (n < most) × (m < most) × (most ≤ 2017)
+        × (now si ≡ replicate (most + most) 0) × (now di ≡ replicate (most + most) 0) × (length (now rows) ≡ most) × (now links ≡ replicate (most + most) 0) ⌝ }
+    ensures { λ r. ⌜ (r .fits ≡ topFits (now (s .entry)) (now (d .entry))) × (r .table ≡ groupsIn (now (s .entry))) × (r .walk ≡ 0) ⌝ }
+{
+    let mut adds: u16 = 0;
+    let used = fill_totals(s, n, most, rows, links, &mut adds);
+    let table = adds;
+    index_entries(s, n, Schema::Specimen, most, si);
+    index_entries(d, m, Schema::Description, most, di);
+    let sizes = Sizes {
+        specimen: n,
+        description: m,
+        rows: used,
+        most: most,
+    };
+    let fits = fits_place(s, si, rows, links, d, di, sizes, 0, 0, 33, &mut adds);
+    Judged {
+        fits: fits,
+        table: table,
+        walk: adds - table,
+    }
+}
+
+// The same with tables of its own, for at most 63 entries in each input.
+fn judge_few(s: &[u8], n: usize, d: &[u8], m: usize) -> Judged
+    requires { ⌜ (readingOf Schema.Specimen 1 (now s) ≡ Reading.Accepted n) × (readingOf Schema.Description 2 (now d) ≡ Reading.Accepted m) × (n < 64) × (m < 64) ⌝ }
+    ensures { λ r. ⌜ (r .fits ≡ topFits (now (s .entry)) (now (d .entry))) × (r .table ≡ groupsIn (now (s .entry))) × (r .walk ≡ 0) ⌝ }
+{
+    let mut si = [0u16; 128];
+    let mut di = [0u16; 128];
+    let mut rows = [0u64; 64];
+    let mut links = [0u16; 128];
+    judge_with(s, n, d, m, 64, &mut si, &mut di, &mut rows, &mut links)
+}
+
+// The same for at most 255.
+fn judge_some(s: &[u8], n: usize, d: &[u8], m: usize) -> Judged
+    requires { ⌜ (readingOf Schema.Specimen 1 (now s) ≡ Reading.Accepted n) × (readingOf Schema.Description 2 (now d) ≡ Reading.Accepted m) × (n < 256) × (m < 256) ⌝ }
+    ensures { λ r. ⌜ (r .fits ≡ topFits (now (s .entry)) (now (d .entry))) × (r .table ≡ groupsIn (now (s .entry))) × (r .walk ≡ 0) ⌝ }
+{
+    let mut si = [0u16; 512];
+    let mut di = [0u16; 512];
+    let mut rows = [0u64; 256];
+    let mut links = [0u16; 512];
+    judge_with(s, n, d, m, 256, &mut si, &mut di, &mut rows, &mut links)
+}
+
+// The same for any number.
+fn judge_many(s: &[u8], n: usize, d: &[u8], m: usize) -> Judged
+    requires { ⌜ (readingOf Schema.Specimen 1 (now s) ≡ Reading.Accepted n) × (readingOf Schema.Description 2 (now d) ≡ Reading.Accepted m) ⌝ }
+    ensures { λ r. ⌜ (r .fits ≡ topFits (now (s .entry)) (now (d .entry))) × (r .table ≡ groupsIn (now (s .entry))) × (r .walk ≡ 0) ⌝ }
+{
+    let mut si = [0u16; 4034];
+    let mut di = [0u16; 4034];
+    let mut rows = [0u64; 2017];
+    let mut links = [0u16; 4034];
+    judge_with(s, n, d, m, 2017, &mut si, &mut di, &mut rows, &mut links)
+}
+
+fn larger(a: usize, b: usize) -> usize
+    ensures { λ r. ⌜ (a ≤ r) × (b ≤ r) ⌝ }
+{
+    if a < b { b } else { a }
+}
+
+// Judges the top item, with tables of a size that is enough for the longer input.
+pub(crate) fn judge_top(s: &[u8], n: usize, d: &[u8], m: usize) -> Judged
+    requires { ⌜ (readingOf Schema.Specimen 1 (now s) ≡ Reading.Accepted n) × (readingOf Schema.Description 2 (now d) ≡ Reading.Accepted m) ⌝ }
+    ensures { λ r. ⌜ (r .fits ≡ topFits (now (s .entry)) (now (d .entry))) × (r .table ≡ groupsIn (now (s .entry))) × (r .walk ≡ 0) ⌝ }
+{
+    let longer = larger(n, m);
+    if longer < 64 {
+        return judge_few(s, n, d, m);
+    }
+    if longer < 256 {
+        return judge_some(s, n, d, m);
+    }
+    judge_many(s, n, d, m)
+}
