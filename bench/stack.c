@@ -65,6 +65,7 @@ static void make_inputs(void) {
 static void read_description(void) { answer = gx_read_description(wide, sizeof wide); }
 static void read_specimen(void) { answer = gx_read_specimen(groups, sizeof groups); }
 static void fit(void) { answer = gx_fit(groups, sizeof groups, chain, sizeof chain); }
+static void fit_counted(void) { answer = gx_fit_counted(groups, sizeof groups, chain, sizeof chain); }
 static void normal(void) { answer = gx_normal(wide, sizeof wide, out, sizeof out); }
 static void compare(void) { answer = gx_compare(wide, sizeof wide, chain, sizeof chain, out, sizeof out); }
 static void nothing(void) {}
@@ -96,6 +97,7 @@ int main(void) {
     show("gx_read_description", read_description);
     show("gx_read_specimen", read_specimen);
     show("gx_fit", fit);
+    show("gx_fit_counted", fit_counted);
     show("gx_normal", normal);
     show("gx_compare", compare);
     return 0;

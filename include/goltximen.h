@@ -1,7 +1,7 @@
 /*
  * Goltximen: soil sample descriptions, what fits them, their normal form, and whether one holds another.
  *
- * The static library is target/staticlib/libcapi.a, for x86-64 Linux; `make lib` builds it. Its five functions are proved to
+ * The static library is target/staticlib/libcapi.a, for x86-64 Linux; `make lib` builds it. Its six functions are proved to
  * answer what is said here for all bytes and lengths, to read and write no memory but that of their slices and their own
  * stack, and to return.
  *
@@ -29,6 +29,8 @@
  *     no              2            0                   0                     0
  *     not contained   2            0                   entry that fails      entries of the specimen
  *     a count         1            0                   0                     the count
+ *     yes, counted    1            0                   additions: the walk   additions: the table
+ *     no, counted     2            0                   additions: the walk   additions: the table
  *
  * The refusals, of which the first that applies is answered, input 1 before input 2 and both before 7; in one input 1, then
  * the lowest block that breaks 2 or 3, 2 before 3, then the lowest entry that breaks 4, 5, 6 or 9, in that order:
@@ -97,6 +99,12 @@ uint64_t gx_read_specimen(const uint8_t *s, size_t s_len);
 
 /* Whether the top item of the specimen s, input 1, fits the description d, input 2: yes or no; or refused. */
 uint64_t gx_fit(const uint8_t *s, size_t s_len, const uint8_t *d, size_t d_len);
+
+/*
+ * The same, with the additions of items that it took: GX_FIRST in the walk over entries, which is always 0, and GX_SECOND in making
+ * the table of totals, which is the number of the specimen's groups.
+ */
+uint64_t gx_fit_counted(const uint8_t *s, size_t s_len, const uint8_t *d, size_t d_len);
 
 /*
  * Writes the normal form of the description d in blocks from the start of out: a count, the number of entries written; or

@@ -34,7 +34,7 @@ pub(crate) fn hash(most: usize, owner: usize, kind: u8, name: u16) -> usize
     requires { ⌜ (0 < most) × (owner < 65536) ⌝ }
     ensures { λ r. ⌜ (r ≡ hashOf most owner kind name) × (r < most) ⌝ }
 {
-    reduced(owner + (8 * wide(name) + kind as usize), most)
+    reduced(owner + (31 * wide(name) + kind as usize), most)
 }
 
 // The bucket of an entry.

@@ -50,7 +50,8 @@ fn pack_adds(answer: FitAnswer, walk: u16, table: u16) -> u64
 pub fn pack_counted(counted: Counted) -> u64
     ensures { λ r. ⌜ r ≡ packCounted counted ⌝ }
 {
-    pack_adds(counted.answer, counted.walk, counted.table)
+    let answer = counted.answer;
+    pack_adds(answer, counted.walk, counted.table)
 }
 
 // What normalising answers: the entries written, or the refusal.

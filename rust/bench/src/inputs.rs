@@ -187,6 +187,22 @@ pub fn worst_fit() -> (Vec<u8>, Vec<u8>) {
     (encode(&groups), encode(&every))
 }
 
+/// 2,016 groups of one link, and 1,008 at least of it.
+pub fn one_link_at_least() -> (Vec<u8>, Vec<u8>) {
+    let groups = vec![entry(7, 0, 1, 0); 2016];
+    let at_least: Vec<Entry> = (0..1008).map(|number| entry(3, 0, 1, number)).collect();
+    (encode(&groups), encode(&at_least))
+}
+
+/// 2,000 groups of one link that own nothing, and 504 'every' of it, each with an at most.
+pub fn one_link_every() -> (Vec<u8>, Vec<u8>) {
+    let groups = vec![entry(7, 0, 1, 0); 2000];
+    let every = (0..504).map(|_| entry(5, 0, 1, 0));
+    let at_most = (1..=504).map(|owner| entry(4, owner, 2, 0));
+    let description: Vec<Entry> = every.chain(at_most).collect();
+    (encode(&groups), encode(&description))
+}
+
 /// A specimen of 2,016 groups, of which all but 62 are by one link that leads to one item only, each with an owner of its own:
 /// chains of 32 below groups by another link. And a description of 65 entries that goes down the chains, at most 1 of that link at
 /// each place.

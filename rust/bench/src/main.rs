@@ -6,7 +6,8 @@ use std::hint::black_box;
 use std::time::Instant;
 
 use bench::inputs::{
-    entry, one_bucket, single_links, with_first, with_last, worst_fit, Chance, Model, Shape,
+    entry, one_bucket, one_link_at_least, one_link_every, single_links, with_first, with_last,
+    worst_fit, Chance, Model, Shape,
 };
 use bench::plain;
 use reference::{encode, Entry};
@@ -68,7 +69,7 @@ fn main() {
     for timed in &models {
         fit_rows(timed, &mut chance);
     }
-    worst_fit_row();
+    one_link_rows();
     let (specimen, description) = single_links();
     let times = fit_times(&specimen, &description, true);
     print_row("fit", "2,016 and 65", SINGLE_LINK, "yes", times);
@@ -253,10 +254,16 @@ fn fit_times(specimen: &[u8], description: &[u8], fits: bool) -> (f64, f64) {
     )
 }
 
-fn worst_fit_row() {
-    let (specimen, description) = worst_fit();
-    let times = fit_times(&specimen, &description, true);
-    print_row("fit", "2,016 and 1,008", "one link", "worst case", times);
+fn one_link_rows() {
+    let rows = [
+        ("2,016 and 1,008", "at least", one_link_at_least()),
+        ("2,000 and 1,008", "every", one_link_every()),
+        ("2,016 and 1,008", "worst case", worst_fit()),
+    ];
+    for (sizes, situation, (specimen, description)) in rows {
+        let times = fit_times(&specimen, &description, true);
+        print_row("fit", sizes, "one link", situation, times);
+    }
 }
 
 fn read_rows(timed: &Timed) {

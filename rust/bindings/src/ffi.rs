@@ -1,4 +1,4 @@
-//! The five functions of the library as C declares them, behind calls that take slices. All unsafe code is here.
+//! The six functions of the library as C declares them, behind calls that take slices. All unsafe code is here.
 //!
 //! The library is proved to read and write nothing but the memory that its pointers and lengths name, whatever bytes stand
 //! there, and its own stack. Each call below lends it the memory of whole slices for the time of the call. The borrow
@@ -8,6 +8,7 @@ extern "C" {
     fn gx_read_description(d: *const u8, d_len: usize) -> u64;
     fn gx_read_specimen(s: *const u8, s_len: usize) -> u64;
     fn gx_fit(s: *const u8, s_len: usize, d: *const u8, d_len: usize) -> u64;
+    fn gx_fit_counted(s: *const u8, s_len: usize, d: *const u8, d_len: usize) -> u64;
     fn gx_normal(d: *const u8, d_len: usize, out: *mut u8, out_len: usize) -> u64;
     fn gx_compare(
         c: *const u8,
@@ -32,6 +33,11 @@ pub(crate) fn read_specimen(s: &[u8]) -> u64 {
 pub(crate) fn fit(s: &[u8], d: &[u8]) -> u64 {
     // SAFETY: the pointers and lengths are those of two slices.
     unsafe { gx_fit(s.as_ptr(), s.len(), d.as_ptr(), d.len()) }
+}
+
+pub(crate) fn fit_counted(s: &[u8], d: &[u8]) -> u64 {
+    // SAFETY: the pointers and lengths are those of two slices.
+    unsafe { gx_fit_counted(s.as_ptr(), s.len(), d.as_ptr(), d.len()) }
 }
 
 pub(crate) fn normal(d: &[u8], out: &mut [u8]) -> u64 {
@@ -68,6 +74,7 @@ mod tests {
             assert_eq!(gx_read_description(null(), 0), EMPTY);
             assert_eq!(gx_read_specimen(null(), 0), EMPTY);
             assert_eq!(gx_fit(null(), 0, null(), 0), EMPTY);
+            assert_eq!(gx_fit_counted(null(), 0, null(), 0), EMPTY);
             assert_eq!(gx_normal(null(), 0, null_mut(), 0), EMPTY);
             assert_eq!(gx_compare(null(), 0, null(), 0, null_mut(), 0), EMPTY);
         }

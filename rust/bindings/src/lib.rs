@@ -52,6 +52,17 @@ pub enum Fit {
     No,
 }
 
+/// The fit answer, with the additions of items that it took.
+#[derive(Clone, Copy, Debug, PartialEq, Eq, Hash)]
+pub struct CountedFit {
+    /// The answer.
+    pub fit: Fit,
+    /// The additions in making the table of totals: one for each group of the specimen.
+    pub table: u16,
+    /// The additions in the walk over entries: none.
+    pub walk: u16,
+}
+
 /// The answer of the comparison.
 #[derive(Clone, Copy, Debug, PartialEq, Eq, Hash)]
 pub enum Comparison {
@@ -151,11 +162,46 @@ pub fn read_specimen(s: &[u8]) -> Result<u16, Refusal> {
 ///
 /// The refusal of the specimen, and if it is accepted, of the description.
 pub fn fit(specimen: &[u8], description: &[u8]) -> Result<Fit, Refusal> {
-    let fields = packed::fields(ffi::fit(specimen, description))?;
-    Ok(match fields.answer {
+    packed::fields(ffi::fit(specimen, description)).map(fit_of)
+}
+
+/// The same, with the additions of items that it took. The totals of the specimen's groups are worked out before the walk over
+/// entries, in a table that adds each group once; the walk adds none.
+///
+/// ```
+/// use goltximen::{fit_counted, CountedFit, Fit};
+///
+/// // A group of one item by link 7, and "at least 1 by link 7".
+/// let mut group = [0u8; 512];
+/// (group[0], group[2], group[4], group[8]) = (1, 1, 7, 7);
+/// group[508] = 1 + 2 * 1 + 3 * 7 + 5 * 7;
+/// group[510] = 1 + 1 + 7 + 7 + group[508];
+/// let mut one = [0u8; 512];
+/// (one[0], one[2], one[4], one[8], one[10]) = (1, 1, 3, 7, 1);
+/// one[508] = 1 + 2 * 1 + 3 * 3 + 5 * 7 + 6 * 1;
+/// one[510] = 1 + 1 + 3 + 7 + 1 + one[508];
+///
+/// let counted = CountedFit { fit: Fit::Yes, table: 1, walk: 0 };
+/// assert_eq!(fit_counted(&group, &one), Ok(counted));
+/// ```
+///
+/// # Errors
+///
+/// As for [`fit`].
+pub fn fit_counted(specimen: &[u8], description: &[u8]) -> Result<CountedFit, Refusal> {
+    let fields = packed::fields(ffi::fit_counted(specimen, description))?;
+    Ok(CountedFit {
+        fit: fit_of(fields),
+        table: fields.second,
+        walk: fields.first,
+    })
+}
+
+fn fit_of(fields: packed::Fields) -> Fit {
+    match fields.answer {
         1 => Fit::Yes,
         _ => Fit::No,
-    })
+    }
 }
 
 /// Writes the normal form of a description in blocks from the start of the output, and returns its number of entries. Later

@@ -1,4 +1,4 @@
-//! The five calls on both sides, compared.
+//! The calls on both sides, compared.
 //!
 //! Each function here makes one call of the proved library and of the reference on the same bytes. It gives the answer if both
 //! agree and all else that the paper says of the answer is so, and otherwise the difference.
@@ -211,11 +211,29 @@ pub fn fit(specimen: &[u8], description: &[u8]) -> Result<Answer, Difference> {
         .map(|fit| fit == goltximen::Fit::Yes)
         .map_err(in_form);
     let answer = case.same(proved, reference::fit(specimen, description))?;
+    let counted = goltximen::fit_counted(specimen, description);
+    let counted = counted
+        .map(|counted| {
+            let fits = counted.fit == goltximen::Fit::Yes;
+            (fits, usize::from(counted.table), usize::from(counted.walk))
+        })
+        .map_err(in_form);
+    case.same(counted, answer.map(|fits| (fits, groups(specimen), 0)))?;
     Ok(match answer {
         Ok(true) => Answer::Yes,
         Ok(false) => Answer::No,
         Err(refusal) => refused(refusal),
     })
+}
+
+/// The groups of an accepted specimen: its table of totals adds each once, and the walk none.
+fn groups(specimen: &[u8]) -> usize {
+    let group = |entry: &[u8]| entry[0] == 7;
+    let blocks = specimen.chunks_exact(512);
+    // Unused entries are of zero bytes.
+    blocks
+        .map(|block| block[4..508].chunks_exact(8).filter(|e| group(e)).count())
+        .sum()
 }
 
 /// The normal form, with an output of this length. A normal form is written in the blocks that its entries need, has no more

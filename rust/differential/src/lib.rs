@@ -12,7 +12,7 @@
 //! | [`pairs`] | descriptions made from others: weaker, in another order, wrong by one entry |
 //! | [`damage`] | bytes with one fault or several |
 //! | [`exchange`] | two entries of one block exchanged, and whether the checks tell |
-//! | [`agree`] | the five calls on both sides, compared |
+//! | [`agree`] | the calls on both sides, compared |
 //! | [`small`] | small records, to look for an item by trying all |
 //! | [`rounds`] | rounds of cases, and how often each answer came |
 //! | [`vectors`] | calls with their bytes, and the line that the reference gives for each |

@@ -21,13 +21,13 @@ use Rattle.meaning.specs.Owned.{allWhere}
 
 pub hash-below : (most o k n : ℕ) → 0 < most → hashOf most o k n < most
 unfolding hashOf
-hash-below most o k n pos = mod-lt (o + (8 * n + k)) pos
+hash-below most o k n pos = mod-lt (o + (31 * n + k)) pos
 
 -- by the size of the table, or by a number that is the size
 pub reduced-is : (x most k : ℕ) → most ≡ k → 0 < most → (x % k ≡ x % most) × (x % k < most)
 reduced-is x most k s pos = rw (← s) (refl, mod-lt x pos)
 
-pub hash-is : (most o k n : ℕ) {m r : ℕ} → m ≡ n → r ≡ (o + (8 * m + k)) % most → r ≡ hashOf most o k n
+pub hash-is : (most o k n : ℕ) {m r : ℕ} → m ≡ n → r ≡ (o + (31 * m + k)) % most → r ≡ hashOf most o k n
 unfolding hashOf
 hash-is most o k n e f = f ∙ rw e
 

@@ -21,7 +21,7 @@ isOf e g kind name = eqb (e .owner) g && (eqb (e .kind) kind && eqb (e .name) na
 
 -- the bucket, of `most`, of an owner, a kind and a name: of one kind and name, different owners below `most` have different buckets
 unfoldable pub hashOf : ℕ → ℕ → ℕ → ℕ → ℕ
-hashOf most o k n = (o + (8 * n + k)) % most
+hashOf most o k n = (o + (31 * n + k)) % most
 
 -- the bucket of an entry with this owner, kind and name: in a description its owner alone
 abbrev pub bucketBy : Schema → ℕ → ℕ → ℕ → ℕ → ℕ
