@@ -22,8 +22,8 @@ use Rattle.blocks.specs.Promise.{Legal}
 use Rattle.blocks.specs.declared.Entry.{Entry}
 use Rattle.blocks.specs.declared.Finding.the-variants.{Clean}
 use Rattle.blocks.specs.declared.Schema.the-variants.{Description}
-use Rattle.compare.proofs.AnswerLaws.{compared, verdict-contained}
-use Rattle.compare.specs.Answer.{compareOf, outputAfter, outputOf, verdict}
+use Rattle.compare.proofs.AnswerLaws.{compared, empty-list, verdict-contained}
+use Rattle.compare.specs.Answer.{compareUnder, outputAfter, outputUnder, verdict}
 use Rattle.compare.specs.Promise.{Right, answerOf, outputFor}
 use Rattle.logic.specs.Background.{standing}
 use Rattle.logic.specs.Holds.{holds, holdsAt}
@@ -67,7 +67,7 @@ few es l = let h : length es ≤ 1008 = leb-le (l .1) in omega arith
 
 module _ (c d : List Entry) (lc : Lawful c) (ld : Lawful d) (out : List ℕ) (room : length (encode c) + length (encode d) ≤ length out) where
   -- lists of entries, as blocks, are compared as they are
-  compared-entries : compareOf standing (encode c) (encode d) out ≡ verdict standing c d
+  compared-entries : compareUnder standing (encode c) (encode d) out ≡ verdict standing c d
   compared-entries =
       compared standing (encode c) (encode d) out
       (record {
@@ -79,8 +79,8 @@ module _ (c d : List Entry) (lc : Lawful c) (ld : Lawful d) (out : List ℕ) (ro
       })
       ∙ rw (decode-encode c, decode-encode d)
 
-  output-entries : (o : Outcome) → Shows c d o → compareOf standing (encode c) (encode d) out ≡ answerOf o → outputOf standing (encode c) (encode d) out ≡ outputFor o out
-  unfolding outputOf
+  output-entries : (o : Outcome) → Shows c d o → compareUnder standing (encode c) (encode d) out ≡ answerOf o → outputUnder standing (encode c) (encode d) out ≡ outputFor o out
+  unfolding outputUnder
   output-entries inside s e = ap (outputAfter standing (encode c) (encode d) out) e
   output-entries (outside n sp) s e = ap (outputAfter standing (encode c) (encode d) out) e ∙ rw (decode-encode c, decode-encode d, s)
 
@@ -90,13 +90,14 @@ unfolding failing entryHolds holds isBottom
 none-fails c d e = rw (failing, e) (none-failing standing bottom d (λ n lo hi. or-right (eqb (nth d n .kind) 5) refl))
 
 -- a line that computes is right
-computes-right : (l : Line) → Computes l → Right standing l
+computes-right : (l : Line) → Computes l → Right [] l
 computes-right (compares c d o) h = λ out room.
     let e = compared-entries c d (h .0) (h .1) out room ∙ h .2 in
-    (e, output-entries c d (h .0) (h .1) out room o (h .3) e)
+    let empty = empty-list (encode c) (encode d) out in
+    (empty .0 ∙ e, empty .1 ∙ output-entries c d (h .0) (h .1) out room o (h .3) e)
 computes-right (normalises c n) h = computed-form c n (h .0 .0) (h .0 .1) (h .1)
 computes-right (impossible c) h = λ d out r.
-    compared standing (encode c) d out r
+    empty-list (encode c) d out .0 ∙ compared standing (encode c) d out r
     ∙ verdict-contained standing (entriesOf (encode c)) (entriesOf d) (rw decode-encode (none-fails c (entriesOf d) h))
 
 -- ---- all lines
@@ -107,12 +108,12 @@ data Each : List Line → Type 0 where
   _also_ : {l : Line} {ls : List Line} → Computes l → Each ls → Each (l ∷ ls)
 
 infixr 5 _also_
-each-right : {ls : List Line} → Each ls → (l : Line) → List·Memᴰ l ls → Right standing l
+each-right : {ls : List Line} → Each ls → (l : Line) → List·Memᴰ l ls → Right [] l
 each-right none l m = absurd (List·Memᴰ·not-nil m)
 each-right (_also_ {l = a} h hs) l m = ⊎-elim (λ q. rw q (computes-right a h)) (λ r. each-right hs l r) (List·Memᴰ·cases-cons m)
 
 -- every desk example is right
-pub lines-right : (l : Line) → List·Memᴰ l lines → Right standing l
+pub lines-right : (l : Line) → List·Memᴰ l lines → Right [] l
 unfolding lines verdict normalEntries failing normalOf specimenOf firstFailing firstFrom entryHolds specimenFor specimenEntries first entryFaults rowsFrom formOk nameOk numberOk ownerOk ownerOf nth depthOk depthOf chain kindOf rowOf placeOf linksTo linksUp tree nf add within fill insert put putEvery remove removeEvery removeLacks find sub excluded isBottom holds holdsAt witness build names once putAscending member groupsBy withProperties below path write lay later weight
 lines-right =
     each-right

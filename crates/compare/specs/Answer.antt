@@ -1,4 +1,4 @@
--- The comparison's answer, and its output, for the records that keep a background.
+-- The comparison's answer, and its output, for the records that keep a background, and under a list of pairs.
 -- Assumes nothing.
 use Prim.Native.Nat.{_*_, _+_, ℕ}
 use lib.Dec.{eqb, ltb}
@@ -17,6 +17,7 @@ use Rattle.compare.specs.declared.Comparison.{Comparison}
 use Rattle.compare.specs.declared.Comparison.the-variants.{Contained, NotContained, Refused}
 use Rattle.logic.specs.Background.{Background}
 use Rattle.meaning.specs.Failing.{failing, specimenOf}
+use Rattle.pairs.specs.Pairs.{pairsReading, under}
 
 -- ---- two lists of entries
 
@@ -38,8 +39,8 @@ abbrev pub firstOf : Background → List ℕ → List ℕ → List ℕ → Readi
 firstOf b c d out r = unlessRefused Refused r (secondOf b c d out (readingOf Description 2 d))
 
 -- "Input 1 is C, input 2 is D"; "input 1 in full, input 2 in full, then 7"
-unfoldable pub compareOf : Background → List ℕ → List ℕ → List ℕ → Comparison
-compareOf b c d out = firstOf b c d out (readingOf Description 1 c)
+unfoldable pub compareUnder : Background → List ℕ → List ℕ → List ℕ → Comparison
+compareUnder b c d out = firstOf b c d out (readingOf Description 1 c)
 
 -- the output after each answer: "contained, output unchanged"; "the specimen in blocks from the start, later bytes unchanged"; a
 -- refusal leaves it "unchanged"
@@ -48,8 +49,17 @@ outputAfter b c d out Contained = out
 outputAfter b c d out (NotContained j k) = encode (specimenOf b (entriesOf c) (entriesOf d)) ++ drop (512 * blocksFor plain k) out
 outputAfter b c d out (Refused k i p) = out
 
-unfoldable pub outputOf : Background → List ℕ → List ℕ → List ℕ → List ℕ
-outputOf b c d out = outputAfter b c d out (compareOf b c d out)
+unfoldable pub outputUnder : Background → List ℕ → List ℕ → List ℕ → List ℕ
+outputUnder b c d out = outputAfter b c d out (compareUnder b c d out)
+
+-- ---- under a list of pairs
+
+-- "11, input 0, before any other check"
+unfoldable pub compareOf : List ℕ → List ℕ → List ℕ → List ℕ → Comparison
+compareOf P c d out = unlessRefused Refused (pairsReading P) (compareUnder (under P) c d out)
+
+unfoldable pub outputOf : List ℕ → List ℕ → List ℕ → List ℕ → List ℕ
+outputOf P c d out = outputAfter (under P) c d out (compareOf P c d out)
 
 -- The paper's numbers for each case: whether C is contained in D, and neither where an input is refused or the output too short; the number
 -- of the first entry that fails and the number of specimen entries; the number returned, the input and the place. 0 where a case has none.

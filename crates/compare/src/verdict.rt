@@ -6,9 +6,10 @@ ghost use Prim.Native.Nat.{_*_, _+_, _≤_};
 ghost use lib.Dec.{leb, ltb};
 ghost use lib.ListN.{length, replicate};
 ghost use mathlib.Core.Bool.{_&&_};
-ghost use Rattle.logic.specs.Background.{standing};
-ghost use Rattle.compare.specs.Answer.{compareOf, outputOf};
-ghost use Rattle.compare.specs.code.Prepared.{Agreed, Failed, Roomy, Showable, shownAfter, shownBy};
+ghost use Rattle.logic.specs.Background.{Background, Ruled};
+ghost use Rattle.slots.specs.code.Standing.{BothRead};
+ghost use Rattle.compare.specs.Answer.{compareOf, compareUnder, outputOf, outputUnder};
+ghost use Rattle.compare.specs.code.Prepared.{Agreed, Failed, FailedSomehow, Roomy, Showable, shownAfter, shownBy};
 use crate::Comparison;
 use crate::path::links_up;
 use crate::specimen::specimen_rows;
@@ -93,8 +94,9 @@ fn are_small(c: &[u8], d: &[u8]) -> bool
 
 // Shows that entry n fails, where the slots of the first description stand in the table.
 fn show(c: &[u8], d: &[u8], n: usize, table: &[u64], out: &mut [u8]) -> Comparison
-    requires { ⌜ Failed standing (now c) (now d) n (now table) × (length (now c) + length (now d) ≤ length (now out)) ⌝ }
-    ensures { λ r. ⌜ (r ≡ compareOf standing (now (c .entry)) (now (d .entry)) (now (out .entry))) × (now (out .exit) ≡ outputOf standing (now (c .entry)) (now (d .entry)) (now (out .entry))) ⌝ }
+    requires { ⌜ FailedSomehow (now c) (now d) n (now table) × (length (now c) + length (now d) ≤ length (now out)) ⌝ }
+    ensures { λ r. ⌜ ((b : Background) → Ruled b → Failed b (now (c .entry)) (now (d .entry)) n (now (table .entry))
+        → (r ≡ compareUnder b (now (c .entry)) (now (d .entry)) (now (out .entry))) × (now (out .exit) ≡ outputUnder b (now (c .entry)) (now (d .entry)) (now (out .entry)))) ⌝ }
 {
     if are_small(c, d) {
         return Comparison::NotContained(n as u16, show_few(table, d, n, out) as u16);
@@ -112,8 +114,9 @@ fn is_short(c: &[u8], d: &[u8], out: &[u8]) -> bool
 
 // The answer where all entries hold: 7 where the output is shorter than both descriptions together.
 fn agree(c: &[u8], d: &[u8], out: &[u8]) -> Comparison
-    requires { ⌜ Agreed standing (now c) (now d) ⌝ }
-    ensures { λ r. ⌜ (r ≡ compareOf standing (now (c .entry)) (now (d .entry)) (now (out .entry))) × (now (out .entry) ≡ outputOf standing (now (c .entry)) (now (d .entry)) (now (out .entry))) ⌝ }
+    requires { ⌜ BothRead (now c) (now d) ⌝ }
+    ensures { λ r. ⌜ ((b : Background) → Agreed b (now (c .entry)) (now (d .entry))
+        → (r ≡ compareUnder b (now (c .entry)) (now (d .entry)) (now (out .entry))) × (now (out .entry) ≡ outputUnder b (now (c .entry)) (now (d .entry)) (now (out .entry)))) ⌝ }
 {
     if is_short(c, d, out) {
         return Comparison::Refused(7, 0, 0);
@@ -123,8 +126,9 @@ fn agree(c: &[u8], d: &[u8], out: &[u8]) -> Comparison
 
 // The answer where entry n fails: 7 where the output is shorter, else the specimen.
 fn deny(c: &[u8], d: &[u8], n: usize, table: &[u64], out: &mut [u8]) -> Comparison
-    requires { ⌜ Failed standing (now c) (now d) n (now table) ⌝ }
-    ensures { λ r. ⌜ (r ≡ compareOf standing (now (c .entry)) (now (d .entry)) (now (out .entry))) × (now (out .exit) ≡ outputOf standing (now (c .entry)) (now (d .entry)) (now (out .entry))) ⌝ }
+    requires { ⌜ FailedSomehow (now c) (now d) n (now table) ⌝ }
+    ensures { λ r. ⌜ ((b : Background) → Ruled b → Failed b (now (c .entry)) (now (d .entry)) n (now (table .entry))
+        → (r ≡ compareUnder b (now (c .entry)) (now (d .entry)) (now (out .entry))) × (now (out .exit) ≡ outputUnder b (now (c .entry)) (now (d .entry)) (now (out .entry)))) ⌝ }
 {
     if is_short(c, d, out) {
         return Comparison::Refused(7, 0, 0);
@@ -132,12 +136,12 @@ fn deny(c: &[u8], d: &[u8], n: usize, table: &[u64], out: &mut [u8]) -> Comparis
     show(c, d, n, table, out)
 }
 
-// Compares two descriptions, with a lent table for the slots of the first.
-fn compare_in(c: &[u8], d: &[u8], table: &mut [u64], out: &mut [u8]) -> Comparison
+// Compares two descriptions under a list of pairs, with a lent table for the slots of the first.
+fn compare_in(pairs: &[u8], c: &[u8], d: &[u8], table: &mut [u64], out: &mut [u8]) -> Comparison
     requires { ⌜ Roomy (now c) (now table) ⌝ }
-    ensures { λ r. ⌜ (r ≡ compareOf standing (now (c .entry)) (now (d .entry)) (now (out .entry))) × (now (out .exit) ≡ outputOf standing (now (c .entry)) (now (d .entry)) (now (out .entry))) ⌝ }
+    ensures { λ r. ⌜ (r ≡ compareOf (now (pairs .entry)) (now (c .entry)) (now (d .entry)) (now (out .entry))) × (now (out .exit) ≡ outputOf (now (pairs .entry)) (now (c .entry)) (now (d .entry)) (now (out .entry))) ⌝ }
 {
-    let holding = slots::first_failing(c, d, table);
+    let holding = slots::first_failing(pairs, c, d, table);
     match holding {
         Holding::Refused(number, input, place) => Comparison::Refused(number, input, place),
         Holding::All => agree(c, d, out),
@@ -146,30 +150,31 @@ fn compare_in(c: &[u8], d: &[u8], table: &mut [u64], out: &mut [u8]) -> Comparis
 }
 
 // The same with a table of its own, where the first description is of one block, and where it is any.
-fn compare_few(c: &[u8], d: &[u8], out: &mut [u8]) -> Comparison
+fn compare_few(pairs: &[u8], c: &[u8], d: &[u8], out: &mut [u8]) -> Comparison
     requires { ⌜ length (now c) ≤ 512 ⌝ }
-    ensures { λ r. ⌜ (r ≡ compareOf standing (now (c .entry)) (now (d .entry)) (now (out .entry))) × (now (out .exit) ≡ outputOf standing (now (c .entry)) (now (d .entry)) (now (out .entry))) ⌝ }
+    ensures { λ r. ⌜ (r ≡ compareOf (now (pairs .entry)) (now (c .entry)) (now (d .entry)) (now (out .entry))) × (now (out .exit) ≡ outputOf (now (pairs .entry)) (now (c .entry)) (now (d .entry)) (now (out .entry))) ⌝ }
 {
     let mut table = [0u64; 64];
-    compare_in(c, d, &mut table, out)
+    compare_in(pairs, c, d, &mut table, out)
 }
 
-fn compare_many(c: &[u8], d: &[u8], out: &mut [u8]) -> Comparison
-    ensures { λ r. ⌜ (r ≡ compareOf standing (now (c .entry)) (now (d .entry)) (now (out .entry))) × (now (out .exit) ≡ outputOf standing (now (c .entry)) (now (d .entry)) (now (out .entry))) ⌝ }
+fn compare_many(pairs: &[u8], c: &[u8], d: &[u8], out: &mut [u8]) -> Comparison
+    ensures { λ r. ⌜ (r ≡ compareOf (now (pairs .entry)) (now (c .entry)) (now (d .entry)) (now (out .entry))) × (now (out .exit) ≡ outputOf (now (pairs .entry)) (now (c .entry)) (now (d .entry)) (now (out .entry))) ⌝ }
 {
     let mut table = [0u64; 1009];
-    compare_in(c, d, &mut table, out)
+    compare_in(pairs, c, d, &mut table, out)
 }
 
-// Compares two descriptions: whether every item of every finite record that fits the first fits the second. Where one does not, the
-// blocks of a specimen that shows it are written from the start of the output, and the answer has the number of the first entry of the
-// second description that fails and the specimen's number of entries; later bytes stay. The output is at least as long as both
-// descriptions; where it is shorter or a description is refused, the refusal is returned. Nothing is written but a specimen.
-pub fn compare(c: &[u8], d: &[u8], out: &mut [u8]) -> Comparison
-    ensures { λ r. ⌜ (r ≡ compareOf standing (now (c .entry)) (now (d .entry)) (now (out .entry))) × (now (out .exit) ≡ outputOf standing (now (c .entry)) (now (d .entry)) (now (out .entry))) ⌝ }
+// Compares two descriptions: whether every item that fits the first fits the second, in every finite record in which links from 32,768 up
+// lead to one item at most and no item has both properties of a pair of the list. Where one does not, the blocks of a specimen that shows it
+// are written from the start of the output, and the answer has the number of the first entry of the second description that fails and the
+// specimen's number of entries; later bytes stay. The output is at least as long as both descriptions; where it is shorter, or the list or a
+// description is refused, the refusal is returned. Nothing is written but a specimen.
+pub fn compare(pairs: &[u8], c: &[u8], d: &[u8], out: &mut [u8]) -> Comparison
+    ensures { λ r. ⌜ (r ≡ compareOf (now (pairs .entry)) (now (c .entry)) (now (d .entry)) (now (out .entry))) × (now (out .exit) ≡ outputOf (now (pairs .entry)) (now (c .entry)) (now (d .entry)) (now (out .entry))) ⌝ }
 {
     if are_small(c, d) {
-        return compare_few(c, d, out);
+        return compare_few(pairs, c, d, out);
     }
-    compare_many(c, d, out)
+    compare_many(pairs, c, d, out)
 }

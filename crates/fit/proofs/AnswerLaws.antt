@@ -3,7 +3,7 @@
 use Prim.Native.Nat.{_≤_, ℕ}
 use lib.ListN.{length}
 use mathlib.Core.Bool.{Bool, false, true}
-use mathlib.Core.List.{List}
+use mathlib.Core.List.{List, []}
 use mathlib.Core.Path.{_∙_, _≡_, sym}
 use native.Mathlib.Omega.{arith}
 use Rattle.blocks.proofs.Refusing.Legal.{owner-earlier}
@@ -16,7 +16,9 @@ use Rattle.blocks.specs.declared.Reading.the-variants as reading
 use Rattle.blocks.specs.declared.Schema.{Schema}
 use Rattle.blocks.specs.declared.Schema.the-variants.{Description, Specimen}
 use Rattle.fit.proofs.FitByNumber.{fit-by-groups}
-use Rattle.fit.specs.Answer.{fitOf, secondOf, topFits}
+use Rattle.clashes.proofs.Ways.{empty-reading}
+use Rattle.clashes.specs.Clash.{specimenReading}
+use Rattle.fit.specs.Answer.{fitOf, plainFit, secondOf, topFits}
 use Rattle.fit.specs.Counted.{countedOf, groupsIn, tableAdds, unlessStopped, withTable}
 use Rattle.fit.specs.code.Groups.{fitsPlace}
 use Rattle.fit.specs.code.Index.{Ordered}
@@ -58,14 +60,19 @@ second-no s d e f h y = rw (← e, f, ← h, y)
 
 -- ---- the first input
 
-pub first-refused : (s d : List ℕ) {x : Reading} {k i p : ℕ} → x ≡ readingOf Specimen 1 s → x ≡ reading.Refused k i p → Refused k i p ≡ fitOf s d
-unfolding fitOf
-first-refused s d e f = rw (fitOf, ← e, f)
+module _ (P s d : List ℕ) {x : Reading} (e : x ≡ specimenReading P s) where
+  pub first-refused : {k i p : ℕ} → x ≡ reading.Refused k i p → Refused k i p ≡ fitOf P s d
+  unfolding fitOf
+  first-refused f = rw (fitOf, ← e, f)
 
-pub first-accepted : (s d : List ℕ) {x : Reading} {n : ℕ} {r : FitAnswer} → x ≡ readingOf Specimen 1 s → x ≡ reading.Accepted n
-    → r ≡ secondOf s d (readingOf Description 2 d) → r ≡ fitOf s d
-unfolding fitOf
-first-accepted s d e f h = h ∙ rw (fitOf, ← e, f)
+  pub first-accepted : {n : ℕ} {r : FitAnswer} → x ≡ reading.Accepted n → r ≡ secondOf s d (readingOf Description 2 d) → r ≡ fitOf P s d
+  unfolding fitOf
+  first-accepted f h = h ∙ rw (fitOf, ← e, f)
+
+-- "With an empty list all answers match those from before."
+pub empty-list : (s d : List ℕ) → fitOf [] s d ≡ plainFit s d
+unfolding fitOf plainFit
+empty-list s d = rw (fitOf, empty-reading s)
 
 -- ---- with the additions
 
@@ -87,9 +94,9 @@ module _ (s d : List ℕ) {x : Reading} (read : x ≡ readingOf Description 2 d)
 
 module _ (s d : List ℕ) {x : Reading} {c : Counted} (read : x ≡ readingOf Specimen 1 s) where
   pub counted-first-refused : {k i p : ℕ} → x ≡ reading.Refused k i p → c ≡ withTable (Refused k i p) 0 → c ≡ countedOf s d
-  unfolding fitOf tableAdds
-  counted-first-refused f h = h ∙ rw (fitOf, tableAdds, ← read, f)
+  unfolding plainFit tableAdds
+  counted-first-refused f h = h ∙ rw (plainFit, tableAdds, ← read, f)
 
   pub counted-first : {n : ℕ} → x ≡ reading.Accepted n → c ≡ countedBy s d (readingOf Description 2 d) → c ≡ countedOf s d
-  unfolding fitOf tableAdds
-  counted-first f h = h ∙ rw (fitOf, tableAdds, ← read, f)
+  unfolding plainFit tableAdds
+  counted-first f h = h ∙ rw (plainFit, tableAdds, ← read, f)

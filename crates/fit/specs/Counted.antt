@@ -7,7 +7,7 @@ use Rattle.blocks.specs.Entries.{entriesOf}
 use Rattle.blocks.specs.Reading.{readingOf, unlessRefused}
 use Rattle.blocks.specs.declared.Reading.{Reading}
 use Rattle.blocks.specs.declared.Schema.the-variants.{Description, Specimen}
-use Rattle.fit.specs.Answer.{fitOf}
+use Rattle.fit.specs.Answer.{plainFit}
 use Rattle.fit.specs.Totals.{groupsUpTo}
 use Rattle.fit.specs.declared.Counted.{Counted}
 use Rattle.fit.specs.declared.FitAnswer.{FitAnswer}
@@ -30,4 +30,4 @@ tableAdds s d = unlessStopped (readingOf Specimen 1 s) (unlessStopped (readingOf
 
 -- the fit answer, and the additions
 abbrev pub countedOf : List ℕ → List ℕ → Counted
-countedOf s d = withTable (fitOf s d) (tableAdds s d)
+countedOf s d = withTable (plainFit s d) (tableAdds s d)

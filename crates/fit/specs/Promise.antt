@@ -11,6 +11,7 @@ use Rattle.blocks.specs.Promise.{Legal}
 use Rattle.blocks.specs.Reading.{readingOf}
 use Rattle.blocks.specs.declared.Reading.the-variants as reading
 use Rattle.blocks.specs.declared.Schema.the-variants.{Description, Specimen}
+use Rattle.clashes.specs.Clash.{specimenReading}
 use Rattle.fit.specs.Answer.{fitOf}
 use Rattle.fit.specs.declared.FitAnswer.the-variants.{No, Yes}
 use Rattle.logic.specs.Record.{fits}
@@ -18,17 +19,17 @@ use Rattle.meaning.specs.Description.{placeOf}
 use Rattle.meaning.specs.FitExamples.{Case}
 use Rattle.meaning.specs.Specimen.{recordOf}
 
--- both inputs are accepted
-pub record Judgeable (s d : List ℕ) : Type 0 where
+-- the list and both inputs are accepted
+pub record Judgeable (P s d : List ℕ) : Type 0 where
   pub first : ℕ
   pub second : ℕ
-  pub first-read : readingOf Specimen 1 s ≡ reading.Accepted first
+  pub first-read : specimenReading P s ≡ reading.Accepted first
   pub second-read : readingOf Description 2 d ≡ reading.Accepted second
 
 -- "The fit answer is yes exactly when Table 1 of the report puts the specimen's top item in the description", and no otherwise
-pub record FitsExactly (s d : List ℕ) : Type 0 where
-  pub yes : (fitOf s d ≡ Yes) ↔ (fits (recordOf (entriesOf s)) (placeOf (entriesOf d) 0) 0 ≡ true)
-  pub no : (fitOf s d ≡ No) ↔ (fits (recordOf (entriesOf s)) (placeOf (entriesOf d) 0) 0 ≡ false)
+pub record FitsExactly (P s d : List ℕ) : Type 0 where
+  pub yes : (fitOf P s d ≡ Yes) ↔ (fits (recordOf (entriesOf s)) (placeOf (entriesOf d) 0) 0 ≡ true)
+  pub no : (fitOf P s d ≡ No) ↔ (fits (recordOf (entriesOf s)) (placeOf (entriesOf d) 0) 0 ≡ false)
 
 -- the specimen and both descriptions are legal, and the top item fits the supplier's description and not the service's
 pub record Shows (c : Case) : Type 0 where

@@ -49,7 +49,8 @@ fn fit_accepted(s: &[u8], n: usize, d: &[u8]) -> Counted
     }
 }
 
-// The fit answer, with the number of additions of items that it took: in making the table of totals, and in the walk over entries.
+// The fit answer without pairs, with the number of additions of items that it took: in making the table of totals, and in the walk over
+// entries.
 pub fn fit_counted(specimen: &[u8], description: &[u8]) -> Counted
     ensures { λ r. ⌜ r ≡ countedOf (now (specimen .entry)) (now (description .entry)) ⌝ }
 {
@@ -60,10 +61,16 @@ pub fn fit_counted(specimen: &[u8], description: &[u8]) -> Counted
     }
 }
 
-// Whether the top item of a specimen, input 1, fits a description, input 2; or the refusal.
-pub fn fit(specimen: &[u8], description: &[u8]) -> FitAnswer
-    ensures { λ r. ⌜ r ≡ fitOf (now (specimen .entry)) (now (description .entry)) ⌝ }
+// Whether the top item of a specimen, input 1, fits a description, input 2, where records keep a list of pairs; or the refusal.
+pub fn fit(pairs: &[u8], specimen: &[u8], description: &[u8]) -> FitAnswer
+    ensures { λ r. ⌜ r ≡ fitOf (now (pairs .entry)) (now (specimen .entry)) (now (description .entry)) ⌝ }
 {
-    let counted = fit_counted(specimen, description);
-    counted.answer
+    let first = clashes::read_specimen(pairs, specimen);
+    match first {
+        Reading::Refused(number, input, place) => FitAnswer::Refused(number, input, place),
+        Reading::Accepted(n) => {
+            let counted = fit_accepted(specimen, n as usize, description);
+            counted.answer
+        }
+    }
 }

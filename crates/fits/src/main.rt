@@ -28,10 +28,15 @@ fn print_answer(answer: FitAnswer) {
     io::write_all(STDOUT_FILENO, b"\n");
 }
 
+// Judges a specimen by a description, with no pairs, and prints the answer.
+fn print_fit(specimen: &[u8], description: &[u8]) {
+    print_answer(fit::fit(&specimen[0..0], specimen, description));
+}
+
 fn main() {
     let mut specimen = [0u8; 16384];
     let mut description = [0u8; 8193];
     let n = io::read_full(STDIN_FILENO, &mut specimen);
     let m = io::read_full(STDIN_FILENO, &mut description);
-    print_answer(fit::fit(&specimen[0..n], &description[0..m]));
+    print_fit(&specimen[0..n], &description[0..m]);
 }

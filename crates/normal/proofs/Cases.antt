@@ -28,8 +28,8 @@ use Rattle.logic.specs.Tree.{tree}
 use Rattle.meaning.specs.Description.{placeOf, rowOf}
 use Rattle.meaning.specs.NormalEntries.{normalEntries}
 use Rattle.meaning.specs.NormalExamples.{Line, lines, normalises}
-use Rattle.normal.proofs.AnswerLaws.{normalised}
-use Rattle.normal.specs.Answer.{normaliseOf, normalisedOf, outputAfter}
+use Rattle.normal.proofs.AnswerLaws.{empty-list, normalised}
+use Rattle.normal.specs.Answer.{normaliseUnder, normalisedUnder, outputAfter}
 use Rattle.normal.specs.Promise.{NormalisedAs, Right}
 use Rattle.normal.specs.declared.NormalAnswer.the-variants.{Normalised}
 
@@ -38,18 +38,19 @@ abbrev Computes : Line → Type 0
 Computes (normalises c n) = (first (entryFaults Description c 1 (length c)) ≡ Clean) × (leb (length c) 1008 ≡ true) × (normalEntries standing c ≡ n)
 
 -- a normal form that computes, in blocks
-pub computed-form : (c n : List Entry) → first (entryFaults Description c 1 (length c)) ≡ Clean → leb (length c) 1008 ≡ true → normalEntries standing c ≡ n → NormalisedAs standing c n
-unfolding normalisedOf
+pub computed-form : (c n : List Entry) → first (entryFaults Description c 1 (length c)) ≡ Clean → leb (length c) 1008 ≡ true → normalEntries standing c ≡ n → NormalisedAs [] c n
+unfolding normalisedUnder
 computed-form c n clean small h out room =
     let few : length c ≤ 1008 = leb-le small in
     let read = encoded-accepted Description 1 c (none-legal (clean-none _ clean)) tt (omega arith) in
     let form : normalEntries standing (entriesOf (encode c)) ≡ n = rw (decode-encode c) h in
-    let e : normaliseOf standing (encode c) out ≡ Normalised (length n) =
+    let e : normaliseUnder standing (encode c) out ≡ Normalised (length n) =
     normalised standing (encode c) out (record { total = length c; read = read; room = room }) ∙ ap (λ (es : List Entry). Normalised (length es)) form in
-    (e, ap (outputAfter standing (encode c) out) e ∙ rw form)
+    let empty = empty-list (encode c) out in
+    (empty .0 ∙ e, empty .1 ∙ ap (outputAfter standing (encode c) out) e ∙ rw form)
 
 -- a line that computes is right
-computes-right : (l : Line) → Computes l → Right standing l
+computes-right : (l : Line) → Computes l → Right [] l
 computes-right (normalises c n) h = computed-form c n (h .0) (h .1) (h .2)
 
 -- each line computes
@@ -58,12 +59,12 @@ data Each : List Line → Type 0 where
   _also_ : {l : Line} {ls : List Line} → Computes l → Each ls → Each (l ∷ ls)
 
 infixr 5 _also_
-each-right : {ls : List Line} → Each ls → (l : Line) → List·Memᴰ l ls → Right standing l
+each-right : {ls : List Line} → Each ls → (l : Line) → List·Memᴰ l ls → Right [] l
 each-right none l m = absurd (List·Memᴰ·not-nil m)
 each-right (_also_ {l = a} h hs) l m = ⊎-elim (λ q. rw q (computes-right a h)) (λ r. each-right hs l r) (List·Memᴰ·cases-cons m)
 
 -- every example is right
-pub lines-right : (l : Line) → List·Memᴰ l lines → Right standing l
+pub lines-right : (l : Line) → List·Memᴰ l lines → Right [] l
 unfolding lines normalEntries first entryFaults rowsFrom formOk nameOk numberOk ownerOk ownerOf nth depthOk depthOf chain kindOf rowOf placeOf tree nf add within fill insert put putEvery remove removeEvery removeLacks find sub excluded isBottom write lay later weight
 lines-right =
     each-right

@@ -1,6 +1,6 @@
 -- The normal form's answer by the ways through it: refused, or normalised.
 pub mod AnswerLaws
--- Number 7 of the normal form: exactly where the input is accepted and the output is shorter.
+-- Number 7 of the normal form: exactly where the list and the input are accepted and the output is shorter.
 pub mod ReadingNumbers
 -- The examples of normal forms: what normalising answers and writes for each.
 pub mod Cases

@@ -25,10 +25,10 @@ use Rattle.meaning.specs.Description.{placeOf}
 use Rattle.meaning.specs.NormalEntries.{normalEntries}
 use Rattle.meaning.specs.RowEntries.{rowEntry}
 use Rattle.normal.proofs.AnswerLaws.{Ready, normalised}
-use Rattle.normal.proofs.PromiseKept.{normalised-means}
+use Rattle.normal.proofs.PromiseKept.{form-room}
 use Rattle.normal.proofs.emit.PushLaws.{pushed-total}
 use Rattle.normal.proofs.tables.PassRows.{front-length, front-settled, rows-few, rows-normal}
-use Rattle.normal.specs.Answer.{normaliseOf, normalisedOf, outputAfter}
+use Rattle.normal.specs.Answer.{normaliseUnder, normalisedUnder, outputAfter}
 use Rattle.normal.specs.code.Emitted.{Lent, Pushed, Roomy, rowNumber, tableRows}
 use Rattle.normal.specs.declared.NormalAnswer.the-variants.{Normalised}
 use Rattle.slots.proofs.PassLaws.{all-bounded}
@@ -53,19 +53,18 @@ module _ {b : Background} (law : LawfulBackground b) (d out : List ℕ) (r : Rea
 
   -- a table whose first n numbers are the packed rows of the normal form: as many are written as were answered, and they are its blocks
   pub normal-written : (rows : List ℕ) (n : ℕ) → n ≤ length rows → take n rows ≡ map rowNumber (write (nf b (placeOf (entriesOf d) 0)))
-      → (normaliseOf b d out ≡ Normalised n) × (written out rows n ≡ normalisedOf b d out)
-  unfolding normalEntries normalisedOf
+      → (normaliseUnder b d out ≡ Normalised n) × (written out rows n ≡ normalisedUnder b d out)
+  unfolding normalEntries normalisedUnder
   normal-written rows n h e =
       let t : Place = nf b (placeOf (entriesOf d) 0) in
       let packs : take n rows ≡ map packed form = e ∙ rows-packed (write t) in
       let size : n ≡ length form = sym (length-take-le n rows h) ∙ ap length packs ∙ length-map form packed in
-      let m = normalised-means law d out (normalised b d out r) in
       let input = sound-of-accepted Description 1 d (r .read) in
       let bound = normal-bounded b (entriesOf d) (input .entries) small (omega (arith, entries-limit (input .blocks))) in
       let few : length form ≤ 2016 = omega (arith, normal-fewer b (entriesOf d), entries-limit (input .blocks)) in (
         normalised b d out r ∙ ap Normalised (sym size),
         written-front out rows n h ∙ ap (λ (q : List ℕ). written out q n) packs ∙ ap (written out (map packed form)) size
-            ∙ written-encodes out form bound few (m .room) ∙ sym (ap (outputAfter b d out) (normalised b d out r)),
+            ∙ written-encodes out form bound few (form-room law d out r) ∙ sym (ap (outputAfter b d out) (normalised b d out r)),
       )
 
 -- ---- an accepted description, whose slots stand in the tables
@@ -115,7 +114,7 @@ module _ {b : Background} (law : LawfulBackground b) {d : List ℕ} {used : ℕ}
     rows-held R = omega (arith, pushed-total (tableRows front bad full) P, standing-few R)
 
     -- they are written as answered
-    pub rows-written : (out : List ℕ) → r ≤ w → length d ≤ length out → (normaliseOf b d out ≡ Normalised r) × (written out rows r ≡ normalisedOf b d out)
+    pub rows-written : (out : List ℕ) → r ≤ w → length d ≤ length out → (normaliseUnder b d out ≡ Normalised r) × (written out rows r ≡ normalisedUnder b d out)
     rows-written out m l =
         normal-written law d out (record { total = S .total; read = S .read; room = l }) (all-bounded d (S .slots-settled .tabled .bounded)) rows r (omega (arith, m, P .size))
         (P .held ∙ ap (map rowNumber) rows-are)

@@ -8,16 +8,21 @@ use mathlib.Core.List.{List}
 use mathlib.Core.Path.{_∙_, _≡_, refl}
 use native.Mathlib.Omega.{arith}
 use Rattle.base.proofs.Tests.{lt-ltb}
-use Rattle.blocks.proofs.Refusing.Readings.{reading-cases}
+use Rattle.blocks.proofs.Refusing.Readings.{readings-cases}
 use Rattle.blocks.specs.Entries.{entriesOf}
 use Rattle.blocks.specs.Reading.{readingOf}
 use Rattle.blocks.specs.declared.Reading.the-variants as reading
 use Rattle.blocks.specs.declared.Schema.the-variants.{Description}
-use Rattle.logic.specs.Background.{standing}
-use Rattle.normal.specs.code.Emitted.{Roomy}
+use Rattle.normal.proofs.AnswerLaws.{input-refused, list-read, list-refused}
+use Rattle.normal.specs.Answer.{normaliseOf}
+use Rattle.normal.specs.declared.NormalAnswer.the-variants as normal
+use Rattle.pairs.proofs.Under.{ruled-under}
+use Rattle.pairs.specs.Pairs.{pairsReading, under}
+use Rattle.pairs.specs.Promise.{ListRead}
+use Rattle.normal.specs.code.Emitted.{Roomy, Stands}
 use Rattle.slots.proofs.FailingLaws.{accepted-few}
 use Rattle.slots.proofs.PassLaws.{blank-zeros}
-use Rattle.slots.specs.code.Standing.{roomIn, slottingOf}
+use Rattle.slots.specs.code.Standing.{Standing, roomIn, slottingOf, slottingUnder}
 use Rattle.slots.specs.code.Tables.{slotsOf}
 use Rattle.slots.specs.declared.Slotting.{Slotting}
 use Rattle.slots.specs.declared.Slotting.the-variants.{Filled, Refused}
@@ -60,20 +65,26 @@ module _ {d t bad full last before order rows below : List ℕ} (R : Roomy d t b
       → Roomy d t′ bad′ full′ last before order rows below
   roomy-again e f g = record { entries = R .entries; slots-room = e ∙ R .slots-room; bad-room = f ∙ R .bad-room; full-room = g ∙ R .full-room; lent = R .lent }
 
-  -- where there is room, what is refused is refused by reading
-  pub roomy-refused : {r : Slotting} {k i p : ℕ} → r ≡ slottingOf standing (roomIn t bad full) d → r ≡ Refused k i p → readingOf Description 1 d ≡ reading.Refused k i p
-  unfolding slottingOf
-  roomy-refused {r} {k} {i} {p} e f =
-      reading-cases (readingOf Description 1 d)
-      (λ k′ i′ p′ q.
-      let s : slottingOf standing (roomIn t bad full) d ≡ Refused k′ i′ p′ = rw (slottingOf, q) in
+  -- where there is room, what is refused is refused by the list or by reading
+  pub roomy-refused : (P out : List ℕ) {r : Slotting} {k i p : ℕ} → r ≡ slottingOf P (roomIn t bad full) d → r ≡ Refused k i p → normaliseOf P d out ≡ normal.Refused k i p
+  unfolding slottingOf slottingUnder
+  roomy-refused P out {r} {k} {i} {p} e f =
+      let refused : (k′ i′ p′ : ℕ) → slottingOf P (roomIn t bad full) d ≡ Refused k′ i′ p′ → normaliseOf P d out ≡ normal.Refused k′ i′ p′ → normaliseOf P d out ≡ normal.Refused k i p
+      = λ k′ i′ p′ s h.
       let a : k′ ≡ k = cc in
       let b : i′ ≡ i = cc in
       let c : p′ ≡ p = cc in
-      q ∙ rw (a, b, c))
-      (λ n q.
-      let more : length (entriesOf d) < roomIn t bad full = omega (arith, R .entries n q, R .slots-room, R .bad-room, R .full-room, accepted-few 1 d q .0) in
+      h ∙ rw (a, b, c) in
+      readings-cases (pairsReading P) (readingOf Description 1 d)
+      (λ k′ i′ p′ q. refused k′ i′ p′ (rw (slottingOf, q)) (list-refused P d out q))
+      (λ n k′ i′ p′ l q. refused k′ i′ p′ (rw (slottingOf, l, slottingUnder, q)) (list-read P d out l ∙ input-refused (under P) d out q))
+      (λ n m l q.
+      let more : length (entriesOf d) < roomIn t bad full = omega (arith, R .entries m q, R .slots-room, R .bad-room, R .full-room, accepted-few 1 d q .0) in
       let there : ltb (length (entriesOf d)) (roomIn t bad full) ≡ true = lt-ltb more in
-      let s : slottingOf standing (roomIn t bad full) d ≡ Filled (length (slotsOf standing d)) = rw (slottingOf, q, there) in
+      let s : slottingOf P (roomIn t bad full) d ≡ Filled (length (slotsOf (under P) d)) = rw (slottingOf, l, slottingUnder, q, there) in
       let z : _≡_ {A = ℕ} 0 1 = cc in
       absurd (omega arith))
+
+-- tables that were filled hold the slots under some lawful background
+pub filled-stands : {P d t bad full : List ℕ} {used : ℕ} → ListRead P × Standing (under P) d used t bad full → Stands d used t bad full
+filled-stands {P} s = record { background = under P; lawful = ruled-under P (s .0 .list-read) .lawful; stands = s .1 }

@@ -2,9 +2,9 @@
 ghost use mathlib.Core.Path.{_≡_};
 ghost use Prim.Native.Nat.{_≤_};
 ghost use lib.ListN.{length};
-ghost use Rattle.logic.specs.Background.{standing};
-ghost use Rattle.normal.specs.Answer.{normaliseOf, normalisedOf};
-ghost use Rattle.normal.specs.code.Emitted.{Roomy};
+ghost use Rattle.logic.specs.Background.{Background, LawfulBackground};
+ghost use Rattle.normal.specs.Answer.{normaliseOf, normaliseUnder, normalisedOf, normalisedUnder};
+ghost use Rattle.normal.specs.code.Emitted.{Roomy, Stands};
 ghost use Rattle.slots.specs.code.Standing.{Standing};
 use crate::NormalAnswer;
 use crate::tables::normal_rows;
@@ -24,8 +24,9 @@ fn write_normal(
     below: &mut [u16],
     out: &mut [u8],
 ) -> NormalAnswer
-    requires { ⌜ Standing standing (now d) used (now table) (now bad) (now full) × Roomy (now d) (now table) (now bad) (now full) (now last) (now before) (now order) (now rows) (now below) ⌝ }
-    ensures { λ r. ⌜ (r ≡ normaliseOf standing (now (d .entry)) (now (out .entry))) × (now (out .exit) ≡ normalisedOf standing (now (d .entry)) (now (out .entry))) ⌝ }
+    requires { ⌜ Stands (now d) used (now table) (now bad) (now full) × Roomy (now d) (now table) (now bad) (now full) (now last) (now before) (now order) (now rows) (now below) ⌝ }
+    ensures { λ r. ⌜ ((b : Background) → LawfulBackground b → Standing b (now (d .entry)) used (now (table .entry)) (now (bad .entry)) (now (full .entry))
+        → (r ≡ normaliseUnder b (now (d .entry)) (now (out .entry))) × (now (out .exit) ≡ normalisedUnder b (now (d .entry)) (now (out .entry)))) ⌝ }
 {
     if out.len() < d.len() {
         return NormalAnswer::Refused(7, 0, 0);
@@ -46,6 +47,7 @@ fn write_normal(
 
 // The answer for any description, in tables that have room for its entries.
 fn normalise_in(
+    pairs: &[u8],
     d: &[u8],
     table: &mut [u64],
     bad: &mut [u8],
@@ -58,9 +60,9 @@ fn normalise_in(
     out: &mut [u8],
 ) -> NormalAnswer
     requires { ⌜ Roomy (now d) (now table) (now bad) (now full) (now last) (now before) (now order) (now rows) (now below) ⌝ }
-    ensures { λ r. ⌜ (r ≡ normaliseOf standing (now (d .entry)) (now (out .entry))) × (now (out .exit) ≡ normalisedOf standing (now (d .entry)) (now (out .entry))) ⌝ }
+    ensures { λ r. ⌜ (r ≡ normaliseOf (now (pairs .entry)) (now (d .entry)) (now (out .entry))) × (now (out .exit) ≡ normalisedOf (now (pairs .entry)) (now (d .entry)) (now (out .entry))) ⌝ }
 {
-    let slotting = slots::fill(d, table, bad, full);
+    let slotting = slots::fill(pairs, d, table, bad, full);
     match slotting {
         Slotting::Refused(number, input, place) => NormalAnswer::Refused(number, input, place),
         Slotting::Filled(used) => write_normal(
@@ -80,9 +82,9 @@ fn normalise_in(
 }
 
 // The answer for a description of one block, or none: small tables are sooner cleared.
-fn normalise_few(d: &[u8], out: &mut [u8]) -> NormalAnswer
+fn normalise_few(pairs: &[u8], d: &[u8], out: &mut [u8]) -> NormalAnswer
     requires { ⌜ length (now d) ≤ 512 ⌝ }
-    ensures { λ r. ⌜ (r ≡ normaliseOf standing (now (d .entry)) (now (out .entry))) × (now (out .exit) ≡ normalisedOf standing (now (d .entry)) (now (out .entry))) ⌝ }
+    ensures { λ r. ⌜ (r ≡ normaliseOf (now (pairs .entry)) (now (d .entry)) (now (out .entry))) × (now (out .exit) ≡ normalisedOf (now (pairs .entry)) (now (d .entry)) (now (out .entry))) ⌝ }
 {
     let mut table = [0u64; 64];
     let mut bad = [0u8; 64];
@@ -93,6 +95,7 @@ fn normalise_few(d: &[u8], out: &mut [u8]) -> NormalAnswer
     let mut rows = [0u64; 63];
     let mut below = [0u16; 64];
     normalise_in(
+        pairs,
         d,
         &mut table,
         &mut bad,
@@ -107,8 +110,8 @@ fn normalise_few(d: &[u8], out: &mut [u8]) -> NormalAnswer
 }
 
 // The same for any.
-fn normalise_many(d: &[u8], out: &mut [u8]) -> NormalAnswer
-    ensures { λ r. ⌜ (r ≡ normaliseOf standing (now (d .entry)) (now (out .entry))) × (now (out .exit) ≡ normalisedOf standing (now (d .entry)) (now (out .entry))) ⌝ }
+fn normalise_many(pairs: &[u8], d: &[u8], out: &mut [u8]) -> NormalAnswer
+    ensures { λ r. ⌜ (r ≡ normaliseOf (now (pairs .entry)) (now (d .entry)) (now (out .entry))) × (now (out .exit) ≡ normalisedOf (now (pairs .entry)) (now (d .entry)) (now (out .entry))) ⌝ }
 {
     let mut table = [0u64; 1009];
     let mut bad = [0u8; 1009];
@@ -119,6 +122,7 @@ fn normalise_many(d: &[u8], out: &mut [u8]) -> NormalAnswer
     let mut rows = [0u64; 1008];
     let mut below = [0u16; 1009];
     normalise_in(
+        pairs,
         d,
         &mut table,
         &mut bad,
@@ -132,14 +136,14 @@ fn normalise_many(d: &[u8], out: &mut [u8]) -> NormalAnswer
     )
 }
 
-// Writes the normal form of a description in blocks from the start of the output, which is at least as long as the description, and
-// returns its number of entries; later bytes stay. Where the description is refused, or the output is shorter, the refusal is returned
-// and no byte changes.
-pub fn normalise(description: &[u8], out: &mut [u8]) -> NormalAnswer
-    ensures { λ r. ⌜ (r ≡ normaliseOf standing (now (description .entry)) (now (out .entry))) × (now (out .exit) ≡ normalisedOf standing (now (description .entry)) (now (out .entry))) ⌝ }
+// Writes the normal form of a description, under a list of pairs, in blocks from the start of the output, which is at least as long as the
+// description, and returns its number of entries; later bytes stay. Where the list or the description is refused, or the output is shorter,
+// the refusal is returned and no byte changes.
+pub fn normalise(pairs: &[u8], description: &[u8], out: &mut [u8]) -> NormalAnswer
+    ensures { λ r. ⌜ (r ≡ normaliseOf (now (pairs .entry)) (now (description .entry)) (now (out .entry))) × (now (out .exit) ≡ normalisedOf (now (pairs .entry)) (now (description .entry)) (now (out .entry))) ⌝ }
 {
     if description.len() <= 512 {
-        return normalise_few(description, out);
+        return normalise_few(pairs, description, out);
     }
-    normalise_many(description, out)
+    normalise_many(pairs, description, out)
 }

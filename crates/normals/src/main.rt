@@ -32,7 +32,7 @@ fn print_entries(blocks: &[u8], total: usize) {
 // Prints what normalising a description answers.
 fn print_normal(description: &[u8]) {
     let mut out = [0u8; 512];
-    let answer = normal::normalise(description, &mut out);
+    let answer = normal::normalise(&description[0..0], description, &mut out);
     match answer {
         NormalAnswer::Normalised(entries) => {
             print_field(b"normal form of ", entries as u64);

@@ -48,3 +48,17 @@ module _ (P : List ℕ) {n : ℕ} where
 
   pub accepted-exactly : (pairsReading P ≡ Accepted n) ↔ RightList P n
   accepted-exactly = (pairs-right, right-pairs)
+
+  -- it has 64 pairs at most
+  pub list-few : pairsReading P ≡ Accepted n → pairCount P ≤ 64
+  unfolding pairCount
+  list-few e = let R = pairs-right e in omega (arith, R .whole, R .few)
+
+-- it is accepted exactly if it has no fault
+pub accepted-none : (P : List ℕ) {n : ℕ} → pairsReading P ≡ Accepted n → None (pairFaults P)
+unfolding pairsReading
+accepted-none P e = clean-none (pairFaults P) (accepted-finding 0 (pairCount P) (first (pairFaults P)) e .1)
+
+pub none-accepted : (P : List ℕ) → None (pairFaults P) → pairsReading P ≡ Accepted (pairCount P)
+unfolding pairsReading
+none-accepted P n = rw (pairsReading, none-clean (pairFaults P) n)

@@ -2,7 +2,7 @@
 -- Assumes nothing.
 use Prim.Native.Nat.{_+_, ℕ}
 use mathlib.Core.List.{List}
-use mathlib.Core.Logic.{inl, inr}
+use mathlib.Core.Logic.{_≢_, inl, inr}
 use mathlib.Core.Path.{_∙_, _≡_, sym}
 use native.Mathlib.Omega.{arith}
 use Rattle.base.proofs.SearchLaws.{Least, first-least}
@@ -57,3 +57,7 @@ module _ (P : List ℕ) where
 
     pub refused-at : WrongAt P p
     refused-at = wrong-place (finding .1) .1
+
+    -- so never with 7
+    pub list-number : k ≢ 7
+    list-number z = let e = first-of-pairs .0 in omega arith

@@ -14,7 +14,8 @@ use Rattle.logic.specs.Background.{Keeps, Ruled, standing}
 use Rattle.logic.specs.Record.{Record}
 use Rattle.pairs.proofs.Excluding.{excludes-others, excludes-turned, none-excludes, own-pair, pair-cases, pair-excludes}
 use Rattle.pairs.proofs.PairsAccepted.{pairs-right}
-use Rattle.pairs.specs.Pairs.{excludesIn, isPair, oneOf, otherOf, pairCount, pairsReading, under}
+use Rattle.blocks.specs.Faults.{first, rowsFrom}
+use Rattle.pairs.specs.Pairs.{excludesIn, isPair, listWrong, oneOf, otherOf, pairCount, pairFaults, pairsReading, under}
 use Rattle.pairs.specs.Promise.{NoneHasBoth}
 
 -- ---- lawful
@@ -68,6 +69,11 @@ under-empty p q = refl
 pub empty-standing : under [] ≡ standing
 unfolding excludesIn pairCount all
 empty-standing = refl
+
+-- an empty list is accepted
+pub empty-read : pairsReading [] ≡ Accepted 0
+unfolding pairsReading pairFaults listWrong pairCount rowsFrom first
+empty-read = refl
 
 pub keeps-empty : (r : Record) → Keeps (under []) r ↔ Keeps standing r
 keeps-empty r = ((λ k. rw empty-standing at k), (λ k. rw (sym empty-standing) at k))

@@ -7,7 +7,8 @@ use mathlib.Core.List.{List}
 use mathlib.Core.Logic.{_⊎_}
 use mathlib.Core.Path.{_≡_}
 use Rattle.logic.specs.Record.{Record}
-use Rattle.pairs.specs.Pairs.{listWrong, oneOf, otherOf, pairCount, pairWrong}
+use Rattle.blocks.specs.declared.Reading.the-variants.{Accepted}
+use Rattle.pairs.specs.Pairs.{listWrong, oneOf, otherOf, pairCount, pairWrong, pairsReading}
 
 -- "the lowest pair with 0 or two equal numbers"
 pub record LowestWrong (P : List ℕ) (p : ℕ) : Type 0 where
@@ -20,7 +21,12 @@ pub record LowestWrong (P : List ℕ) (p : ℕ) : Type 0 where
 abbrev pub WrongAt : List ℕ → ℕ → Type 0
 WrongAt P p = ((listWrong P ≡ true) × (p ≡ 0)) ⊎ ((listWrong P ≡ false) × LowestWrong P p)
 
--- a list "that 11 doesn't refuse", of n pairs: "up to 64 pairs of excluding properties, four bytes a pair"
+-- a list "that 11 doesn't refuse"
+pub record ListRead (P : List ℕ) : Type 0 where
+  pub count : ℕ
+  pub list-read : pairsReading P ≡ Accepted count
+
+-- what such a list of n pairs is: "up to 64 pairs of excluding properties, four bytes a pair"
 pub record RightList (P : List ℕ) (n : ℕ) : Type 0 where
   pub whole : length P ≡ 4 * n
   pub few : n ≤ 64

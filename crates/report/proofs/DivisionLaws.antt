@@ -12,7 +12,8 @@ use Rattle.base.proofs.RangeLaws.{none-left, one-left}
 use Rattle.base.proofs.Tests.{eq-eqb, ne-eqb}
 use Rattle.blocks.specs.Frame.{blocksIn}
 use Rattle.blocks.specs.Words.{wordAt}
-use Rattle.compare.specs.Answer.{compareOf, outputOf}
+use Rattle.compare.proofs.AnswerLaws.{empty-list}
+use Rattle.compare.specs.Answer.{compareOf, compareUnder, outputOf, outputUnder}
 use Rattle.compare.specs.declared.Comparison.{Comparison}
 use Rattle.logic.specs.Background.{standing}
 use Rattle.report.specs.Division.{divisionFrom, firstLength, firstPart, secondPart}
@@ -40,8 +41,11 @@ module _ (s : List ℕ) where
 
 -- what the code compares, cut at the length of the first part, are the two parts
 pub parts-compared : (s out : List ℕ) {f : ℕ} {r : Comparison} {o : List ℕ} → f ≡ firstLength s
-    → (r ≡ compareOf standing (take (f - 0) (drop 0 s)) (take (length s - f) (drop f s)) out) × (o ≡ outputOf standing (take (f - 0) (drop 0 s)) (take (length s - f) (drop f s)) out)
-    → (r ≡ compareOf standing (firstPart s) (secondPart s) out) × (o ≡ outputOf standing (firstPart s) (secondPart s) out)
+    → (r ≡ compareOf (take (0 - 0) (drop 0 s)) (take (f - 0) (drop 0 s)) (take (length s - f) (drop f s)) out)
+    × (o ≡ outputOf (take (0 - 0) (drop 0 s)) (take (f - 0) (drop 0 s)) (take (length s - f) (drop f s)) out)
+    → (r ≡ compareUnder standing (firstPart s) (secondPart s) out) × (o ≡ outputUnder standing (firstPart s) (secondPart s) out)
 parts-compared s out {f} e p =
     let all : take (length s - f) (drop f s) ≡ drop f s = ap (λ (k : ℕ). take k (drop f s)) (sym (length-drop f s)) ∙ take-length (drop f s) in
-    rw (← e) (rw (all, sub-zero f) at p)
+    let empty = empty-list (take f s) (drop f s) out in
+    let q = rw (all, sub-zero f) at p in
+    rw (← e) (q .0 ∙ empty .0, q .1 ∙ empty .1)

@@ -14,7 +14,7 @@ use Rattle.blocks.specs.Reading.{readingOf}
 use Rattle.blocks.specs.declared.Reading.the-variants as reading
 use Rattle.blocks.specs.declared.Schema.the-variants.{Description}
 use Rattle.compare.proofs.AnswerLaws.{compared, first-refused, not-contained-ready, not-verdict, second-refused}
-use Rattle.compare.specs.Answer.{compareOf, outputOf}
+use Rattle.compare.specs.Answer.{compareUnder, outputUnder}
 use Rattle.compare.specs.declared.Comparison.the-variants as comparison
 use Rattle.logic.specs.Background.{standing}
 use Rattle.meaning.specs.Failing.{specimenOf}
@@ -28,7 +28,7 @@ use Rattle.report.specs.declared.Line.the-variants.{Contained, NotContai
 
 -- the lines for two descriptions, and for an input, with a given output to write the specimen to
 abbrev pub linesFor : List ℕ → List ℕ → List ℕ → List Line
-linesFor c d out = linesOf (compareOf standing c d out) (outputOf standing c d out)
+linesFor c d out = linesOf (compareUnder standing c d out) (outputUnder standing c d out)
 
 abbrev pub printed : List ℕ → List ℕ → List Line
 printed s out = linesFor (firstPart s) (secondPart s) out
@@ -37,24 +37,24 @@ printed s out = linesFor (firstPart s) (secondPart s) out
 
 module _ (c d out : List ℕ) where
   -- "It prints `contained`"
-  pub contained-lines : compareOf standing c d out ≡ comparison.Contained → linesFor c d out ≡ Contained ∷ []
+  pub contained-lines : compareUnder standing c d out ≡ comparison.Contained → linesFor c d out ≡ Contained ∷ []
   unfolding linesOf linesFrom
   contained-lines e = rw (linesOf, e)
 
   -- "or `refused N input I place P`"
-  pub refused-lines : {k i p : ℕ} → compareOf standing c d out ≡ comparison.Refused k i p → linesFor c d out ≡ Refused k i p ∷ []
+  pub refused-lines : {k i p : ℕ} → compareUnder standing c d out ≡ comparison.Refused k i p → linesFor c d out ≡ Refused k i p ∷ []
   unfolding linesOf linesFrom
   refused-lines e = rw (linesOf, e)
 
   -- "or `not contained E` and one line for each specimen entry": of the specimen that the comparison's theorems speak of
-  pub not-contained-lines : {j k : ℕ} → compareOf standing c d out ≡ comparison.NotContained j k
+  pub not-contained-lines : {j k : ℕ} → compareUnder standing c d out ≡ comparison.NotContained j k
       → linesFor c d out ≡ NotContained j ∷ entryLines 1 (specimenOf standing (entriesOf c) (entriesOf d))
-  unfolding linesOf outputOf
+  unfolding linesOf outputUnder
   not-contained-lines {j} {k} e =
       let shown = specimenOf standing (entriesOf c) (entriesOf d) in
       let v = sym (compared standing c d out (not-contained-ready standing c d out e)) ∙ e in
       let l : length shown ≡ k = not-verdict standing (entriesOf c) (entriesOf d) v .2 in
-      rw (linesOf, outputOf, e, ← l, lines-written shown)
+      rw (linesOf, outputUnder, e, ← l, lines-written shown)
 
 -- ---- by the input
 

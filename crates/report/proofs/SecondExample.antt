@@ -3,12 +3,12 @@
 use Prim.Native.Nat.{_+_, _≤_, ℕ}
 use lib.ListN.{length, length-replicate}
 use mathlib.Core.List.{List, List·Memᴰ·head, List·Memᴰ·tail, [], _++_, _∷_}
-use mathlib.Core.Path.{_∙_, _≡_, ap, refl}
+use mathlib.Core.Path.{_∙_, _≡_, ap, refl, sym}
 use native.Mathlib.Omega.{arith}
 use Rattle.blocks.proofs.RoundTrip.Decoding.{length-encode}
 use Rattle.blocks.specs.Encoding.{blocksFor, encode}
 use Rattle.blocks.specs.declared.Entry.{Entry}
-use Rattle.compare.proofs.AnswerLaws.{not-contained-ready}
+use Rattle.compare.proofs.AnswerLaws.{empty-list, not-contained-ready}
 use Rattle.compare.proofs.Cases.{lines-right}
 use Rattle.logic.specs.Background.{standing}
 use Rattle.meaning.specs.StarredCases.{compares, lines, outside}
@@ -59,8 +59,11 @@ second-example out h =
     let c = encode c₂ in
     let d = encode d₂ in
     let right = lines-right (compares c₂ d₂ (outside 3 shown₂)) (List·Memᴰ·tail (List·Memᴰ·tail (List·Memᴰ·head refl))) out (room-for out h) in
-    let ready = not-contained-ready standing c d out (right .0) in
-    let shown : linesFor c d out ≡ NotContained 3 ∷ entryLines 1 shown₂ = rw (linesOf, right .0, right .1, lines-written shown₂) in
+    let empty = empty-list c d out in
+    let answer = sym (empty .0) ∙ right .0 in
+    let output = sym (empty .1) ∙ right .1 in
+    let ready = not-contained-ready standing c d out answer in
+    let shown : linesFor c d out ≡ NotContained 3 ∷ entryLines 1 shown₂ = rw (linesOf, answer, output, lines-written shown₂) in
     ap linesText (joined-printed c d out (ready .first-read) (ready .second-read) ∙ shown) ∙ lines-text
 
 -- so the program prints this

@@ -4,7 +4,7 @@ use Prim.Native.Nat.{_*_, _+_, _-_, _<_, _≤_, suc, zero, ℕ}
 use lib.ListN.{drop, getD, length, replicate, take}
 use mathlib.Core.List.{List, [], _++_, _∷_}
 use mathlib.Core.Path.{_≡_}
-use Rattle.compare.specs.Answer.{compareOf, outputOf}
+use Rattle.compare.specs.Answer.{compareUnder, outputUnder}
 use Rattle.compare.specs.declared.Comparison.{Comparison}
 use Rattle.logic.specs.Background.{standing}
 use Rattle.report.specs.Division.{Begins, firstPart, secondPart}
@@ -51,6 +51,6 @@ lent = replicate inputBytes 0
 pub record Prints (s t : List ℕ) : Type 0 where
   pub answer : Comparison
   pub blocks : List ℕ
-  pub answered : answer ≡ compareOf standing (firstPart s) (secondPart s) lent
-  pub shown : blocks ≡ outputOf standing (firstPart s) (secondPart s) lent
+  pub answered : answer ≡ compareUnder standing (firstPart s) (secondPart s) lent
+  pub shown : blocks ≡ outputUnder standing (firstPart s) (secondPart s) lent
   pub written : Writes answer blocks 0 (suc (specimenLines answer)) t

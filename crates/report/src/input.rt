@@ -1,7 +1,7 @@
 // The program's input: how much is read of it, and the comparison of its two descriptions.
 ghost use mathlib.Core.Path.{_≡_};
 ghost use lib.ListN.{replicate};
-ghost use Rattle.compare.specs.Answer.{compareOf, outputOf};
+ghost use Rattle.compare.specs.Answer.{compareUnder, outputUnder};
 ghost use Rattle.logic.specs.Background.{standing};
 ghost use Rattle.report.specs.Division.{firstPart, secondPart};
 ghost use Rattle.report.specs.Text.{inputBytes};
@@ -15,11 +15,11 @@ pub fn input_buffer() -> [u8; 16385]
     [0u8; 16385]
 }
 
-// Compares the first description of an input with the second, and writes the specimen from the start of the output.
+// Compares the first description of an input with the second, with no pairs, and writes the specimen from the start of the output.
 pub fn compare_parts(s: &[u8], out: &mut [u8]) -> Comparison
-    ensures { λ r. ⌜ (r ≡ compareOf standing (firstPart (now (s .entry))) (secondPart (now (s .entry))) (now (out .entry)))
-        × (now (out .exit) ≡ outputOf standing (firstPart (now (s .entry))) (secondPart (now (s .entry))) (now (out .entry))) ⌝ }
+    ensures { λ r. ⌜ (r ≡ compareUnder standing (firstPart (now (s .entry))) (secondPart (now (s .entry))) (now (out .entry)))
+        × (now (out .exit) ≡ outputUnder standing (firstPart (now (s .entry))) (secondPart (now (s .entry))) (now (out .entry))) ⌝ }
 {
     let first = first_length(s);
-    compare::compare(&s[0..first], &s[first..s.len()], out)
+    compare::compare(&s[0..0], &s[0..first], &s[first..s.len()], out)
 }

@@ -19,7 +19,8 @@ use Rattle.blocks.specs.Reading.{readingOf}
 use Rattle.blocks.specs.declared.Reading.the-variants as reading
 use Rattle.blocks.specs.declared.Schema.the-variants.{Description}
 use Rattle.logic.specs.Background.{Background}
-use Rattle.slots.specs.Holding.{failingIn, holdingBy, holdingOf, holdingReturned, whereRoom}
+use Rattle.pairs.specs.Pairs.{pairsReading, under}
+use Rattle.slots.specs.Holding.{failingIn, holdingBy, holdingOf, holdingReturned, holdingUnder, whereRoom}
 use Rattle.slots.specs.code.Standing.{BothRead}
 use Rattle.slots.specs.code.Tables.{Readable, slotsOf}
 use Rattle.slots.specs.declared.Holding.the-variants.{All, Fails, Refused}
@@ -35,35 +36,35 @@ accepted-few i d e =
 
 module _ (b : Background) (room : ℕ) (c d : List ℕ) where
   -- "input 1 in full"
-  pub first-refused : {k i p : ℕ} → readingOf Description 1 c ≡ reading.Refused k i p → holdingOf b room c d ≡ Refused k i p
-  unfolding holdingOf
-  first-refused e = rw (holdingOf, e)
+  pub first-refused : {k i p : ℕ} → readingOf Description 1 c ≡ reading.Refused k i p → holdingUnder b room c d ≡ Refused k i p
+  unfolding holdingUnder
+  first-refused e = rw (holdingUnder, e)
 
   module _ {n : ℕ} (e : readingOf Description 1 c ≡ reading.Accepted n) where
     -- "input 2 in full"
-    pub second-refused : {k i p : ℕ} → readingOf Description 2 d ≡ reading.Refused k i p → holdingOf b room c d ≡ Refused k i p
-    unfolding holdingOf
-    second-refused f = rw (holdingOf, e, f)
+    pub second-refused : {k i p : ℕ} → readingOf Description 2 d ≡ reading.Refused k i p → holdingUnder b room c d ≡ Refused k i p
+    unfolding holdingUnder
+    second-refused f = rw (holdingUnder, e, f)
 
     module _ {m : ℕ} (f : readingOf Description 2 d ≡ reading.Accepted m) where
-      both-read : holdingOf b room c d ≡ whereRoom room c (Refused 7 0 0) (holdingBy (length (slotsOf b c)) (failingIn b c d))
-      unfolding holdingOf
-      both-read = rw (holdingOf, e, f)
+      both-read : holdingUnder b room c d ≡ whereRoom room c (Refused 7 0 0) (holdingBy (length (slotsOf b c)) (failingIn b c d))
+      unfolding holdingUnder
+      both-read = rw (holdingUnder, e, f)
 
       -- "then 7"
-      pub no-room : room ≤ length (entriesOf c) → holdingOf b room c d ≡ Refused 7 0 0
+      pub no-room : room ≤ length (entriesOf c) → holdingUnder b room c d ≡ Refused 7 0 0
       no-room l = both-read ∙ rw (ge-ltb l)
 
       -- both are accepted, and there is room
-      pub judged-read : length (entriesOf c) < room → holdingOf b room c d ≡ holdingBy (length (slotsOf b c)) (failingIn b c d)
+      pub judged-read : length (entriesOf c) < room → holdingUnder b room c d ≡ holdingBy (length (slotsOf b c)) (failingIn b c d)
       judged-read l = both-read ∙ rw (lt-ltb l)
 
   -- the five ways
-  holding-cases : {X : Type 0} → ((k i p : ℕ) → readingOf Description 1 c ≡ reading.Refused k i p → holdingOf b room c d ≡ Refused k i p → X)
-      → ((n k i p : ℕ) → readingOf Description 1 c ≡ reading.Accepted n → readingOf Description 2 d ≡ reading.Refused k i p → holdingOf b room c d ≡ Refused k i p → X)
-      → (BothRead c d → room ≤ length (entriesOf c) → holdingOf b room c d ≡ Refused 7 0 0 → X)
-      → (BothRead c d → failingIn b c d ≡ 0 → holdingOf b room c d ≡ All → X)
-      → (BothRead c d → failingIn b c d ≢ 0 → holdingOf b room c d ≡ Fails (failingIn b c d) (length (slotsOf b c)) → X) → X
+  holding-cases : {X : Type 0} → ((k i p : ℕ) → readingOf Description 1 c ≡ reading.Refused k i p → holdingUnder b room c d ≡ Refused k i p → X)
+      → ((n k i p : ℕ) → readingOf Description 1 c ≡ reading.Accepted n → readingOf Description 2 d ≡ reading.Refused k i p → holdingUnder b room c d ≡ Refused k i p → X)
+      → (BothRead c d → room ≤ length (entriesOf c) → holdingUnder b room c d ≡ Refused 7 0 0 → X)
+      → (BothRead c d → failingIn b c d ≡ 0 → holdingUnder b room c d ≡ All → X)
+      → (BothRead c d → failingIn b c d ≢ 0 → holdingUnder b room c d ≡ Fails (failingIn b c d) (length (slotsOf b c)) → X) → X
   holding-cases f g short all some =
       readings-cases (readingOf Description 1 c) (readingOf Description 2 d)
       (λ k i p e. f k i p e (first-refused e))
@@ -77,7 +78,7 @@ module _ (b : Background) (room : ℕ) (c d : List ℕ) where
       (λ l. short r l (no-room e e′ l)))
 
   -- what each answer says
-  pub refused-by : {X : Type 0} {k i p : ℕ} → holdingOf b room c d ≡ Refused k i p → (readingOf Description 1 c ≡ reading.Refused k i p → X)
+  pub refused-by : {X : Type 0} {k i p : ℕ} → holdingUnder b room c d ≡ Refused k i p → (readingOf Description 1 c ≡ reading.Refused k i p → X)
       → ((n : ℕ) → readingOf Description 1 c ≡ reading.Accepted n → readingOf Description 2 d ≡ reading.Refused k i p → X)
       → (BothRead c d → room ≤ length (entriesOf c) → X) → X
   refused-by {X} {k} {i} {p} e f g h =
@@ -88,7 +89,7 @@ module _ (b : Background) (room : ℕ) (c d : List ℕ) where
       (λ r z y. let w : _≡_ {A = ℕ} 0 1 = cc in absurd (omega arith))
       (λ r z y. let w : _≡_ {A = ℕ} 0 1 = cc in absurd (omega arith))
 
-  pub all-hold : holdingOf b room c d ≡ All → BothRead c d × (failingIn b c d ≡ 0)
+  pub all-hold : holdingUnder b room c d ≡ All → BothRead c d × (failingIn b c d ≡ 0)
   all-hold e =
       holding-cases
       (λ k i p q y. let w : _≡_ {A = ℕ} 0 1 = cc in absurd (omega arith))
@@ -97,7 +98,7 @@ module _ (b : Background) (room : ℕ) (c d : List ℕ) where
       (λ r z y. (r, z))
       (λ r z y. let w : _≡_ {A = ℕ} 0 1 = cc in absurd (omega arith))
 
-  pub one-fails : {n used : ℕ} → holdingOf b room c d ≡ Fails n used → BothRead c d × (failingIn b c d ≡ n) × (n ≢ 0)
+  pub one-fails : {n used : ℕ} → holdingUnder b room c d ≡ Fails n used → BothRead c d × (failingIn b c d ≡ n) × (n ≢ 0)
   one-fails {n} e =
       holding-cases
       (λ k i p q y. let w : _≡_ {A = ℕ} 0 1 = cc in absurd (omega arith))
@@ -111,21 +112,34 @@ module _ (b : Background) (room : ℕ) (c d : List ℕ) where
 module _ (b : Background) (room : ℕ) (c d : List ℕ) where
   -- "In one input: .." of input 1
   pub returned-first : {k p : ℕ} → FirstOf (faults Description c) k p
-      → holdingReturned (holdingOf b room c d) ≡ record { all = none; entry = 0; number = k; input = 1; place = p }
+      → holdingReturned (holdingUnder b room c d) ≡ record { all = none; entry = 0; number = k; input = 1; place = p }
   returned-first f = ap holdingReturned (first-refused b room c d (refused-by-first Description 1 c f))
 
   -- of input 2, where input 1 is accepted
   pub returned-second : {k p : ℕ} → None (faults Description c) → FirstOf (faults Description d) k p
-      → holdingReturned (holdingOf b room c d) ≡ record { all = none; entry = 0; number = k; input = 2; place = p }
+      → holdingReturned (holdingUnder b room c d) ≡ record { all = none; entry = 0; number = k; input = 2; place = p }
   returned-second n f = ap holdingReturned (second-refused b room c d (accepted-by-none Description 1 c n) (refused-by-first Description 2 d f))
 
   module _ (n : None (faults Description c)) (m : None (faults Description d)) where
     -- then 7, "0 for number 7"
-    pub returned-short : room ≤ length (entriesOf c) → holdingReturned (holdingOf b room c d) ≡ record { all = none; entry = 0; number = 7; input = 0; place = 0 }
+    pub returned-short : room ≤ length (entriesOf c) → holdingReturned (holdingUnder b room c d) ≡ record { all = none; entry = 0; number = 7; input = 0; place = 0 }
     returned-short l = ap holdingReturned (no-room b room c d (accepted-by-none Description 1 c n) (accepted-by-none Description 2 d m) l)
 
     -- otherwise the number of the first that fails
-    pub returned-failing : length (entriesOf c) < room → holdingReturned (holdingOf b room c d) .entry ≡ failingIn b c d
+    pub returned-failing : length (entriesOf c) < room → holdingReturned (holdingUnder b room c d) .entry ≡ failingIn b c d
     returned-failing l =
         rw (judged-read b room c d (accepted-by-none Description 1 c n) (accepted-by-none Description 2 d m) l)
         (eq-cases (failingIn b c d) 0 (λ z. rw (eq-eqb z, z)) (λ z. rw (ne-eqb z)))
+
+-- ---- under a list of pairs
+
+module _ (P : List ℕ) (room : ℕ) (c d : List ℕ) where
+  -- "11 .. before any other check"
+  pub list-refused : {k i p : ℕ} → pairsReading P ≡ reading.Refused k i p → holdingOf P room c d ≡ Refused k i p
+  unfolding holdingOf
+  list-refused e = rw (holdingOf, e)
+
+  -- a list that is accepted stands for its background
+  pub list-read : {n : ℕ} → pairsReading P ≡ reading.Accepted n → holdingOf P room c d ≡ holdingUnder (under P) room c d
+  unfolding holdingOf
+  list-read e = rw (holdingOf, e)

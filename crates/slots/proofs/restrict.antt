@@ -1,4 +1,4 @@
 -- Laws of the code in src/restrict.rt.
 
--- Laws of the pass under the rule that every record keeps: what it makes of the slots, and what it leaves.
+-- Laws of the pass under what every record keeps: what it makes of the slots, and what it leaves.
 pub mod RestrictLaws

@@ -11,6 +11,7 @@ use Rattle.blocks.specs.Reading.{readingOf, unlessRefused}
 use Rattle.blocks.specs.declared.Schema.the-variants.{Description}
 use Rattle.logic.specs.Background.{Background}
 use Rattle.meaning.specs.Failing.{failing}
+use Rattle.pairs.specs.Pairs.{pairsReading, under}
 use Rattle.slots.specs.code.Tables.{slotsOf}
 use Rattle.slots.specs.declared.Holding.{Holding}
 use Rattle.slots.specs.declared.Holding.the-variants.{All, Fails, Refused}
@@ -28,10 +29,14 @@ abbrev pub whereRoom : {A : Type 0} → ℕ → List ℕ → A → A → A
 whereRoom room d short a = cond (ltb (length (entriesOf d)) room) a short
 
 -- "input 1 in full, input 2 in full, then 7", with so many numbers in the lent table
-unfoldable pub holdingOf : Background → ℕ → List ℕ → List ℕ → Holding
-holdingOf b room c d =
+unfoldable pub holdingUnder : Background → ℕ → List ℕ → List ℕ → Holding
+holdingUnder b room c d =
     unlessRefused Refused (readingOf Description 1 c) (unlessRefused Refused (readingOf Description 2 d)
     (whereRoom room c (Refused 7 0 0) (holdingBy (length (slotsOf b c)) (failingIn b c d))))
+
+-- "11, input 0, before any other check": the same under a list of pairs
+unfoldable pub holdingOf : List ℕ → ℕ → List ℕ → List ℕ → Holding
+holdingOf P room c d = unlessRefused Refused (pairsReading P) (holdingUnder (under P) room c d)
 
 -- The paper's numbers for each case: whether all hold, and neither where an input is refused; the number of the first that fails; the
 -- number returned, the input and the place. 0 where a case has none.

@@ -8,6 +8,7 @@
 // The contracts cite specs/: Holding says what is answered; the others mirror the code. What slots are, on lists, is said in `passes`.
 mod build;
 mod entries;
+mod excluding;
 mod failing;
 mod filling;
 mod restrict;

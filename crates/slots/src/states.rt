@@ -1,7 +1,7 @@
 // Which entries of a second description hold: one pass over them, with the state of each 'every' in a table, and one look at the slots for
 // an entry. The slots are not sorted.
 ghost use mathlib.Core.Path.{_≡_};
-ghost use mathlib.Core.Bool.{_||_, cond, false, true};
+ghost use mathlib.Core.Bool.{_&&_, _||_, cond, false, true};
 ghost use mathlib.Core.List.{List};
 ghost use Prim.Native.Nat.{_+_, _≤_, _<_};
 ghost use lib.Dec.{eqb};
@@ -10,12 +10,16 @@ ghost use Rattle.blocks.specs.Entries.{entriesOf};
 ghost use Rattle.blocks.specs.code.Blockwise.{InBlock};
 ghost use Rattle.base.specs.Search.{firstFrom};
 ghost use Rattle.logic.specs.Background.{standing};
-ghost use Rattle.logic.specs.Normal.{atMost};
+ghost use Rattle.logic.specs.Normal.{atMost, found};
 ghost use Rattle.meaning.specs.Owned.{Owned};
+ghost use Rattle.pairs.specs.Pairs.{under};
+ghost use Rattle.pairs.specs.code.Index.{PairsIndexed};
+ghost use Rattle.passes.specs.code.Restrict.{excludedAt};
 ghost use Rattle.passes.specs.code.Slots.{Slot};
 ghost use Rattle.slots.specs.code.States.{Indexed, Searched, Stated, entrySlot, holdsInState, holdsBySlots, slotFor, passed, stateBelow, supportedBy};
-ghost use Rattle.slots.specs.code.Tables.{Kept, Readable, highIn, noBound};
+ghost use Rattle.slots.specs.code.Tables.{Kept, Readable, highIn, noBound, slotsIn};
 use crate::entries::entry_from;
+use crate::excluding::excluded;
 use crate::slots::NO_BOUND;
 use crate::slots::high_in;
 use crate::slots::link_key;
@@ -100,15 +104,25 @@ fn most_holds(link: u16, number: u16, hi: u64) -> bool
     always(link, number)
 }
 
+// "Kinds 1 and 2 need the same entry", and a lack may be implied.
+fn lack_holds(hi: u64, out: bool) -> bool
+    ensures { λ r. ⌜ r ≡ found (highIn hi) || out ⌝ }
+{
+    if hi < NO_BOUND {
+        return true;
+    }
+    out
+}
+
 // Whether a slot's bounds support an entry of this kind and number: "Kinds 1 and 2 need the same entry; kind 3 needs n = 0 or at least m
 // with m ≥ n; kind 4 needs at most m with m ≤ n; kind 5 always holds; kind 6 never does." There are no other kinds. An at most that every
-// record keeps holds too.
-fn supported(kind: u8, name: u16, number: u16, lo: u64, hi: u64) -> bool
-    ensures { λ r. ⌜ r ≡ supportedBy standing false kind name number lo (highIn hi) ⌝ }
+// record keeps holds too, and a lack that is implied.
+fn supported(kind: u8, name: u16, number: u16, lo: u64, hi: u64, out: bool) -> bool
+    ensures { λ r. ⌜ r ≡ supportedBy standing out kind name number lo (highIn hi) ⌝ }
 {
     match kind {
         1 => lo != 0,
-        2 => hi < NO_BOUND,
+        2 => lack_holds(hi, out),
         3 => number as u64 <= lo,
         4 => most_holds(name, number, hi),
         5 => true,
@@ -117,10 +131,39 @@ fn supported(kind: u8, name: u16, number: u16, lo: u64, hi: u64) -> bool
     }
 }
 
+// Whether an entry is a lack that its place implies: the place has a property that excludes the entry's.
+fn implied(
+    pairs: &[u8],
+    index: &[u8; 512],
+    table: &[u64],
+    next: &[u16],
+    head: &[u16],
+    used: usize,
+    place: u64,
+    e: Entry,
+) -> bool
+    requires { ⌜ PairsIndexed (now pairs) (now index) × Kept (now table) (now next) (now head) used × (place < 1024) ⌝ }
+    ensures { λ r. ⌜ r ≡ (eqb (e .kind) 2 && excludedAt (under (now (pairs .entry))) (slotsIn (now (table .entry)) used) place (e .name)) ⌝ }
+{
+    if e.kind != 2 {
+        return false;
+    }
+    excluded(pairs, index, table, next, head, used, place, e.property())
+}
+
 // Whether an entry holds in a place of this state. An 'every' is not looked up: it holds in any case.
-fn holds(table: &[u64], next: &[u16], head: &[u16], used: usize, state: u64, e: Entry) -> bool
-    requires { ⌜ Kept (now table) (now next) (now head) used × (used ≤ 1008) × (state ≤ passed) ⌝ }
-    ensures { λ r. ⌜ ((ss : List Slot) → Indexed ss (now (table .entry)) (now (next .entry)) (now (head .entry)) used → r ≡ holdsInState standing ss state e) ⌝ }
+fn holds(
+    pairs: &[u8],
+    index: &[u8; 512],
+    table: &[u64],
+    next: &[u16],
+    head: &[u16],
+    used: usize,
+    state: u64,
+    e: Entry,
+) -> bool
+    requires { ⌜ PairsIndexed (now pairs) (now index) × Kept (now table) (now next) (now head) used × (used ≤ 1008) × (state ≤ passed) ⌝ }
+    ensures { λ r. ⌜ ((ss : List Slot) → Indexed ss (now (table .entry)) (now (next .entry)) (now (head .entry)) used → r ≡ holdsInState (under (now (pairs .entry))) ss state e) ⌝ }
 {
     if e.kind == 5 {
         return true;
@@ -129,7 +172,8 @@ fn holds(table: &[u64], next: &[u16], head: &[u16], used: usize, state: u64, e: 
         return true;
     }
     let x = bounds(table, entry_slot(table, next, head, used, state, e));
-    supported(e.kind, e.name, e.number, low_in(x), high_in(x))
+    let out = implied(pairs, index, table, next, head, used, state, e);
+    supported(e.kind, e.name, e.number, low_in(x), high_in(x), out)
 }
 
 // The state that a link leads to from a place of this state.
@@ -163,6 +207,8 @@ fn leads_to(table: &[u64], next: &[u16], head: &[u16], used: usize, state: u64, 
 
 // The number of the first that fails of `count` entries, those after the first `done`, whose bytes start at `from`; 0 where all hold.
 fn failing_in_block(
+    pairs: &[u8],
+    index: &[u8; 512],
     table: &[u64],
     next: &[u16],
     head: &[u16],
@@ -173,9 +219,9 @@ fn failing_in_block(
     done: usize,
     states: &mut [u16],
 ) -> usize
-    requires { ⌜ Kept (now table) (now next) (now head) used × (used ≤ 1008) × Owned (entriesOf (now d)) × (length (entriesOf (now d)) ≤ 1008)
+    requires { ⌜ PairsIndexed (now pairs) (now index) × Kept (now table) (now next) (now head) used × (used ≤ 1008) × Owned (entriesOf (now d)) × (length (entriesOf (now d)) ≤ 1008)
         × InBlock (now d) from count done × Stated (now d) (now table) (now next) (now head) used done (now states) ⌝ }
-    ensures { λ r. ⌜ Searched standing (now (d .entry)) (now (table .entry)) (now (next .entry)) (now (head .entry)) used done count (now (states .exit)) r ⌝ }
+    ensures { λ r. ⌜ Searched (under (now (pairs .entry))) (now (d .entry)) (now (table .entry)) (now (next .entry)) (now (head .entry)) used done count (now (states .exit)) r ⌝ }
 {
     let mut i: usize = 0;
     loop {
@@ -185,7 +231,7 @@ fn failing_in_block(
         let e = entry_from(d, from + 8 * i);
         let s = long(states[wide(e.owner)]);
         i += 1;
-        if !holds(table, next, head, used, s, e) {
+        if !holds(pairs, index, table, next, head, used, s, e) {
             break done + i;
         }
         states[done + i] = leads_to(table, next, head, used, s, e) as u16;
@@ -195,6 +241,8 @@ fn failing_in_block(
 // The number of the first entry of a description with `total` entries that fails; 0 where all hold. Block by block. What the lent states
 // held does not count, so that one table of them serves for many descriptions.
 pub(crate) fn first_failing_entry(
+    pairs: &[u8],
+    index: &[u8; 512],
     table: &[u64],
     next: &[u16],
     head: &[u16],
@@ -203,8 +251,8 @@ pub(crate) fn first_failing_entry(
     total: usize,
     states: &mut [u16],
 ) -> usize
-    requires { ⌜ Kept (now table) (now next) (now head) used × (used ≤ 1008) × Readable (now d) total × (total < length (now states)) ⌝ }
-    ensures { λ r. ⌜ (r ≤ total) × ((ss : List Slot) → Indexed ss (now (table .entry)) (now (next .entry)) (now (head .entry)) used → r ≡ firstFrom (holdsBySlots standing ss (entriesOf (now (d .entry)))) 1 total) ⌝ }
+    requires { ⌜ PairsIndexed (now pairs) (now index) × Kept (now table) (now next) (now head) used × (used ≤ 1008) × Readable (now d) total × (total < length (now states)) ⌝ }
+    ensures { λ r. ⌜ (r ≤ total) × ((ss : List Slot) → Indexed ss (now (table .entry)) (now (next .entry)) (now (head .entry)) used → r ≡ firstFrom (holdsBySlots (under (now (pairs .entry))) ss (entriesOf (now (d .entry)))) 1 total) ⌝ }
 {
     states[0] = 0;
     let mut n: usize = 0;
@@ -214,7 +262,19 @@ pub(crate) fn first_failing_entry(
             break 0;
         }
         let count = next_count(total - n);
-        let e = failing_in_block(table, next, head, used, d, at, count, n, states);
+        let e = failing_in_block(
+            pairs,
+            index,
+            table,
+            next,
+            head,
+            used,
+            d,
+            at,
+            count,
+            n,
+            states,
+        );
         if e != 0 {
             break e;
         }

@@ -1,12 +1,14 @@
--- `gx_normal` meets its contract, by the contract of the call that it wraps.
+-- `gx_normal` meets its contract, by the contract of the call that it wraps, with no pairs.
 use borrow.Author.Needs.{needs}
+use mathlib.Core.Path.{_∙_, ap}
+use Rattle.packing.specs.Packing.{packNormal}
 use Rattle.capi.proofs.gx_normal.Statement.{statement}
 use Rattle.capi.proofs.gx_normal.Tie as tie
 
 returns : tie.Need-returns
-returns c = (cc, search needs)
+returns c = let r = c .before .before .before .normalise .ensures in (c .pack-normal .ensures ∙ ap packNormal (r .0), r .1)
 
 pub gx-normal-spec : {M : Type 1} → statement M
 gx-normal-spec =
     tie.close
-    (tie.spec (λ c κs. search needs) (λ c κs. search needs) (λ c. search needs) returns)
+    (tie.spec (λ c. search needs) (λ c. search needs) (λ c. search needs) (λ c κs. search needs) (λ c κs. search needs) (λ c. search needs) returns)

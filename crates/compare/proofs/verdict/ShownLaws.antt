@@ -14,11 +14,10 @@ use Rattle.blocks.specs.Frame.{plain}
 use Rattle.blocks.specs.declared.Entry.{Entry}
 use Rattle.blocks.specs.declared.Schema.the-variants.{Description}
 use Rattle.compare.proofs.AnswerLaws.{compared, verdict-not}
-use Rattle.compare.proofs.PromiseKept.{not-contained-means}
+use Rattle.compare.proofs.PromiseKept.{shown-room}
 use Rattle.compare.proofs.verdict.RoomLaws.{accepted-counted, both-few, both-short}
 use Rattle.compare.proofs.verdict.VerdictLaws.{read-comparable}
-use Rattle.compare.specs.Answer.{compareOf, outputAfter, outputOf}
-use Rattle.compare.specs.Promise.{Refuted}
+use Rattle.compare.specs.Answer.{compareUnder, outputAfter, outputUnder}
 use Rattle.compare.specs.code.Codes.{upFrom}
 use Rattle.compare.specs.code.Prepared.{Failed, Showable, shownAfter, shownBy}
 use Rattle.compare.specs.declared.Comparison.the-variants.{NotContained}
@@ -110,11 +109,11 @@ module _ {b : Background} (R : Ruled b) {c d : List ℕ} {n : ℕ} {t : List ℕ
 
   module _ (out : List ℕ) (room : length c + length d ≤ length out) where
     -- the answer
-    answer : compareOf b c d out ≡ NotContained n (length (shownBy t d n))
+    answer : compareUnder b c d out ≡ NotContained n (length (shownBy t d n))
     answer = compared b c d out (read-comparable c d out (f .read) room) ∙ verdict-not b cs ds fails-some ∙ rw (f .fails, shown-is)
 
-    means : Refuted b c d out n (length (shownBy t d n))
-    means = not-contained-means R c d out answer
+    fits-output : 512 * blocksFor plain (length (shownBy t d n)) ≤ length out
+    fits-output = rw shown-is (shown-room R c d out (read-comparable c d out (f .read) room) fails-some)
 
     -- it can be shown in a table that has room for the entries of both
     pub failed-showable : (size : ℕ) → length cs + length ds ≤ size → size ≤ 2016 → Showable t d n size out
@@ -126,7 +125,7 @@ module _ {b : Background} (R : Ruled b) {c d : List ℕ} {n : ℕ} {t : List ℕ
       bounded = λ links m path names last. each-bounded (shown-bounded links m path names last);
       rows = omega (arith, shown .size);
       most = most;
-      room = means .room;
+      room = fits-output;
     }
 
     -- any two, and two of one block each
@@ -140,8 +139,8 @@ module _ {b : Background} (R : Ruled b) {c d : List ℕ} {n : ℕ} {t : List ℕ
 
     -- and is what the answer promises
     pub failed-shown : {r : ℕ} {out′ : List ℕ} → r ≡ length (shownBy t d n) → out′ ≡ shownAfter t d n out
-        → (NotContained n r ≡ compareOf b c d out) × (out′ ≡ outputOf b c d out)
-    unfolding shownAfter outputOf
+        → (NotContained n r ≡ compareUnder b c d out) × (out′ ≡ outputUnder b c d out)
+    unfolding shownAfter outputUnder
     failed-shown e o = (
       ap (NotContained n) e ∙ sym answer,
       o ∙ ap (λ (es : List Entry). encode es ++ drop (512 * blocksFor plain (length (shownBy t d n))) out) shown-is ∙ sym (ap (outputAfter b c d out) answer),

@@ -9,10 +9,12 @@ use native.Mathlib.Omega.{arith}
 use Rattle.blocks.proofs.RoundTrip.Accepting.{none-of-accepted}
 use Rattle.blocks.specs.Entries.{entriesOf}
 use Rattle.blocks.specs.declared.Schema.the-variants.{Description}
-use Rattle.compare.proofs.AnswerLaws.{first-refused, second-refused}
-use Rattle.compare.proofs.PromiseKept.{refused-output}
+use Rattle.blocks.proofs.Refusing.Readings.{reading-cases}
+use Rattle.blocks.specs.declared.Reading.the-variants as reading
+use Rattle.compare.proofs.AnswerLaws.{first-refused, list-read, list-refused, second-refused}
+use Rattle.compare.proofs.PromiseKept.{refused-unchanged}
 use Rattle.compare.specs.Answer.{compareOf, outputOf}
-use Rattle.compare.specs.code.Prepared.{Agreed, Failed, Roomy}
+use Rattle.compare.specs.code.Prepared.{Agreed, Failed, FailedSomehow, Roomy}
 use Rattle.compare.specs.declared.Comparison.the-variants.{Refused}
 use Rattle.logic.specs.Background.{Background, LawfulBackground}
 use Rattle.meaning.specs.Description.{placeOf, rowOf}
@@ -21,10 +23,14 @@ use Rattle.passes.proofs.CellPlaces.FormNormal.{form-top}
 use Rattle.passes.proofs.CellPlaces.FormSettled.{form-settled}
 use Rattle.passes.proofs.SlotLists.RestrictLaws.{under-length}
 use Rattle.passes.specs.code.Slots.{settled}
+use Rattle.pairs.proofs.Under.{ruled-under}
+use Rattle.pairs.specs.Pairs.{pairsReading, under}
+use Rattle.pairs.specs.Promise.{ListRead}
+use Rattle.slots.proofs.FailingLaws as slots
 use Rattle.slots.proofs.FailingLaws.{all-hold, one-fails, refused-by}
 use Rattle.slots.proofs.PassLaws.{settled-low}
 use Rattle.slots.proofs.PlacesInTable.{table-stood}
-use Rattle.slots.specs.Holding.{failingIn, holdingOf}
+use Rattle.slots.specs.Holding.{failingIn, holdingOf, holdingUnder}
 use Rattle.slots.specs.code.Standing.{Judged, JudgedBy}
 use Rattle.slots.specs.code.TablePlaces.{Stood, allSlots, placeIn, usedIn}
 use Rattle.slots.specs.code.Tables.{slotsFrom, slotsOf}
@@ -79,37 +85,71 @@ failing-in : (b : Background) (c d : List ℕ) → failingIn b c d ≡ failing b
 unfolding failingIn failing normalOf
 failing-in b c d = refl
 
-module _ {b : Background} (law : LawfulBackground b) (c d : List ℕ) where
+module _ (P c d : List ℕ) where
   -- a refusal is the refusal: there is room in the table
-  pub holding-refused : (t out : List ℕ) {k i p : ℕ} → Roomy c t → holdingOf b (length t) c d ≡ holding.Refused k i p
-      → (Refused k i p ≡ compareOf b c d out) × (out ≡ outputOf b c d out)
-  holding-refused t out room h =
-      refused-by b (length t) c d h
-      (λ q. let r = first-refused b c d out q in (sym r, sym (refused-output b c d out r)))
-      (λ n e q. let r = second-refused b c d out e q in (sym r, sym (refused-output b c d out r)))
-      (λ r l. absurd (omega (arith, room (r .first) (r .first-read), none-of-accepted Description 1 c (r .first-read) .1)))
+  pub holding-refused : (t out : List ℕ) {k i p : ℕ} → Roomy c t → holdingOf P (length t) c d ≡ holding.Refused k i p
+      → (Refused k i p ≡ compareOf P c d out) × (out ≡ outputOf P c d out)
+  holding-refused t out {k} {i} {p} room h =
+      let answered : compareOf P c d out ≡ Refused k i p → (Refused k i p ≡ compareOf P c d out) × (out ≡ outputOf P c d out)
+      = λ e. (sym e, sym (refused-unchanged P c d out e)) in
+      reading-cases (pairsReading P)
+      (λ k′ i′ p′ q.
+      let y = slots.list-refused P (length t) c d q in
+      let a : k′ ≡ k = cc in
+      let o : i′ ≡ i = cc in
+      let z : p′ ≡ p = cc in
+      answered (list-refused P c d out q ∙ rw (a, o, z)))
+      (λ n l.
+      let under′ = sym (slots.list-read P (length t) c d l) ∙ h in
+      let read = list-read P c d out l in
+      refused-by (under P) (length t) c d under′
+      (λ q. answered (read ∙ first-refused (under P) c d out q))
+      (λ n e q. answered (read ∙ second-refused (under P) c d out e q))
+      (λ r l. absurd (omega (arith, room (r .first) (r .first-read), none-of-accepted Description 1 c (r .first-read) .1))))
+
+  -- an answer that is no refusal is one under the list's background
+  holding-listed : {X : Type 0} (room : ℕ) → ((k i p : ℕ) → holdingOf P room c d ≡ holding.Refused k i p → X)
+      → ((n : ℕ) → pairsReading P ≡ reading.Accepted n → holdingOf P room c d ≡ holdingUnder (under P) room c d → X) → X
+  holding-listed room f g =
+      reading-cases (pairsReading P) (λ k i p q. f k i p (slots.list-refused P room c d q)) (λ n l. g n l (slots.list-read P room c d l))
 
   -- all entries hold
-  pub holding-agreed : (room : ℕ) → holdingOf b room c d ≡ holding.All → Agreed b c d
-  holding-agreed room h = let r = all-hold b room c d h in record { read = r .0; none = sym (failing-in b c d) ∙ r .1 }
+  pub holding-agreed : (room : ℕ) → holdingOf P room c d ≡ holding.All → ListRead P × Agreed (under P) c d
+  holding-agreed room h =
+      holding-listed room
+      (λ k i p q. let z : _≡_ {A = ℕ} 0 1 = cc in absurd (omega arith))
+      (λ n l e.
+      let r = all-hold (under P) room c d (sym e ∙ h) in
+      (record { count = n; list-read = l }, record { read = r .0; none = sym (failing-in (under P) c d) ∙ r .1 }))
 
   -- one fails, and the slots stand in the table
-  pub holding-room : (t : List ℕ) {n used : ℕ} {r : Holding} → r ≡ holding.Fails n used → JudgedBy b c d t r → used < length t
-  holding-room t {used = used} is by = let j : Judged b c d used t = rw is at by in j .tabled .room
+  pub holding-room : (t : List ℕ) {n used : ℕ} {r : Holding} → r ≡ holding.Fails n used → JudgedBy P c d t r → used < length t
+  holding-room t {used = used} is by = let j : Judged (under P) c d used t = rw is at by in j .tabled .room
 
   -- they are lent as far as the last
-  pub holding-failed : (room : ℕ) (t : List ℕ) (k : ℕ) {n used : ℕ} {r : Holding} → r ≡ holdingOf b room c d → r ≡ holding.Fails n used → JudgedBy b c d t r
-      → k ≡ used + 1 → Failed b c d n (take k t)
-  holding-failed room t k {used = used} e is by size =
-      let f = one-fails b room c d (sym e ∙ is) in
-      let j : Judged b c d used t = rw is at by in
-      rw size
-      (record {
-        read = f .0;
-        fails = sym (failing-in b c d) ∙ f .1;
-        some′ = f .2;
-        stood = front-stood law j;
-        few = front-few law j;
-        top = front-top law j;
-        bounded = j .tabled .bounded;
-      })
+  pub holding-failed : (room : ℕ) (t : List ℕ) (k : ℕ) {n used : ℕ} {r : Holding} → r ≡ holdingOf P room c d → r ≡ holding.Fails n used → JudgedBy P c d t r
+      → k ≡ used + 1 → ListRead P × Failed (under P) c d n (take k t)
+  holding-failed room t k {n} {used} e is by size =
+      let answer : holdingOf P room c d ≡ holding.Fails n used = sym e ∙ is in
+      holding-listed room
+      (λ k i p q. let z : _≡_ {A = ℕ} 0 1 = cc in absurd (omega arith))
+      (λ m l u.
+      let f = one-fails (under P) room c d (sym u ∙ answer) in
+      let j : Judged (under P) c d used t = rw is at by in
+      let law = ruled-under P l .lawful in (
+        record { count = m; list-read = l },
+        rw size
+            (record {
+              read = f .0;
+              fails = sym (failing-in (under P) c d) ∙ f .1;
+              some′ = f .2;
+              stood = front-stood law j;
+              few = front-few law j;
+              top = front-top law j;
+              bounded = j .tabled .bounded;
+            }),
+      ))
+
+-- a list that is accepted, and an entry that fails under its background
+pub failed-somehow : {P c d t : List ℕ} {n : ℕ} → ListRead P × Failed (under P) c d n t → FailedSomehow c d n t
+failed-somehow {P} f = record { background = under P; ruled = ruled-under P (f .0 .list-read); failed = f .1 }

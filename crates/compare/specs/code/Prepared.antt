@@ -14,7 +14,7 @@ use Rattle.blocks.specs.declared.Entry.{Entry}
 use Rattle.blocks.specs.declared.Reading.the-variants as reading
 use Rattle.blocks.specs.declared.Schema.the-variants.{Description}
 use Rattle.compare.specs.code.Codes.{upFrom}
-use Rattle.logic.specs.Background.{Background}
+use Rattle.logic.specs.Background.{Background, Ruled}
 use Rattle.meaning.specs.Description.{linksTo}
 use Rattle.meaning.specs.Failing.{failing, normalOf}
 use Rattle.meaning.specs.SpecimenFor.{specimenFor}
@@ -57,6 +57,12 @@ pub record Failed (b : Background) (c d : List ℕ) (n : ℕ) (t : List ℕ) : T
   pub few : length t ≤ length (entriesOf c) + 1
   pub top : placeIn t 0 ≡ normalOf b (entriesOf c)
   pub bounded : (k : ℕ) → 1 ≤ k → k ≤ length (entriesOf c) → Bounded (nth (entriesOf c) k)
+
+-- that under some background with the standing rule in it
+pub record FailedSomehow (c d : List ℕ) (n : ℕ) (t : List ℕ) : Type 0 where
+  pub background : Background
+  pub ruled : Ruled background
+  pub failed : Failed background c d n t
 
 -- a table has a number for each entry of a description that is accepted, and one more
 abbrev pub Roomy : List ℕ → List ℕ → Type 0

@@ -1,6 +1,6 @@
 -- Slots under a background have the keys, lower bounds and number of the slots; their upper bounds are those of entries still.
 -- Assumes nothing.
-use Prim.Native.Nat.{_≤_, ℕ}
+use Prim.Native.Nat.{_≤_, suc, ℕ}
 use lib.Dec.{eqb}
 use lib.ListN.{length}
 use mathlib.Core.Bool.{Bool, false, not, true}
@@ -18,7 +18,7 @@ use Rattle.passes.proofs.SlotLists.SameKeys.{SameKeys, same-distinct, s
 use Rattle.passes.proofs.SlotLists.SlotLaws.{slots-distinct, slots-early, slots-length}
 use Rattle.passes.specs.code.Keys.{SmallRows, SmallSlots, SmallTop}
 use Rattle.passes.specs.code.Restrict.{excludedAt, idle, restrict, restrictBy, restrictedHigh, slotsUnder}
-use Rattle.passes.specs.code.Slots.{DistinctSlots, EarlySlots, Slot, position, slot, slots, taken}
+use Rattle.passes.specs.code.Slots.{DistinctSlots, EarlySlots, Slot, position, settled, slot, slots, taken}
 
 -- ---- any slots
 
@@ -38,6 +38,11 @@ module _ (b : Background) where
   unfolding excludedAt restrictBy
   excluded-restricted x [] v p = refl
   excluded-restricted x (slot u d n lo hi ∷ ss) v p = rw (excluded-restricted x ss v p)
+
+  pub excluded-settled : (k : ℕ) (ss : List Slot) (v p : ℕ) → excludedAt b (settled k ss) v p ≡ excludedAt b ss v p
+  unfolding excludedAt settled
+  excluded-settled k [] v p = refl
+  excluded-settled k (slot u d n lo hi ∷ ss) v p = rw (excluded-settled (suc k) ss v p)
 
   -- and none where no property excludes another
   pub none-excluded : ((p q : ℕ) → b .excludes p q ≡ false) → (ss : List Slot) (v p : ℕ) → excludedAt b ss v p ≡ false

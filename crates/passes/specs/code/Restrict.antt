@@ -10,7 +10,12 @@ use Rattle.logic.specs.Background.{Background}
 use Rattle.logic.specs.Normal.{atMost, under}
 use Rattle.logic.specs.Place.{Atom}
 use Rattle.logic.specs.Tree.{Row}
-use Rattle.passes.specs.code.Slots.{Slot, slot, slots}
+use Rattle.passes.specs.code.Slots.{Slot, sameKey, slot, slots}
+
+-- place v has property q
+unfoldable pub hasAt : List Slot → ℕ → ℕ → Bool
+hasAt [] v q = false
+hasAt (slot u d n lo hi ∷ ss) v q = (sameKey u d n v false q && not (eqb lo 0)) || hasAt ss v q
 
 -- some property that place v has excludes p
 unfoldable pub excludedAt : Background → List Slot → ℕ → ℕ → Bool

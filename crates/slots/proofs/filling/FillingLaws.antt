@@ -20,12 +20,14 @@ use Rattle.blocks.specs.Reading.{readingOf}
 use Rattle.blocks.specs.declared.Reading.the-variants as reading
 use Rattle.blocks.specs.declared.Schema.the-variants.{Description}
 use Rattle.logic.specs.Background.{Background}
+use Rattle.pairs.specs.Pairs.{pairsReading, under}
 use Rattle.passes.proofs.SlotLists.KeyLaws.{key-parts}
 use Rattle.passes.specs.code.Slots.{inconsistent, nonempty, settled}
 use Rattle.slots.proofs.FailingLaws.{accepted-few}
 use Rattle.slots.proofs.PassLaws.{blank-zeros}
-use Rattle.slots.specs.code.Standing.{Fills, badAfter, fullAfter, roomIn, slotsStored, slottingOf, tableAfter}
+use Rattle.slots.specs.code.Standing.{FilledBy, FilledUnder, Fills, badAfter, badUnder, fullAfter, fullUnder, roomIn, slotsStored, slottingOf, slottingUnder, tableAfter, tableUnder}
 use Rattle.slots.specs.code.Tables.{Exact, Settled, Tabled, Workspace, highIn, highNumber, highPart, keyIn, lowPart, marksFrom, noBound, slotIn, slotNumber, slotWord, slotsFrom, slotsOf}
+use Rattle.slots.specs.declared.Slotting.{Slotting}
 use Rattle.slots.specs.declared.Slotting.the-variants.{Filled, Refused}
 
 -- ---- cleared tables
@@ -95,27 +97,51 @@ marks-exact {m} f n e h = sym (marks-listed f 0 n ∙ rw (← e) (listed-eq (λ 
 
 -- refused: nothing changes
 pub filling-refused : (b : Background) (d : List ℕ) {k i p : ℕ} → readingOf Description 1 d ≡ reading.Refused k i p → (t bad full : List ℕ) → Fills b d t bad full (Refused k i p) t bad full
-unfolding slottingOf tableAfter badAfter fullAfter
-filling-refused b d e t bad full = (rw (slottingOf, e), rw (tableAfter, e), rw (badAfter, e), rw (fullAfter, e), λ room. e)
+unfolding slottingUnder tableUnder badUnder fullUnder
+filling-refused b d e t bad full = (rw (slottingUnder, e), rw (tableUnder, e), rw (badUnder, e), rw (fullUnder, e), λ room. e)
 
 module _ (b : Background) (d : List ℕ) {n : ℕ} (e : readingOf Description 1 d ≡ reading.Accepted n) (t bad full : List ℕ) where
   -- a table is too short: nothing changes
   pub filling-short : roomIn t bad full ≤ n → Fills b d t bad full (Refused 7 0 0) t bad full
-  unfolding slottingOf tableAfter badAfter fullAfter
+  unfolding slottingUnder tableUnder badUnder fullUnder
   filling-short h =
       let few = accepted-few 1 d e in
       let no : ltb (length (entriesOf d)) (roomIn t bad full) ≡ false = rw (← few .0) (ge-ltb h) in
-      (rw (slottingOf, e, no), rw (tableAfter, e, no), rw (badAfter, e, no), rw (fullAfter, e, no), λ room. absurd (omega (arith, few .1, h, room)))
+      (rw (slottingUnder, e, no), rw (tableUnder, e, no), rw (badUnder, e, no), rw (fullUnder, e, no), λ room. absurd (omega (arith, few .1, h, room)))
 
   -- filled: the marks are those of the slots, whatever they were
   pub filling-accepted : {t′ bad′ full′ : List ℕ} {used : ℕ} → n < roomIn t bad full → Settled b d used t′ bad′ full′ → Exact t t′ used → length bad′ ≡ length bad → length full′ ≡ length full
       → Fills b d t bad full (Filled used) t′ bad′ full′
-  unfolding slottingOf tableAfter badAfter fullAfter
+  unfolding slottingUnder tableUnder badUnder fullUnder
   filling-accepted h s x m f =
       let there : ltb (length (entriesOf d)) (roomIn t bad full) ≡ true = rw (← accepted-few 1 d e .0) (lt-ltb h) in (
-        rw (slottingOf, e, there) (ap Filled (s .tabled .counted)),
-        rw (tableAfter, e, there) (table-exact x (s .tabled)),
-        rw (badAfter, e, there) (marks-exact (inconsistent 1 (slotsOf b d)) (length bad) m (s .bads)),
-        rw (fullAfter, e, there) (marks-exact (nonempty 1 (settled 1 (slotsOf b d))) (length full) f (s .fulls)),
+        rw (slottingUnder, e, there) (ap Filled (s .tabled .counted)),
+        rw (tableUnder, e, there) (table-exact x (s .tabled)),
+        rw (badUnder, e, there) (marks-exact (inconsistent 1 (slotsOf b d)) (length bad) m (s .bads)),
+        rw (fullUnder, e, there) (marks-exact (nonempty 1 (settled 1 (slotsOf b d))) (length full) f (s .fulls)),
         record { total = n; read = e; slots-settled = s },
       )
+
+-- ---- under a list of pairs
+
+module _ (P d : List ℕ) where
+  abbrev FillsListed : List ℕ → List ℕ → List ℕ → Slotting → List ℕ → List ℕ → List ℕ → Type 0
+  FillsListed t bad full r t′ bad′ full′ =
+      (r ≡ slottingOf P (roomIn t bad full) d) × (t′ ≡ tableAfter P (roomIn t bad full) d t) × (bad′ ≡ badAfter P (roomIn t bad full) d bad)
+      × (full′ ≡ fullAfter P (roomIn t bad full) d full) × FilledBy P (roomIn t bad full) d t′ bad′ full′ r
+
+  -- it is refused: nothing changes
+  pub filling-list : (t bad full : List ℕ) {k i p : ℕ} → pairsReading P ≡ reading.Refused k i p → FillsListed t bad full (Refused k i p) t bad full
+  unfolding slottingOf tableAfter badAfter fullAfter
+  filling-list t bad full e = (rw (slottingOf, e), rw (tableAfter, e), rw (badAfter, e), rw (fullAfter, e), λ room. rw e)
+
+  -- it is accepted
+  module _ {n : ℕ} (e : pairsReading P ≡ reading.Accepted n) where
+    filled-listed : (room : ℕ) (t bad full : List ℕ) (r : Slotting) → FilledUnder (under P) room d t bad full r → FilledBy P room d t bad full r
+    filled-listed room t bad full (Filled used) f = (record { count = n; list-read = e }, f)
+    filled-listed room t bad full (Refused k i p) f = λ more. rw e (f more)
+
+    pub filling-listed : (t bad full t′ bad′ full′ : List ℕ) {r : Slotting} → Fills (under P) d t bad full r t′ bad′ full′ → FillsListed t bad full r t′ bad′ full′
+    unfolding slottingOf tableAfter badAfter fullAfter
+    filling-listed t bad full t′ bad′ full′ {r} f =
+        (f .0 ∙ rw (slottingOf, e), f .1 ∙ rw (tableAfter, e), f .2 ∙ rw (badAfter, e), f .3 ∙ rw (fullAfter, e), filled-listed (roomIn t bad full) t′ bad′ full′ r (f .4))

@@ -3,18 +3,24 @@
 use Prim.Native.Nat.{_<_, _≤_, ℕ}
 use lib.Dec.{eqb, leb, ltb}
 use lib.ListN.{getD, length}
-use mathlib.Core.Bool.{cond, false, true}
+use mathlib.Core.Bool.{Bool, _&&_, cond, false, true}
 use mathlib.Core.List.{List}
 use mathlib.Core.Logic.{_≢_}
+use mathlib.Core.Option.{Option}
 use mathlib.Core.Path.{_∙_, _≡_, ap, refl}
 use native.Mathlib.Omega.{arith}
 use Rattle.base.proofs.ChainLaws.{chains-same}
 use Rattle.base.proofs.Tests.{eq-cases, ge-ltb, gt-leb, lt-cases, lt-ltb, ne-eqb, tests}
+use Rattle.blocks.specs.declared.Entry.{Entry}
+use Rattle.logic.specs.Background.{standing}
 use Rattle.logic.specs.Normal.{atMost, found}
+use Rattle.pairs.specs.Pairs.{under}
+use Rattle.passes.proofs.SlotLists.RestrictLaws.{excluded-settled}
+use Rattle.passes.specs.code.Restrict.{excludedAt}
 use Rattle.passes.specs.code.Slots.{Slot}
 use Rattle.slots.proofs.states.SlotSearch.{high-slot, low-slot}
-use Rattle.slots.specs.code.States.{Indexed, highAt, lowAt}
-use Rattle.slots.specs.code.Tables.{Exact, Kept, Settling, hashOf, highIn, highPart, keyIn, lowPart, noBound}
+use Rattle.slots.specs.code.States.{Indexed, highAt, lowAt, supportedBy}
+use Rattle.slots.specs.code.Tables.{Exact, Kept, Settling, hashOf, highIn, highPart, keyIn, lowPart, noBound, slotsFrom}
 
 module _ {ss : List Slot} {t next head : List ℕ} {used : ℕ} (i : Indexed ss t next head used) {s x : ℕ} (b : s ≤ used) (e : x ≡ cond (eqb s 0) noBound (getD t s 0)) where
   pub bounds-low : lowPart x ≡ lowAt ss s
@@ -70,3 +76,16 @@ kept-keys {head = head} k size keys =
 
 pub settled-kept : {origin t next head bad full : List ℕ} {used : ℕ} → Kept origin next head used → Settling origin used 0 t bad full → Kept t next head used
 settled-kept k s = kept-keys k (s .size) (s .keys)
+
+-- ---- a lack that is implied
+
+-- settled slots exclude what the slots do, so that what the table supports is what the slots do
+pub implied-supported : (P : List ℕ) {ss : List Slot} {t next head : List ℕ} {used : ℕ} → Indexed ss t next head used → (e : Entry) (s lo : ℕ) (hi : Option ℕ) {out : Bool}
+    → out ≡ (eqb (e .kind) 2 && excludedAt (under P) (slotsFrom t 1 used) s (e .name))
+    → supportedBy standing out (e .kind) (e .name) (e .number) lo hi
+    ≡ supportedBy (under P) (excludedAt (under P) ss s (e .name)) (e .kind) (e .name) (e .number) lo hi
+unfolding supportedBy
+implied-supported P {ss} i e s lo hi {out} o =
+    eq-cases (e .kind) 2
+    (λ q. let same : out ≡ excludedAt (under P) ss s (e .name) = o ∙ rw (q, i .slotted) (excluded-settled (under P) 1 ss s (e .name)) in rw (q, same))
+    (λ z. rw (ne-eqb z))

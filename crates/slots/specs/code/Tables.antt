@@ -17,7 +17,8 @@ use Rattle.logic.specs.Normal.{found}
 use Rattle.meaning.specs.Description.{rowOf}
 use Rattle.meaning.specs.Owned.{Owned}
 use Rattle.passes.specs.code.Keys.{keyNumber}
-use Rattle.passes.specs.code.Restrict.{slotsUnder}
+use Rattle.pairs.specs.Pairs.{under}
+use Rattle.passes.specs.code.Restrict.{excludedAt, slotsUnder}
 use Rattle.passes.specs.code.Slots.{Slot, broken, build, inconsistent, nonempty, position, settled, slot, slots, tighten}
 
 -- the number that stands for no upper bound: no bound of an entry is as large
@@ -168,21 +169,36 @@ pub record Built (ss : List Slot) (d : List ℕ) (used : ℕ) (origin t next hea
   pub few : used ≤ length (entriesOf d)
   pub bounded : (n : ℕ) → 1 ≤ n → n ≤ length (entriesOf d) → Bounded (nth (entriesOf d) n)
 
--- ---- the pass between the first and the second, under the rule that every record keeps
+-- ---- the pass between the first and the second, under what every record keeps
 
 -- the upper bound of a link that leads to one item: nothing meets it where more are asked for, and none where one or more are allowed
 unfoldable pub singleHigh : ℕ → ℕ → ℕ
 singleHigh lo hi = cond (ltb 1 lo || eqb hi 0) 0 noBound
 
--- a slot under the rule: those of links from 32,768 up change
-unfoldable pub restrictedWord : ℕ → ℕ
-restrictedWord x =
-    cond (ltb (keyIn x % 131072) 98304) x (slotNumber (keyIn x) (lowPart x) (singleHigh (lowPart x) (highPart x)))
+-- a link's slot under the rule: those from 32,768 up change
+unfoldable pub linkWord : ℕ → ℕ
+linkWord x = cond (ltb (keyIn x % 131072) 98304) x (slotNumber (keyIn x) (lowPart x) (singleHigh (lowPart x) (highPart x)))
 
--- the slots up to slot s are under the rule; `origin` is the table before the pass
-pub record Restricted (origin : List ℕ) (s : ℕ) (t : List ℕ) : Type 0 where
+-- the upper bound of a property that is excluded: nothing meets it where the place has it, and none otherwise, since its lack is implied
+unfoldable pub excludedHigh : ℕ → ℕ
+excludedHigh lo = cond (eqb lo 0) noBound 0
+
+-- a property's slot, by whether it is excluded at its place
+unfoldable pub propertyWord : Bool → ℕ → ℕ
+propertyWord out x = cond out (slotNumber (keyIn x) (lowPart x) (excludedHigh (lowPart x))) x
+
+-- a slot under a list of pairs
+unfoldable pub restrictedWord : Bool → ℕ → ℕ
+restrictedWord out x = cond (ltb (keyIn x % 131072) 65536) (propertyWord out x) (linkWord x)
+
+-- the name of a slot is excluded at its place, by the slots of a table
+abbrev pub excludedSlot : List ℕ → List ℕ → ℕ → ℕ → Bool
+excludedSlot P t used x = excludedAt (under P) (slotsIn t used) (keyIn x / 131072) (keyIn x % 65536)
+
+-- the slots up to slot s are under a list of pairs; `origin` is the table before the pass
+pub record Restricted (P origin : List ℕ) (used s : ℕ) (t : List ℕ) : Type 0 where
   pub size : length t ≡ length origin
-  pub under : (j : ℕ) → 1 ≤ j → j ≤ s → getD t j 0 ≡ restrictedWord (getD origin j 0)
+  pub changed : (j : ℕ) → 1 ≤ j → j ≤ s → getD t j 0 ≡ restrictedWord (excludedSlot P origin used (getD origin j 0)) (getD origin j 0)
   pub top : getD t 0 0 ≡ getD origin 0 0
   pub rest : (j : ℕ) → s < j → getD t j 0 ≡ getD origin j 0
 
@@ -237,3 +253,9 @@ pub record Chained (b : Background) (d : List ℕ) (used : ℕ) (origin t next h
   pub settled′ : Settled b d used t bad full
   pub exact : Exact origin t used
   pub kept : Kept t next head used
+
+-- what judging by the slots of a description needs of them: they stand in the table, settled, on their chains, and the top's mark is right
+pub record Held (b : Background) (d : List ℕ) (used : ℕ) (t next head bad : List ℕ) : Type 0 where
+  pub kept : Kept t next head used
+  pub tabled : Tabled b d used t
+  pub top : getD bad 0 0 ≡ bit (inconsistent 1 (slotsOf b d) 0)

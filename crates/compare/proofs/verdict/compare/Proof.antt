@@ -6,7 +6,7 @@ use Rattle.compare.proofs.verdict.compare.Tie as tie
 
 compare-few-requires : tie.Need-compare-few-requires
 compare-few-requires c κs =
-    let a = c .before .before .before .before .before .before .args in
+    let a = c .before .before .before .before .before .before .before .args in
     small-both (a .c .now) (a .d .now) (c .before .before .are-small .ensures) (c .before .if1 .taken) .0
 
 returns : tie.Need-returns

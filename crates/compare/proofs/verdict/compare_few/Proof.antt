@@ -6,7 +6,7 @@ use Rattle.compare.proofs.verdict.compare_few.Statement.{statement}
 use Rattle.compare.proofs.verdict.compare_few.Tie as tie
 
 compare-in-requires : tie.Need-compare-in-requires
-compare-in-requires c κs = roomy _ 64 (omega (arith, c .before .before .before .before .before .pre))
+compare-in-requires c κs = roomy _ 64 (omega (arith, c .before .before .before .before .before .before .pre))
 
 returns : tie.Need-returns
 returns c = c .before .before .before .compare-in .ensures

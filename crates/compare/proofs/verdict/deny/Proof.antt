@@ -1,7 +1,6 @@
 -- `deny` meets its contract: too short, or shown.
 use borrow.Author.Needs.{needs}
 use mathlib.Core.Path.{_∙_, sym}
-use Rattle.logic.specs.Background.{standing}
 use Rattle.base.proofs.Tests.{ltb-ge, ltb-lt}
 use Rattle.compare.proofs.verdict.RoomLaws.{both-short}
 use Rattle.compare.proofs.verdict.VerdictLaws.{read-short}
@@ -9,10 +8,10 @@ use Rattle.compare.proofs.verdict.deny.Statement.{statement}
 use Rattle.compare.proofs.verdict.deny.Tie as tie
 
 is-short-requires : tie.Need-is-short-requires
-is-short-requires c κs = both-short (c .before .before .before .before .before .pre .read)
+is-short-requires c κs = both-short (c .before .before .before .before .before .pre .failed .read)
 
 returns : tie.Need-returns
-returns c = read-short standing _ _ _ (c .before .before .before .before .before .before .before .pre .read) (ltb-lt (sym (c .before .is-short .ensures) ∙ c .if1 .taken))
+returns c = λ b R f. read-short b _ _ _ (f .read) (ltb-lt (sym (c .before .is-short .ensures) ∙ c .if1 .taken))
 
 show-requires : tie.Need-show-requires
 show-requires c κs = (c .before .before .before .before .before .before .before .before .pre, ltb-ge (sym (c .before .before .is-short .ensures) ∙ c .before .if1 .left))

@@ -7,7 +7,7 @@ use Rattle.normal.proofs.output.normalise_few.Statement.{statement}
 use Rattle.normal.proofs.output.normalise_few.Tie as tie
 
 normalise-in-requires : tie.Need-normalise-in-requires
-normalise-in-requires c κs = roomy-zeros _ 63 64 128 refl refl (omega arith) (omega arith) (few-entries _ (c .before .before .before .before .before .before .before .before .before .before .before .pre))
+normalise-in-requires c κs = roomy-zeros _ 63 64 128 refl refl (omega arith) (omega arith) (few-entries _ (c .before .before .before .before .before .before .before .before .before .before .before .before .pre))
 
 pub normalise-few-spec : {M : Type 1} → statement M
 normalise-few-spec =

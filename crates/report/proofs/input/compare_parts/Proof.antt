@@ -1,4 +1,4 @@
--- `compare_parts` meets its contract: the parts that it compares are those of the division.
+-- `compare_parts` meets its contract: the parts that it compares, with no pairs, are those of the division.
 use borrow.Author.Needs.{needs}
 use Rattle.report.proofs.DivisionLaws.{parts-compared}
 use Rattle.report.proofs.input.compare_parts.Statement.{statement}
@@ -7,10 +7,10 @@ use Rattle.report.proofs.input.compare_parts.Tie as tie
 returns : tie.Need-returns
 returns c =
     let b = c .before .before in
-    parts-compared _ _ (b .before .before .before .before .first-length .ensures .0) (b .compare .ensures)
+    parts-compared _ _ (b .before .before .before .before .before .first-length .ensures .0) (b .compare .ensures)
 
 pub compare-parts-spec : {M : Type 1} → statement M
 compare-parts-spec =
     tie.close
     (tie.spec (λ c κs. search needs) (λ c. search needs) (λ c. search needs) (λ c. search needs) (λ c. search needs) (λ c. search needs)
-    (λ c. search needs) (λ c κs. search needs) (λ c. search needs) returns)
+    (λ c. search needs) (λ c. search needs) (λ c. search needs) (λ c. search needs) (λ c κs. search needs) (λ c. search needs) returns)

@@ -1,19 +1,19 @@
 -- `judge_read` meets its contract: too short, or judged in tables of one of the two sizes.
 use borrow.Author.Needs.{needs}
 use native.Mathlib.Omega.{arith}
-use Rattle.logic.specs.Background.{standing}
+use Rattle.pairs.specs.Pairs.{under}
 use Rattle.slots.proofs.failing.JudgingLaws.{judging-short}
 use Rattle.slots.proofs.failing.judge_read.Statement.{statement}
 use Rattle.slots.proofs.failing.judge_read.Tie as tie
 
 returns : tie.Need-returns
-returns c = let a = c .before .before .before .before .pre in judging-short standing _ _ _ (a .0) (a .1) (omega (arith, c .if1 .taken))
+returns c = let a = c .before .before .before .before .before .pre in judging-short (under _) _ _ _ (a .2) (a .3) (omega (arith, c .if1 .taken))
 
 judge-few-requires : tie.Need-judge-few-requires
-judge-few-requires c κs = let a = c .before .before .before .before .before .before .before .pre in (a .0, a .1, omega (arith, c .before .before .before .if1 .left), search needs, search needs)
+judge-few-requires c κs = let a = c .before .before .before .before .before .before .before .before .pre in (a .0, a .1, a .2, a .3, omega (arith, c .before .before .before .if1 .left), search needs, search needs)
 
 judge-many-requires : tie.Need-judge-many-requires
-judge-many-requires c κs = let a = c .before .before .before .before .before .before .pre in (a .0, a .1, omega (arith, c .before .before .if1 .left))
+judge-many-requires c κs = let a = c .before .before .before .before .before .before .before .pre in (a .0, a .1, a .2, a .3, omega (arith, c .before .before .if1 .left))
 
 returns-2 : tie.Need-returns-2
 returns-2 c = c .before .before .judge-few .ensures

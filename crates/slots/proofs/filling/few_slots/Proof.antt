@@ -7,8 +7,8 @@ use Rattle.slots.proofs.filling.few_slots.Tie as tie
 
 chained-slots-requires : tie.Need-chained-slots-requires
 chained-slots-requires c κs =
-    let a = c .before .before .before .before .before .before .before .before .before .before .pre in
-    (a .0, omega (arith, a), workspace-zeros _ 64 61 (omega (arith, a)) (omega arith), search needs, search needs)
+    let a = c .before .before .before .before .before .before .before .before .before .before .before .pre in
+    (a .0, a .1, omega (arith, a), workspace-zeros _ 64 61 (omega (arith, a)) (omega arith), search needs, search needs)
 
 returns : tie.Need-returns
 returns c = let s = c .before .before .before .before .before .before .before .before .before .chained-slots .ensures in (s .settled′, s .exact)

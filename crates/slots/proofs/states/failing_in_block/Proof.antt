@@ -9,7 +9,7 @@ use Rattle.base.proofs.SearchLaws.{first-end, first-goes, first-stops}
 use Rattle.base.proofs.Tests.{false-of-not, true-of-not}
 use Rattle.base.specs.Search.{firstFrom}
 use Rattle.blocks.specs.Entries.{entriesOf, nth}
-use Rattle.logic.specs.Background.{standing}
+use Rattle.pairs.specs.Pairs.{under}
 use Rattle.passes.specs.code.Slots.{Slot}
 use Rattle.slots.proofs.entries.NextEntry.{owner-before}
 use Rattle.slots.proofs.states.SlotStates.{holds-here, state-small, stated-more}
@@ -18,84 +18,84 @@ use Rattle.slots.proofs.states.failing_in_block.Statement.{statement}
 use Rattle.slots.proofs.states.failing_in_block.Tie as tie
 
 abbrev Inv-loop : tie.InvT-loop
-Inv-loop table next head used d from count done states₀ i₀ states i =
+Inv-loop pairs index table next head used d from count done states₀ i₀ states i =
     (i ≤ count) × Stated d table next head used (done + i) states × (length states ≡ length states₀)
     × ((ss : List Slot) → Indexed ss table next head used
-    → firstFrom (holdsBySlots standing ss (entriesOf d)) (done + 1) count ≡ firstFrom (holdsBySlots standing ss (entriesOf d)) (done + i + 1) (done + count + 1 - (done + i + 1)))
+    → firstFrom (holdsBySlots (under pairs) ss (entriesOf d)) (done + 1) count ≡ firstFrom (holdsBySlots (under pairs) ss (entriesOf d)) (done + i + 1) (done + count + 1 - (done + i + 1)))
 
 abbrev μ-loop : tie.MeasureT-loop
-μ-loop table next head used d from count done states₀ i₀ states i = count - i
+μ-loop pairs index table next head used d from count done states₀ i₀ states i = count - i
 
 -- the entry that is read is that of the list
-entry-read : (c : tie.After-entry-from Inv-loop μ-loop) → c .entry-from .result ≡ nth (entriesOf (c .before .before .before .before .before .before .before .before .args .d .now)) (suc (c .before .before .before .before .before .before .before .before .args .done + c .before .before .loop .i))
-entry-read c = c .entry-from .ensures ∙ c .before .before .before .before .before .before .before .before .pre .4 .each _ (omega (arith, c .before .if1 .left)) ∙ ap (nth _) (omega arith)
+entry-read : (c : tie.After-entry-from Inv-loop μ-loop) → c .entry-from .result ≡ nth (entriesOf (c .before .before .before .before .before .before .before .before .before .args .d .now)) (suc (c .before .before .before .before .before .before .before .before .before .args .done + c .before .before .loop .i))
+entry-read c = c .entry-from .ensures ∙ c .before .before .before .before .before .before .before .before .before .pre .5 .each _ (omega (arith, c .before .if1 .left)) ∙ ap (nth _) (omega arith)
 
-entry-there : (c : tie.After-entry-from Inv-loop μ-loop) → suc (c .before .before .before .before .before .before .before .before .args .done + c .before .before .loop .i) ≤ length (entriesOf (c .before .before .before .before .before .before .before .before .args .d .now))
-entry-there c = omega (arith, c .before .if1 .left, c .before .before .before .before .before .before .before .before .pre .4 .within)
+entry-there : (c : tie.After-entry-from Inv-loop μ-loop) → suc (c .before .before .before .before .before .before .before .before .before .args .done + c .before .before .loop .i) ≤ length (entriesOf (c .before .before .before .before .before .before .before .before .before .args .d .now))
+entry-there c = omega (arith, c .before .if1 .left, c .before .before .before .before .before .before .before .before .before .pre .5 .within)
 
 -- the state of its owner is read
 state-read : (c : tie.After-long Inv-loop μ-loop) → c .long .result ≡ getD (c .before .before .before .before .before .loop .states) (c .before .before .before .entry-from .result .owner) 0
 state-read c = c .long .ensures .0 ∙ ap (λ (o : ℕ). getD (c .before .before .before .before .before .loop .states) o 0) (c .before .before .wide .ensures .0)
 
 state-little : (c : tie.After-long Inv-loop μ-loop) → c .long .result ≤ 1024
-state-little c = state-small (c .before .before .before .before .before .before .before .before .before .before .before .pre .2) (c .before .before .before .before .before .loop .inv .1) (entry-there (c .before .before .before)) (entry-read (c .before .before .before)) (state-read c)
+state-little c = state-small (c .before .before .before .before .before .before .before .before .before .before .before .before .pre .3) (c .before .before .before .before .before .loop .inv .1) (entry-there (c .before .before .before)) (entry-read (c .before .before .before)) (state-read c)
 
 loop-holds : tie.Need-loop-holds Inv-loop μ-loop
 loop-holds c =
-    let a = c .before .before .before .before .before .args in
+    let a = c .before .before .before .before .before .before .args in
     let z : a .done + 0 ≡ a .done = omega arith in
     let e : a .done + a .count + 1 - (a .done + 1) ≡ a .count = omega arith in
-    (omega arith, rw z (c .before .before .before .before .before .pre .5), refl, λ ss x. rw (z, e))
+    (omega arith, rw z (c .before .before .before .before .before .before .pre .6), refl, λ ss x. rw (z, e))
 
 entry-from-requires : tie.Need-entry-from-requires Inv-loop μ-loop
-entry-from-requires c κs = omega (arith, c .if1 .left, c .before .before .before .before .before .before .before .pre .4 .there)
+entry-from-requires c κs = omega (arith, c .if1 .left, c .before .before .before .before .before .before .before .before .pre .5 .there)
 
 slice-read-long : tie.Need-slice-read-long Inv-loop μ-loop
 slice-read-long c =
-    omega (arith, c .before .wide .ensures .0, owner-before (c .before .before .before .before .before .before .before .before .before .before .pre .2) (entry-there (c .before .before)) (entry-read (c .before .before)), entry-there (c .before .before), c .before .before .before .before .loop .inv .1 .room)
+    omega (arith, c .before .wide .ensures .0, owner-before (c .before .before .before .before .before .before .before .before .before .before .before .pre .3) (entry-there (c .before .before)) (entry-read (c .before .before)), entry-there (c .before .before), c .before .before .before .before .loop .inv .1 .room)
 
 holds-requires : tie.Need-holds-requires Inv-loop μ-loop
-holds-requires c κs = (c .before .before .before .before .before .before .before .before .before .before .before .pre .0, c .before .before .before .before .before .before .before .before .before .before .before .pre .1, state-little c)
+holds-requires c κs = (c .before .before .before .before .before .before .before .before .before .before .before .before .pre .0, c .before .before .before .before .before .before .before .before .before .before .before .before .pre .1, c .before .before .before .before .before .before .before .before .before .before .before .before .pre .2, state-little c)
 
 add-result : tie.Need-add-result Inv-loop μ-loop
-add-result c = omega (arith, entry-there (c .before .before .before .before .before), c .before .before .before .before .before .before .before .before .before .before .before .before .before .pre .3)
+add-result c = omega (arith, entry-there (c .before .before .before .before .before), c .before .before .before .before .before .before .before .before .before .before .before .before .before .before .pre .4)
 
 leads-to-requires : tie.Need-leads-to-requires Inv-loop μ-loop
-leads-to-requires c κs = (c .before .before .before .before .before .before .before .before .before .before .before .before .before .pre .0, c .before .before .before .before .before .before .before .before .before .before .before .before .before .pre .1, state-little (c .before .before))
+leads-to-requires c κs = (c .before .before .before .before .before .before .before .before .before .before .before .before .before .before .pre .1, c .before .before .before .before .before .before .before .before .before .before .before .before .before .before .pre .2, state-little (c .before .before))
 
 cast-states : tie.Need-cast-states Inv-loop μ-loop
 cast-states c = omega (arith, c .leads-to .ensures .0)
 
 add-states : tie.Need-add-states Inv-loop μ-loop
-add-states c = omega (arith, entry-there (c .before .before .before .before .before .before), c .before .before .before .before .before .before .before .before .before .before .before .before .before .before .pre .3)
+add-states c = omega (arith, entry-there (c .before .before .before .before .before .before), c .before .before .before .before .before .before .before .before .before .before .before .before .before .before .before .pre .4)
 
 mul-states : tie.Need-mul-states Inv-loop μ-loop
-mul-states c = omega (arith, entry-there (c .before .before .before .before .before .before), c .before .before .before .before .before .before .before .before .before .before .before .before .before .before .pre .3)
+mul-states c = omega (arith, entry-there (c .before .before .before .before .before .before), c .before .before .before .before .before .before .before .before .before .before .before .before .before .before .before .pre .4)
 
 slice-write-states : tie.Need-slice-write-states Inv-loop μ-loop
 slice-write-states c = omega (arith, entry-there (c .before .before .before .before .before .before), c .before .before .before .before .before .before .before .before .loop .inv .1 .room)
 
 loop-again : tie.Need-loop-again Inv-loop μ-loop
 loop-again c =
-    let a = c .before .before .before .before .before .before .before .before .before .before .before .before .before .before in
+    let a = c .before .before .before .before .before .before .before .before .before .before .before .before .before .before .before in
     let l = c .before .before .before .before .before .before .before .before .loop in
     let w = c .before .before .before .before .before .before in
     let b : l .i < a .args .count = omega (arith, c .before .before .before .before .before .before .before .if1 .left) in
     let e : a .args .done + (l .i + 1) ≡ a .args .done + l .i + 1 = omega arith in (
       omega (arith, b),
-      stated-more (a .pre .2) (l .inv .1) (entry-there w) (entry-read w) (state-read (c .before .before .before)) (omega arith) (c .leads-to .ensures .0) (c .leads-to .ensures .1),
+      stated-more (a .pre .3) (l .inv .1) (entry-there w) (entry-read w) (state-read (c .before .before .before)) (omega arith) (c .leads-to .ensures .0) (c .leads-to .ensures .1),
       simp length-set (l .inv .2),
       λ ss x.
           l .inv .3 ss x
           ∙ first-goes _ _ _ (omega (arith, b))
-          (holds-here (a .pre .2) (l .inv .1) (entry-there w) (entry-read w) (state-read (c .before .before .before)) (omega arith) standing ss x (c .before .before .holds .ensures ss x) ∙ true-of-not _ (c .before .if2 .left))
+          (holds-here (a .pre .3) (l .inv .1) (entry-there w) (entry-read w) (state-read (c .before .before .before)) (omega arith) (under (a .args .pairs .now)) ss x (c .before .before .holds .ensures ss x) ∙ true-of-not _ (c .before .if2 .left))
           ∙ rw e,
     )
 
 returns : tie.Need-returns Inv-loop μ-loop
 returns c =
     let l = c .before .loop in
-    let e : l .i ≡ c .before .before .before .before .before .before .before .args .count = omega (arith, c .if1 .taken, l .inv .0) in
+    let e : l .i ≡ c .before .before .before .before .before .before .before .before .args .count = omega (arith, c .if1 .taken, l .inv .0) in
     record {
       low = omega arith;
       stated = λ z. rw (← e) (l .inv .1);
@@ -104,7 +104,7 @@ returns c =
 
 returns-2 : tie.Need-returns-2 Inv-loop μ-loop
 returns-2 c =
-    let a = c .before .before .before .before .before .before .before .before .before .before .before .before .before in
+    let a = c .before .before .before .before .before .before .before .before .before .before .before .before .before .before in
     let l = c .before .before .before .before .before .before .before .loop in
     let w = c .before .before .before .before .before in
     let b : l .i < a .args .count = omega (arith, c .before .before .before .before .before .before .if1 .left) in
@@ -114,7 +114,7 @@ returns-2 c =
       stated = λ z. absurd (omega (arith, z));
       first = λ ss x. e
           ∙ sym (l .inv .3 ss x ∙ first-stops _ _ _ (omega (arith, b))
-          (holds-here (a .pre .2) (l .inv .1) (entry-there w) (entry-read w) (state-read (c .before .before)) (omega arith) standing ss x (c .before .holds .ensures ss x) ∙ false-of-not _ (c .if2 .taken)));
+          (holds-here (a .pre .3) (l .inv .1) (entry-there w) (entry-read w) (state-read (c .before .before)) (omega arith) (under (a .args .pairs .now)) ss x (c .before .holds .ensures ss x) ∙ false-of-not _ (c .if2 .taken)));
     }
 
 pub failing-in-block-spec : {M : Type 1} → statement M

@@ -10,7 +10,7 @@ use Rattle.base.specs.Search.{firstFrom}
 use Rattle.blocks.proofs.Refusing.Blockwise.{at-first, at-next, in-block}
 use Rattle.blocks.specs.Entries.{entriesOf}
 use Rattle.blocks.specs.code.Blockwise.{AtBlock, nextCount}
-use Rattle.logic.specs.Background.{standing}
+use Rattle.pairs.specs.Pairs.{under}
 use Rattle.passes.specs.code.Slots.{Slot}
 use Rattle.slots.proofs.states.SlotStates.{stated-start}
 use Rattle.slots.specs.code.States.{Indexed, Stated, holdsBySlots}
@@ -18,35 +18,35 @@ use Rattle.slots.proofs.states.first_failing_entry.Statement.{statement
 use Rattle.slots.proofs.states.first_failing_entry.Tie as tie
 
 abbrev Inv-loop : tie.InvT-loop
-Inv-loop table next head used d total states₀ n₀ at₀ states n at =
+Inv-loop pairs index table next head used d total states₀ n₀ at₀ states n at =
     AtBlock total n at × Stated d table next head used n states × (length states ≡ length states₀)
     × ((ss : List Slot) → Indexed ss table next head used
-    → firstFrom (holdsBySlots standing ss (entriesOf d)) 1 total ≡ firstFrom (holdsBySlots standing ss (entriesOf d)) (n + 1) (total + 1 - (n + 1)))
+    → firstFrom (holdsBySlots (under pairs) ss (entriesOf d)) 1 total ≡ firstFrom (holdsBySlots (under pairs) ss (entriesOf d)) (n + 1) (total + 1 - (n + 1)))
 
 abbrev μ-loop : tie.MeasureT-loop
-μ-loop table next head used d total states₀ n₀ at₀ states n at = total - n
+μ-loop pairs index table next head used d total states₀ n₀ at₀ states n at = total - n
 
 -- the block ends with the last entry or before
-count-within : (c : tie.After-next-count Inv-loop μ-loop) → c .before .before .loop .n + 1 + c .next-count .result ≤ c .before .before .before .before .before .before .before .before .args .total + 1
+count-within : (c : tie.After-next-count Inv-loop μ-loop) → c .before .before .loop .n + 1 + c .next-count .result ≤ c .before .before .before .before .before .before .before .before .before .args .total + 1
 unfolding nextCount
 count-within c = omega (arith, c .next-count .ensures, c .before .if1 .left)
 
 loop-holds : tie.Need-loop-holds Inv-loop μ-loop
 loop-holds c =
-    let e : c .before .before .before .before .before .args .total + 1 - 1 ≡ c .before .before .before .before .before .args .total = omega arith in
-    (at-first, stated-start (c .before .before .before .before .before .args .states .now) (omega (arith, c .before .before .before .before .before .pre .2 .0, c .before .before .before .before .before .pre .3)), refl, λ ss x. rw e)
+    let e : c .before .before .before .before .before .before .args .total + 1 - 1 ≡ c .before .before .before .before .before .before .args .total = omega arith in
+    (at-first, stated-start (c .before .before .before .before .before .before .args .states .now) (omega (arith, c .before .before .before .before .before .before .pre .3 .0, c .before .before .before .before .before .before .pre .4)), refl, λ ss x. rw e)
 
 failing-in-block-requires : tie.Need-failing-in-block-requires Inv-loop μ-loop
 failing-in-block-requires c κs =
-    let p = c .before .before .before .before .before .before .before .before .before .pre in
+    let p = c .before .before .before .before .before .before .before .before .before .before .pre in
     let l = c .before .before .before .loop .inv in
-    (p .0, p .1, p .2 .2, omega (arith, p .2 .0, p .2 .1), in-block (l .0) (omega (arith, c .before .before .if1 .left)) (c .before .next-count .ensures) (p .2 .0) (p .2 .3), l .1)
+    (p .0, p .1, p .2, p .3 .2, omega (arith, p .3 .0, p .3 .1), in-block (l .0) (omega (arith, c .before .before .if1 .left)) (c .before .next-count .ensures) (p .3 .0) (p .3 .3), l .1)
 
 add-n : tie.Need-add-n Inv-loop μ-loop
-add-n c = omega (arith, count-within (c .before .before .before .before .before), c .before .before .before .before .before .before .before .before .before .before .before .before .before .pre .2 .1)
+add-n c = omega (arith, count-within (c .before .before .before .before .before), c .before .before .before .before .before .before .before .before .before .before .before .before .before .before .pre .3 .1)
 
 add-at : tie.Need-add-at Inv-loop μ-loop
-add-at c = omega (arith, c .before .before .before .before .before .before .before .loop .inv .0 .start, c .before .before .before .before .before .before .if1 .left, c .before .before .before .before .before .before .before .before .before .before .before .before .before .pre .2 .1)
+add-at c = omega (arith, c .before .before .before .before .before .before .before .loop .inv .0 .start, c .before .before .before .before .before .before .if1 .left, c .before .before .before .before .before .before .before .before .before .before .before .before .before .before .pre .3 .1)
 
 loop-less : tie.Need-loop-less Inv-loop μ-loop
 unfolding nextCount
@@ -64,10 +64,10 @@ loop-again c =
     )
 
 same-length : tie.Need-same-length Inv-loop μ-loop
-same-length c = c .before .loop .inv .2 ∙ length-set (c .before .before .before .before .before .before .before .args .states .now) 0 0
+same-length c = c .before .loop .inv .2 ∙ length-set (c .before .before .before .before .before .before .before .before .args .states .now) 0 0
 
 same-length-2 : tie.Need-same-length-2 Inv-loop μ-loop
-same-length-2 c = omega (arith, c .before .before .before .failing-in-block .kept, c .before .before .before .before .before .before .before .loop .inv .2, length-set (c .before .before .before .before .before .before .before .before .before .before .before .before .before .args .states .now) 0 0)
+same-length-2 c = omega (arith, c .before .before .before .failing-in-block .kept, c .before .before .before .before .before .before .before .loop .inv .2, length-set (c .before .before .before .before .before .before .before .before .before .before .before .before .before .before .args .states .now) 0 0)
 
 returns : tie.Need-returns Inv-loop μ-loop
 returns c = (omega arith, λ ss x. sym (c .before .loop .inv .3 ss x ∙ first-end _ _ _ (omega (arith, c .if1 .taken))))

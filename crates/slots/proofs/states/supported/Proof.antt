@@ -1,9 +1,6 @@
 -- `supported` meets its contract, kind by kind.
 use borrow.Author.Needs.{needs}
-use mathlib.Core.Bool.{or-false}
-use mathlib.Core.Path.{_∙_, sym}
 use Rattle.base.proofs.Tests.{ne-eqb}
-use Rattle.slots.proofs.states.BoundLaws.{high-there}
 use Rattle.slots.specs.code.States.{supportedBy}
 use Rattle.slots.proofs.states.supported.Statement.{statement}
 use Rattle.slots.proofs.states.supported.Tie as tie
@@ -14,7 +11,7 @@ returns c = rw (supportedBy, c .match .keys1)
 
 returns-2 : tie.Need-returns-2
 unfolding supportedBy
-returns-2 c = rw (supportedBy, c .match .keys2) (high-there (c .before .args .hi) ∙ sym (or-false _))
+returns-2 c = rw (supportedBy, c .before .match .keys2) (c .lack-holds .ensures)
 
 returns-3 : tie.Need-returns-3
 unfolding supportedBy
@@ -39,4 +36,4 @@ returns-7 c =
     rw (supportedBy, ne-eqb (z .0 .0 .0 .0 .0 .1), ne-eqb (z .0 .0 .0 .0 .1), ne-eqb (z .0 .0 .0 .1), ne-eqb (z .0 .0 .1), ne-eqb (z .0 .1))
 
 pub supported-spec : {M : Type 1} → statement M
-supported-spec = tie.close (tie.spec (λ c κs. search needs) returns returns-2 returns-3 returns-4 returns-5 returns-6 returns-7)
+supported-spec = tie.close (tie.spec (λ c κs. search needs) (λ c κs. search needs) returns returns-2 returns-3 returns-4 returns-5 returns-6 returns-7)
