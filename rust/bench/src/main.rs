@@ -2,6 +2,8 @@
 
 #![forbid(unsafe_code)]
 
+mod listed;
+
 use std::hint::black_box;
 use std::time::Instant;
 
@@ -50,6 +52,7 @@ fn main() {
     }
     let times = read_times(product_specimen, plain_specimen, &specimen, 2016);
     print_row("read specimen", "2,016", SINGLE_LINK, "accepted", times);
+    listed::rows();
 }
 
 /// The best times of two calls in nanoseconds; the two take turns.
