@@ -9,7 +9,7 @@ use gx::text::{desk, parse, text, Mistake, Numbers};
 
 use crate::support::ours;
 
-fn is_at(mistake: &Mistake, line: usize, column: usize, expected: &str, found: &str) {
+pub fn is_at(mistake: &Mistake, line: usize, column: usize, expected: &str, found: &str) {
     let told = format!("{mistake}");
     assert_eq!(
         (mistake.at.line, mistake.at.column),

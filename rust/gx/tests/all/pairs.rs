@@ -8,8 +8,9 @@ use gx::entry::Property;
 use gx::names::Names;
 use gx::owl::{question, read, read_pairs};
 use gx::pairs::{self, Pair};
-use gx::text::{desk_pairs, parse_pairs, Mistake};
+use gx::text::{desk_pairs, parse_pairs};
 
+use crate::mistakes::is_at;
 use crate::support::{description, ours, specimen, Folder};
 
 const NAMES: &str = "property 7 \"clay\"\nproperty 8 \"wet sand\"\nlink 1 \"sample\" \"samples\"\n";
@@ -118,14 +119,8 @@ const MISTAKES: &[(&str, usize, usize, &str, &str)] = &[
 fn mistakes_in_lists() {
     let names = Names::read(NAMES).unwrap();
     for &(text, line, column, expected, found) in MISTAKES {
-        let mistake: Mistake = parse_pairs(text, &names).unwrap_err();
-        assert_eq!(
-            (mistake.at.line, mistake.at.column),
-            (line, column),
-            "{text}"
-        );
-        assert!(mistake.expected.contains(expected), "{text}: {mistake}");
-        assert!(mistake.found.contains(found), "{text}: {mistake}");
+        let mistake = parse_pairs(text, &names).unwrap_err();
+        is_at(&mistake, line, column, expected, found);
     }
 }
 
