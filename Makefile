@@ -42,6 +42,8 @@ outside: lib
 	test "$$(target/c/compare)" = "not contained, entry 1; specimen of 2 entries"
 	$(CC) $(CFLAGS) examples/build.c target/staticlib/libcapi.a -o target/c/build
 	test "$$(target/c/build | tail -n 1)" = "normal form of 3 entries: 5,0,1,0 3,1,2,1 4,1,2,1"
+	$(CC) $(CFLAGS) examples/excluding.c target/staticlib/libcapi.a -o target/c/excluding
+	test "$$(target/c/excluding)" = "without the list: not contained; under it: contained"
 	cargo test --quiet --manifest-path rust/bindings/Cargo.toml
 	cargo test --release --quiet --manifest-path rust/differential/Cargo.toml
 	cargo test --release --quiet --manifest-path rust/bench/Cargo.toml

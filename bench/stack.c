@@ -1,7 +1,7 @@
 /* The stack that each call of the library takes: the call runs on a stack filled with a pattern, and what is no longer the
  * pattern afterwards was used. Each call gets the inputs that lead furthest down: all entries out of order, so that the sort
  * halves to the end, and chains of owners of the greatest depth, as many as a specimen holds, by a link that leads to one item
- * only. */
+ * only. The list has the most pairs, all with the property that is asked for last. */
 #define _GNU_SOURCE
 #include <stdio.h>
 #include <string.h>
@@ -9,9 +9,9 @@
 
 #include "goltximen.h"
 
-enum { STACK = 1 << 18, PATTERN = 0xa5, BLOCKS = 16, ENTRIES = 63 * BLOCKS, CHAIN = 33, SINGLE = 32768 };
+enum { STACK = 1 << 18, PATTERN = 0xa5, BLOCKS = 16, ENTRIES = 63 * BLOCKS, CHAIN = 33, SINGLE = 32768, PAIRS = 64 };
 
-static uint8_t stack[STACK], wide[512 * BLOCKS], chain[512], groups[1024 * BLOCKS], out[1024 * BLOCKS];
+static uint8_t stack[STACK], wide[512 * BLOCKS], chain[512], groups[1024 * BLOCKS], out[1024 * BLOCKS], pairs[4 * PAIRS];
 static ucontext_t here, there;
 static uint64_t answer;
 
@@ -54,6 +54,10 @@ static void make_inputs(void) {
         unsigned first = n % CHAIN == 1;
         put_entry(groups, n, 7, first ? 0 : n - 1, first ? 1 : SINGLE, 0);
     }
+    for (unsigned i = 0; i < PAIRS; i++) {
+        put(pairs + 4 * i, 7);
+        put(pairs + 4 * i + 2, 8 + i);
+    }
     put_entry(chain, CHAIN + 1, 2, 0, 7, 0);
     put_entry(chain, CHAIN + 2, 2, CHAIN - 1, 7, 0);
     put_entry(chain, CHAIN + 3, 4, CHAIN - 1, 1, 9);
@@ -68,6 +72,11 @@ static void fit(void) { answer = gx_fit(groups, sizeof groups, chain, sizeof cha
 static void fit_counted(void) { answer = gx_fit_counted(groups, sizeof groups, chain, sizeof chain); }
 static void normal(void) { answer = gx_normal(wide, sizeof wide, out, sizeof out); }
 static void compare(void) { answer = gx_compare(wide, sizeof wide, chain, sizeof chain, out, sizeof out); }
+static void fit_with(void) { answer = gx_fit_with(pairs, sizeof pairs, NULL, 0, groups, sizeof groups, chain, sizeof chain); }
+static void normal_with(void) { answer = gx_normal_with(pairs, sizeof pairs, NULL, 0, wide, sizeof wide, out, sizeof out); }
+static void compare_with(void) {
+    answer = gx_compare_with(pairs, sizeof pairs, NULL, 0, wide, sizeof wide, chain, sizeof chain, out, sizeof out);
+}
 static void nothing(void) {}
 
 /* The bytes from the lowest that changed to the top. */
@@ -100,5 +109,8 @@ int main(void) {
     show("gx_fit_counted", fit_counted);
     show("gx_normal", normal);
     show("gx_compare", compare);
+    show("gx_fit_with", fit_with);
+    show("gx_normal_with", normal_with);
+    show("gx_compare_with", compare_with);
     return 0;
 }

@@ -1,7 +1,7 @@
 /*
  * Goltximen: soil sample descriptions, what fits them, their normal form, and whether one holds another.
  *
- * The static library is target/staticlib/libcapi.a, for x86-64 Linux; `make lib` builds it. Its six functions are proved to
+ * The static library is target/staticlib/libcapi.a, for x86-64 Linux; `make lib` builds it. Its nine functions are proved to
  * answer what is said here for all bytes and lengths, to read and write no memory but that of their slices and their own
  * stack, and to return.
  *
@@ -20,6 +20,16 @@
  * Links from 32,768 up lead to one item only: a finite record keeps the rule that no item has two items by one of them. What a
  * yes, a no and a normal form promise is about such records.
  *
+ * Properties that exclude each other. gx_fit_with, gx_normal_with and gx_compare_with take a list of pairs of properties, such as
+ * clay and sand, that never hold of one item: 0 to 64 pairs of four bytes, in each pair two properties of two bytes, low byte
+ * first. Which of the two stands first says nothing; a pair may stand there twice, and a property in several pairs. The list says
+ * which records are spoken of: what these calls promise is about every finite record that keeps the list and the rule on
+ * links from 32,768 up. So a place of a description with both properties of a pair is impossible, and one with the one of them
+ * lacks the other. gx_fit, gx_normal and gx_compare are these calls with no pairs and no dictionary, and stay so.
+ *
+ * Dictionaries. The same three calls take a dictionary of named descriptions. Until named descriptions come a dictionary has
+ * length 0, and any other is refused as 1, input 100, place 0.
+ *
  * The answer is one number of 64 bits, answer + 256 * number + 65,536 * first + 4,294,967,296 * second:
  *
  *     case            answer       number              first                 second
@@ -32,8 +42,9 @@
  *     yes, counted    1            0                   additions: the walk   additions: the table
  *     no, counted     2            0                   additions: the walk   additions: the table
  *
- * The refusals, of which the first that applies is answered, input 1 before input 2 and both before 7; in one input 1, then
- * the lowest block that breaks 2 or 3, 2 before 3, then the lowest entry that breaks 4, 5, 6 or 9, in that order:
+ * The refusals, of which the first that applies is answered: 11 before all others, then the dictionary's, then those of input 1,
+ * those of input 2, and 7 last. In one input 1, then the lowest block that breaks 2 or 3, 2 before 3, then the lowest entry that
+ * breaks 4, 5, 6 or 9, in that order, and 12 after all of these:
  *
  *     number   when                                                                              place
  *     1        an input's length is 0, no multiple of 512, or over the limit                     0
@@ -47,8 +58,13 @@
  *     6        an entry's depth is over 32                                                       entry
  *     7        the output is too short                                                           0
  *     9        a specimen's group brings its owner a second item by a link from 32,768 up        entry
+ *     11       the length of a list of pairs is no multiple of 4, or over 64 pairs               0
+ *              otherwise: a pair has a 0 or two equal numbers; the lowest such pair              pair
+ *     12       a specimen has an item with both properties of a pair; the lowest entry that
+ *              completes one: its owner has the other property from an earlier entry             entry
  *
- * Blocks and entries count from 1. The input is 1 or 2, in the order of the arguments; it is 0 for number 7.
+ * Blocks, entries and pairs count from 1. The input is 1 or 2, in the order of the arguments after pairs and dict; it is 0 for
+ * numbers 7 and 11, and 100 for a dictionary.
  *
  * Stack. The most that each call took of the caller's stack, on the inputs that lead furthest down (`make stack` measures it):
  *
@@ -94,7 +110,10 @@ extern "C" {
 /* Reads the description d: a count, its number of entries; or refused. */
 uint64_t gx_read_description(const uint8_t *d, size_t d_len);
 
-/* Reads the specimen s: a count, its number of entries; or refused. Only specimens are refused with 9, here and in gx_fit. */
+/*
+ * Reads the specimen s: a count, its number of entries; or refused. Only specimens are refused with 9, here and in the fit calls.
+ * Reading takes no list, so it never refuses with 12.
+ */
 uint64_t gx_read_specimen(const uint8_t *s, size_t s_len);
 
 /* Whether the top item of the specimen s, input 1, fits the description d, input 2: yes or no; or refused. */
@@ -121,6 +140,30 @@ uint64_t gx_normal(const uint8_t *d, size_t d_len, uint8_t *out, size_t out_len)
  * d together. Where contained or refused, out is unchanged.
  */
 uint64_t gx_compare(const uint8_t *c, size_t c_len, const uint8_t *d, size_t d_len, uint8_t *out, size_t out_len);
+
+/*
+ * gx_fit under a list of pairs. What fits is as without a list; but a specimen that does not keep the list is refused with 12,
+ * after its other checks and before those of d.
+ */
+uint64_t gx_fit_with(const uint8_t *pairs, size_t pairs_len, const uint8_t *dict, size_t dict_len, const uint8_t *s,
+                     size_t s_len, const uint8_t *d, size_t d_len);
+
+/*
+ * gx_normal under a list of pairs: in every finite record that keeps the list and the rule on links from 32,768 up, the same
+ * items fit both. A place with both properties of a pair is impossible, as one with has and lacks of one property is; a lack is
+ * left out where the same place has a property that excludes the one lacked. The normal form is its own under the same list.
+ * Refused with 7 as gx_normal is.
+ */
+uint64_t gx_normal_with(const uint8_t *pairs, size_t pairs_len, const uint8_t *dict, size_t dict_len, const uint8_t *d,
+                        size_t d_len, uint8_t *out, size_t out_len);
+
+/*
+ * gx_compare under a list of pairs: whether in every finite record that keeps the list and the rule on links from 32,768 up each
+ * item that fits the description c, input 1, fits the description d, input 2. The specimen of a not contained keeps both, and
+ * gx_fit_with says yes to it for c and no for d under the same list. Refused with 7 as gx_compare is.
+ */
+uint64_t gx_compare_with(const uint8_t *pairs, size_t pairs_len, const uint8_t *dict, size_t dict_len, const uint8_t *c,
+                         size_t c_len, const uint8_t *d, size_t d_len, uint8_t *out, size_t out_len);
 
 #ifdef __cplusplus
 }

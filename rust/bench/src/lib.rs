@@ -2,5 +2,6 @@
 
 #![forbid(unsafe_code)]
 
+pub mod excluding;
 pub mod inputs;
 pub mod plain;

@@ -2,6 +2,8 @@
 
 #![forbid(unsafe_code)]
 
+mod listed;
+
 use std::hint::black_box;
 use std::time::Instant;
 
@@ -86,6 +88,7 @@ fn main() {
         "one bucket",
         times,
     );
+    listed::rows();
 }
 
 /// The best times of two calls in nanoseconds; the two take turns.

@@ -10,6 +10,9 @@
 //! Links from 32,768 up lead to one item only. Every promise here is about records that keep this rule: in them no item has two
 //! items by such a link.
 //!
+//! [`Under`] has the same calls under a list of properties that exclude each other, such as clay and sand. What they promise is
+//! about records that keep the list as well. [`fit()`], [`normal_form`] and [`compare`] are the calls with no list.
+//!
 //! `k` entries take `512 * k.div_ceil(63).max(1)` bytes, `GX_BYTES(k)` of the C header: a call that writes `k` entries writes
 //! just those bytes, from the start of the output.
 //!
@@ -40,8 +43,10 @@
 mod ffi;
 mod packed;
 mod refusal;
+mod under;
 
 pub use refusal::{Reason, Refusal};
+pub use under::Under;
 
 /// The fit answer.
 #[derive(Clone, Copy, Debug, PartialEq, Eq, Hash)]
@@ -162,7 +167,7 @@ pub fn read_specimen(s: &[u8]) -> Result<u16, Refusal> {
 ///
 /// The refusal of the specimen, and if it is accepted, of the description.
 pub fn fit(specimen: &[u8], description: &[u8]) -> Result<Fit, Refusal> {
-    packed::fields(ffi::fit(specimen, description)).map(fit_of)
+    packed::fit(ffi::fit(specimen, description))
 }
 
 /// The same, with the additions of items that it took. The totals of the specimen's groups are worked out before the walk over
@@ -189,19 +194,13 @@ pub fn fit(specimen: &[u8], description: &[u8]) -> Result<Fit, Refusal> {
 ///
 /// As for [`fit`].
 pub fn fit_counted(specimen: &[u8], description: &[u8]) -> Result<CountedFit, Refusal> {
-    let fields = packed::fields(ffi::fit_counted(specimen, description))?;
+    let counted = ffi::fit_counted(specimen, description);
+    let fields = packed::fields(counted)?;
     Ok(CountedFit {
-        fit: fit_of(fields),
+        fit: packed::fit(counted)?,
         table: fields.second,
         walk: fields.first,
     })
-}
-
-fn fit_of(fields: packed::Fields) -> Fit {
-    match fields.answer {
-        1 => Fit::Yes,
-        _ => Fit::No,
-    }
 }
 
 /// Writes the normal form of a description in blocks from the start of the output, and returns its number of entries. Later
@@ -260,12 +259,5 @@ pub fn normal_form(description: &[u8], out: &mut [u8]) -> Result<u16, Refusal> {
 /// The refusal of `c`; if it is accepted, that of `d`; then [`Reason::Output`] where the output is shorter than both together.
 /// The output is then unchanged.
 pub fn compare(c: &[u8], d: &[u8], out: &mut [u8]) -> Result<Comparison, Refusal> {
-    let fields = packed::fields(ffi::compare(c, d, out))?;
-    Ok(match fields.answer {
-        1 => Comparison::Contained,
-        _ => Comparison::NotContained {
-            entry: fields.first,
-            entries: fields.second,
-        },
-    })
+    packed::comparison(ffi::compare(c, d, out))
 }

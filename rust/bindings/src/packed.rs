@@ -1,6 +1,7 @@
 //! The number of 64 bits that the library answers, taken apart: answer + 256 · number + 65,536 · first + 4,294,967,296 · second.
 
 use crate::refusal::{Reason, Refusal};
+use crate::{Comparison, Fit};
 
 /// The fields of an answer that is no refusal.
 #[derive(Clone, Copy, Debug, PartialEq, Eq)]
@@ -36,6 +37,26 @@ pub(crate) fn count(packed: u64) -> Result<u16, Refusal> {
     fields(packed).map(|fields| fields.second)
 }
 
+/// The fit answer, or the refusal.
+pub(crate) fn fit(packed: u64) -> Result<Fit, Refusal> {
+    Ok(match fields(packed)?.answer {
+        1 => Fit::Yes,
+        _ => Fit::No,
+    })
+}
+
+/// The answer of the comparison, or the refusal.
+pub(crate) fn comparison(packed: u64) -> Result<Comparison, Refusal> {
+    let fields = fields(packed)?;
+    Ok(match fields.answer {
+        1 => Comparison::Contained,
+        _ => Comparison::NotContained {
+            entry: fields.first,
+            entries: fields.second,
+        },
+    })
+}
+
 #[cfg(test)]
 mod tests {
     use super::*;
@@ -54,11 +75,11 @@ mod tests {
 
     #[test]
     fn each_refusal_has_its_number() {
-        for number in [1, 2, 3, 4, 5, 6, 7, 9] {
-            let packed = 256 * u64::from(number) + 65_536 * 2 + 4_294_967_296 * 2016;
+        for number in 1..=20 {
+            let packed = 256 * u64::from(number) + 65_536 * 164 + 4_294_967_296 * 2016;
             let refusal = fields(packed).unwrap_err();
             assert_eq!(refusal.reason.number(), number);
-            assert_eq!((refusal.input, refusal.place), (2, 2016));
+            assert_eq!((refusal.input, refusal.place), (164, 2016));
         }
     }
 }

@@ -4,54 +4,89 @@ use std::error::Error;
 use std::fmt;
 
 /// Why an input or an output is refused: a number of the table of refusals.
+///
+/// The calls of today answer 1 to 7, 9, 11 and 12. The other numbers belong to calls that are still to come; they stand here so
+/// that a match over the reasons stays whole when those come.
 #[derive(Clone, Copy, Debug, PartialEq, Eq, Hash)]
+#[repr(u8)]
 pub enum Reason {
-    /// 1: the input's length is 0, no multiple of 512, or over the limit.
-    Length,
+    /// 1: the input's length is 0, no multiple of 512, or over the limit; or a dictionary is not of length 0.
+    Length = 1,
     /// 2: a block's first or second check is wrong.
-    Check,
+    Check = 2,
     /// 3: a block's number or its used count is wrong, or a byte of its unused entries is not zero.
-    Frame,
+    Frame = 3,
     /// 4: an entry's kind is not allowed, its byte 1 is not zero, or its name or number is outside the table.
-    Form,
+    Form = 4,
     /// 5: an entry's owner is neither 0, the top, nor an earlier entry that may own: one of kind 5 in a description, of kind
     /// 7 in a specimen.
-    Owner,
+    Owner = 5,
     /// 6: an entry's depth is over 32.
-    Depth,
+    Depth = 6,
     /// 7: the output is too short.
-    Output,
+    Output = 7,
+    /// 8: a list has more than 64 descriptions.
+    TooMany = 8,
     /// 9: a group of a specimen brings its owner a second item by a link that leads to one item only, one from 32,768 up.
-    SecondItem,
+    SecondItem = 9,
+    /// 10: the total of items of a record is 0 or over 256, or an item's number is 0 or above the total.
+    Item = 10,
+    /// 11: the length of a list of pairs is no multiple of 4 or over 64 pairs, or a pair has a 0 or two equal numbers.
+    Pairs = 11,
+    /// 12: a specimen has an item with both properties of a pair of the list.
+    BothOfAPair = 12,
+    /// 13: the name of a named description is 0, above the dictionary's count, or in the dictionary not an earlier one.
+    Name = 13,
+    /// 14: a description has more than 1,008 entries or a depth over 32 once its named descriptions are put in.
+    Unfolded = 14,
+    /// 15: an entry of the shorter stored form does not follow an 'every' that can own it.
+    Order = 15,
+    /// 16: an entry is added to a desk that holds 1,008.
+    DeskFull = 16,
+    /// 17: an entry is taken off a desk that holds none.
+    DeskEmpty = 17,
+    /// 18: a stand's number is 0 or unknown, or it would be the fifth.
+    Stand = 18,
+    /// 19: an entry is outside the field-sheet profile.
+    Sheet = 19,
+    /// 20: a desk is one that no list of calls gives, or its memory is too short.
+    Desk = 20,
 }
 
+/// All reasons, by their numbers.
+const ALL: [Reason; 20] = [
+    Reason::Length,
+    Reason::Check,
+    Reason::Frame,
+    Reason::Form,
+    Reason::Owner,
+    Reason::Depth,
+    Reason::Output,
+    Reason::TooMany,
+    Reason::SecondItem,
+    Reason::Item,
+    Reason::Pairs,
+    Reason::BothOfAPair,
+    Reason::Name,
+    Reason::Unfolded,
+    Reason::Order,
+    Reason::DeskFull,
+    Reason::DeskEmpty,
+    Reason::Stand,
+    Reason::Sheet,
+    Reason::Desk,
+];
+
 impl Reason {
-    /// The reason with a number of the table. The library answers no other number than 1 to 7 and 9.
+    /// The reason with a number of the table. The library answers no other number than 1 to 20.
     pub(crate) fn from_number(number: u8) -> Reason {
-        match number {
-            1 => Reason::Length,
-            2 => Reason::Check,
-            3 => Reason::Frame,
-            4 => Reason::Form,
-            5 => Reason::Owner,
-            6 => Reason::Depth,
-            9 => Reason::SecondItem,
-            _ => Reason::Output,
-        }
+        let index = usize::from(number).wrapping_sub(1);
+        ALL.get(index).copied().unwrap_or(Reason::Output)
     }
 
-    /// The number in the table of refusals, 1 to 7 or 9.
+    /// The number in the table of refusals, 1 to 20.
     pub fn number(self) -> u8 {
-        match self {
-            Reason::Length => 1,
-            Reason::Check => 2,
-            Reason::Frame => 3,
-            Reason::Form => 4,
-            Reason::Owner => 5,
-            Reason::Depth => 6,
-            Reason::Output => 7,
-            Reason::SecondItem => 9,
-        }
+        self as u8
     }
 }
 
@@ -60,9 +95,10 @@ impl Reason {
 pub struct Refusal {
     /// Why.
     pub reason: Reason,
-    /// The input, 1 or 2 in the order of the call's arguments; 0 where the output is too short.
+    /// The input, 1 or 2 in the order of the call's arguments; 0 where the output is too short or the list of pairs is refused;
+    /// 100 for a dictionary.
     pub input: u16,
-    /// The block or the entry, counted from 1 in that input; 0 where the reason has no place.
+    /// The block or the entry, counted from 1 in that input, or the pair in the list; 0 where the reason has no place.
     pub place: u16,
 }
 

@@ -1,14 +1,17 @@
 //! The calls on both sides, compared.
 //!
 //! Each function here makes one call of the proved library and of the reference on the same bytes. It gives the answer if both
-//! agree and all else that the paper says of the answer is so, and otherwise the difference.
+//! agree and all else that the paper says of the answer is so, and otherwise the difference. Those that are made under a list are
+//! the plain calls where the list and the dictionary are empty: then these are made too, and have to give the same.
 
 use std::fmt;
 
+use goltximen::Under;
 use reference::{encode, Comparison, Entry, Refusal};
 
 use crate::chance::Chance;
 use crate::damage::Sort;
+use crate::excluding::Given;
 use crate::length_of;
 
 /// What both answered.
@@ -33,6 +36,8 @@ pub enum Answer {
 pub struct Difference {
     /// The call and what is wrong.
     pub what: String,
+    /// The list and the dictionary of the call.
+    pub given: Given,
     /// The inputs of the call.
     pub inputs: Vec<Vec<u8>>,
 }
@@ -40,23 +45,31 @@ pub struct Difference {
 impl fmt::Display for Difference {
     fn fmt(&self, f: &mut fmt::Formatter<'_>) -> fmt::Result {
         writeln!(f, "{}", self.what)?;
+        write_bytes(f, "pairs", &self.given.pairs)?;
+        write_bytes(f, "dictionary", &self.given.dictionary)?;
         for (number, input) in (1..).zip(&self.inputs) {
-            write!(f, "input {number}, {} bytes: ", input.len())?;
-            for byte in input {
-                write!(f, "{byte:02x}")?;
-            }
-            writeln!(f)?;
+            write_bytes(f, &format!("input {number}"), input)?;
         }
         Ok(())
     }
 }
 
+/// A line with these bytes.
+fn write_bytes(f: &mut fmt::Formatter<'_>, name: &str, bytes: &[u8]) -> fmt::Result {
+    write!(f, "{name}, {} bytes: ", bytes.len())?;
+    for byte in bytes {
+        write!(f, "{byte:02x}")?;
+    }
+    writeln!(f)
+}
+
 impl std::error::Error for Difference {}
 
-/// A call, by its name and inputs.
+/// A call, by its name, what it is given and its inputs.
 #[derive(Clone, Copy)]
 struct Case<'a> {
     call: &'static str,
+    under: Under<'a>,
     inputs: &'a [&'a [u8]],
 }
 
@@ -64,6 +77,7 @@ impl Case<'_> {
     fn difference(&self, what: &str) -> Difference {
         Difference {
             what: format!("{}: {what}", self.call),
+            given: given(self.under),
             inputs: self.inputs.iter().map(|input| input.to_vec()).collect(),
         }
     }
@@ -74,6 +88,12 @@ impl Case<'_> {
             return Ok(());
         }
         Err(self.difference(what))
+    }
+
+    /// A difference unless the plain call gives the same, where there is no list and no dictionary.
+    fn ensure_plain(&self, same: impl FnOnce() -> bool) -> Result<(), Difference> {
+        let so = self.under != Under::default() || same();
+        self.ensure(so, "the call without a list answers otherwise")
     }
 
     /// The answer that both gave.
@@ -97,6 +117,14 @@ impl Case<'_> {
     }
 }
 
+/// The same as bytes of its own.
+fn given(under: Under) -> Given {
+    Given {
+        pairs: under.pairs.to_vec(),
+        dictionary: under.dictionary.to_vec(),
+    }
+}
+
 /// An output of noise, and what the two make of it.
 struct Run {
     before: Vec<u8>,
@@ -112,6 +140,12 @@ impl Run {
             plain: before.clone(),
             before,
         }
+    }
+
+    /// Whether this call, made on the output as it was, gives this answer and writes what the library wrote.
+    fn repeats<T: PartialEq>(&self, answer: &T, call: impl FnOnce(&mut [u8]) -> T) -> bool {
+        let mut out = self.before.clone();
+        call(&mut out) == *answer && out == self.proved
     }
 }
 
@@ -164,6 +198,7 @@ pub fn read_specimen(bytes: &[u8]) -> Result<Answer, Difference> {
 pub fn exchanged(sort: Sort, bytes: &[u8], told: Option<u32>) -> Result<Answer, Difference> {
     let case = Case {
         call: "read after an exchange",
+        under: Under::default(),
         inputs: &[bytes],
     };
     let (answer, proved) = match sort {
@@ -190,6 +225,7 @@ fn read(
 ) -> Result<Answer, Difference> {
     let case = Case {
         call,
+        under: Under::default(),
         inputs: &[bytes],
     };
     let answer = case.same(proved.map(usize::from).map_err(in_form), plain)?;
@@ -201,29 +237,45 @@ fn read(
 /// # Errors
 ///
 /// The difference.
-pub fn fit(specimen: &[u8], description: &[u8]) -> Result<Answer, Difference> {
+pub fn fit(under: Under, specimen: &[u8], description: &[u8]) -> Result<Answer, Difference> {
     let case = Case {
         call: "fit",
+        under,
         inputs: &[specimen, description],
     };
-    let proved = goltximen::fit(specimen, description);
+    let Under { pairs, dictionary } = under;
+    let proved = under.fit(specimen, description);
+    case.ensure_plain(|| goltximen::fit(specimen, description) == proved)?;
     let proved = proved
         .map(|fit| fit == goltximen::Fit::Yes)
         .map_err(in_form);
-    let answer = case.same(proved, reference::fit(specimen, description))?;
-    let counted = goltximen::fit_counted(specimen, description);
-    let counted = counted
-        .map(|counted| {
-            let fits = counted.fit == goltximen::Fit::Yes;
-            (fits, usize::from(counted.table), usize::from(counted.walk))
-        })
-        .map_err(in_form);
-    case.same(counted, answer.map(|fits| (fits, groups(specimen), 0)))?;
+    let plain = reference::fit_with(pairs, dictionary, specimen, description);
+    let answer = case.same(proved, plain)?;
+    if pairs.is_empty() && dictionary.is_empty() {
+        counted_fit(&case, specimen, description, answer)?;
+    }
     Ok(match answer {
         Ok(true) => Answer::Yes,
         Ok(false) => Answer::No,
         Err(refusal) => refused(refusal),
     })
+}
+
+/// The same call with its additions: the answer, each group added once in making the table, and none in the walk.
+fn counted_fit(
+    case: &Case,
+    specimen: &[u8],
+    description: &[u8],
+    answer: Result<bool, Refusal>,
+) -> Result<(), Difference> {
+    let counted = goltximen::fit_counted(specimen, description)
+        .map(|counted| {
+            let fits = counted.fit == goltximen::Fit::Yes;
+            (fits, usize::from(counted.table), usize::from(counted.walk))
+        })
+        .map_err(in_form);
+    case.same(counted, answer.map(|fits| (fits, groups(specimen), 0)))
+        .map(|_| ())
 }
 
 /// The groups of an accepted specimen: its table of totals adds each once, and the walk none.
@@ -237,20 +289,28 @@ fn groups(specimen: &[u8]) -> usize {
 }
 
 /// The normal form, with an output of this length. A normal form is written in the blocks that its entries need, has no more
-/// entries than its original, and is its own normal form.
+/// entries than its original, and is its own normal form under the same list.
 ///
 /// # Errors
 ///
 /// The difference.
-pub fn normal_form(chance: &mut Chance, d: &[u8], length: usize) -> Result<Answer, Difference> {
+pub fn normal_form(
+    chance: &mut Chance,
+    under: Under,
+    d: &[u8],
+    length: usize,
+) -> Result<Answer, Difference> {
     let case = Case {
         call: "normal form",
+        under,
         inputs: &[d],
     };
     let mut run = Run::new(chance, length);
-    let proved = goltximen::normal_form(d, &mut run.proved);
+    let proved = under.normal_form(d, &mut run.proved);
+    case.ensure_plain(|| run.repeats(&proved, |out| goltximen::normal_form(d, out)))?;
     let proved = proved.map(usize::from).map_err(in_form);
-    let answer = case.same(proved, reference::normal_form(d, &mut run.plain))?;
+    let plain = reference::normal_with(under.pairs, under.dictionary, d, &mut run.plain);
+    let answer = case.same(proved, plain)?;
     case.same_output(&run, answer.map_or(0, length_of))?;
     let Ok(entries) = answer else {
         return Ok(answer.map_or_else(refused, Answer::Count));
@@ -259,7 +319,7 @@ pub fn normal_form(chance: &mut Chance, d: &[u8], length: usize) -> Result<Answe
     case.ensure(entries <= most, "more entries than the original")?;
     let written = run.proved.get(..length_of(entries)).unwrap_or(&[]);
     let mut again = chance.noise(written.len());
-    let count = goltximen::normal_form(written, &mut again).map(usize::from);
+    let count = under.normal_form(written, &mut again).map(usize::from);
     case.ensure(
         count == Ok(entries),
         "its normal form has another number of entries",
@@ -268,25 +328,29 @@ pub fn normal_form(chance: &mut Chance, d: &[u8], length: usize) -> Result<Answe
     Ok(Answer::Count(entries))
 }
 
-/// The comparison, with an output of this length. A 'not contained' has to be shown by its specimen.
+/// The comparison, with an output of this length. A 'not contained' has to be shown by its specimen under the same list.
 ///
 /// # Errors
 ///
 /// The difference.
 pub fn compare(
     chance: &mut Chance,
+    under: Under,
     c: &[u8],
     d: &[u8],
     length: usize,
 ) -> Result<Answer, Difference> {
     let case = Case {
         call: "compare",
+        under,
         inputs: &[c, d],
     };
     let mut run = Run::new(chance, length);
-    let proved = goltximen::compare(c, d, &mut run.proved);
+    let proved = under.compare(c, d, &mut run.proved);
+    case.ensure_plain(|| run.repeats(&proved, |out| goltximen::compare(c, d, out)))?;
     let proved = proved.map(comparison).map_err(in_form);
-    let answer = case.same(proved, reference::compare(c, d, &mut run.plain))?;
+    let plain = reference::compare_with(under.pairs, under.dictionary, c, d, &mut run.plain);
+    let answer = case.same(proved, plain)?;
     let (entry, entries) = match answer {
         Ok(Comparison::NotContained { entry, entries }) => (entry, entries),
         Ok(Comparison::Contained) => return case.same_output(&run, 0).map(|()| Answer::Contained),
@@ -327,11 +391,11 @@ fn shows(case: &Case, specimen: &[u8], entries: usize) -> Result<(), Difference>
         "the specimen has more entries than C and D together",
     )?;
     case.ensure(
-        fit(specimen, c)? == Answer::Yes,
+        fit(case.under, specimen, c)? == Answer::Yes,
         "the specimen's top item does not fit C",
     )?;
     case.ensure(
-        fit(specimen, d)? == Answer::No,
+        fit(case.under, specimen, d)? == Answer::No,
         "the specimen's top item fits D",
     )
 }
@@ -349,13 +413,13 @@ fn first_that_fails(case: &Case, entry: usize) -> Result<(), Difference> {
         return Err(case.difference("D has no entry with this number"));
     };
     let mut out = vec![0; c.len() + d.len()];
-    let holds = goltximen::compare(c, &encode(before), &mut out);
+    let holds = case.under.compare(c, &encode(before), &mut out);
     case.ensure(
         holds == Ok(goltximen::Comparison::Contained),
         "an earlier entry fails",
     )?;
     let with = encode(entries.get(..entry).unwrap_or(&[]));
-    let fails = goltximen::compare(c, &with, &mut out).map(comparison);
+    let fails = case.under.compare(c, &with, &mut out).map(comparison);
     let found = matches!(fails, Ok(Comparison::NotContained { entry: e, .. }) if e == entry);
     case.ensure(found, "the entry alone with its earlier ones does not fail")
 }
@@ -365,11 +429,17 @@ fn first_that_fails(case: &Case, entry: usize) -> Result<(), Difference> {
 /// # Errors
 ///
 /// The difference.
-pub fn contained(chance: &mut Chance, c: &[Entry], d: &[Entry]) -> Result<Answer, Difference> {
+pub fn contained(
+    chance: &mut Chance,
+    under: Under,
+    c: &[Entry],
+    d: &[Entry],
+) -> Result<Answer, Difference> {
     let (c, d) = (encode(c), encode(d));
-    let answer = compare(chance, &c, &d, c.len() + d.len())?;
+    let answer = compare(chance, under, &c, &d, c.len() + d.len())?;
     let case = Case {
         call: "compare",
+        under,
         inputs: &[&c, &d],
     };
     case.ensure(
@@ -379,9 +449,30 @@ pub fn contained(chance: &mut Chance, c: &[Entry], d: &[Entry]) -> Result<Answer
     Ok(answer)
 }
 
-/// A difference of two descriptions that was found in records.
-pub(crate) fn found(what: &str, inputs: &[&[Entry]]) -> Difference {
-    let inputs: Vec<Vec<u8>> = inputs.iter().map(|entries| encode(entries)).collect();
-    let what = what.to_string();
-    Difference { what, inputs }
+/// Two descriptions of which it is known that they mean the same under a list have one normal form.
+///
+/// # Errors
+///
+/// The difference.
+pub fn same_normal_form(under: Under, d: &[Entry], other: &[Entry]) -> Result<(), Difference> {
+    let written = |entries: &[Entry]| {
+        let d = encode(entries);
+        let mut out = vec![0; d.len()];
+        let count = under.normal_form(&d, &mut out).map(usize::from);
+        out.truncate(length_of(count.unwrap_or(0)));
+        (count, out)
+    };
+    if written(d) == written(other) {
+        return Ok(());
+    }
+    Err(found("normal form: not one", under, &[d, other]))
+}
+
+/// A difference that was found without the other side.
+pub(crate) fn found(what: &str, under: Under, inputs: &[&[Entry]]) -> Difference {
+    Difference {
+        what: what.to_string(),
+        given: given(under),
+        inputs: inputs.iter().map(|entries| encode(entries)).collect(),
+    }
 }

@@ -3,13 +3,14 @@
 use std::collections::BTreeMap;
 
 use reference::notation::entry;
-use reference::{encode, Comparison, Entry};
+use reference::{decode, encode, Comparison, Entry};
 
 use crate::chance::Chance;
 use crate::damage::{damaged, Sort};
 use crate::draw::{self, Shape};
+use crate::excluding::{self, Given};
 use crate::vectors::{Answer, Vector, MOST_LENGTH};
-use crate::{length_of, pairs, BLOCK, MOST_DESCRIPTION, MOST_SPECIMEN};
+use crate::{derived, length_of, BLOCK, MOST_DESCRIPTION, MOST_SPECIMEN};
 
 /// What the vectors are drawn from.
 const SEED: u64 = 9803;
@@ -54,14 +55,54 @@ const SECOND_ITEMS: (usize, usize) = (2, 4);
 /// What a sort of answer is followed by if it is a refusal at a later place than 1.
 const LATER: &str = " later";
 
+/// What a sort of answer under a list is followed by if the call without it gives another line.
+const BY_THE_LIST: &str = " by the list";
+
+/// The sorts of answers under a list, and how many are wanted of each. The answers that the list does not change are wanted too,
+/// but fewer of them.
+const LISTED: [(&str, usize); 25] = [
+    ("fit yes", 6),
+    ("fit no", 6),
+    ("fit refused 12 input 1 later by the list", 12),
+    ("fit refused 4 input 1 later", 3),
+    ("fit refused 9 input 1", 3),
+    ("fit refused 5 input 2 later", 3),
+    ("normal form", 5),
+    ("normal form by the list", 16),
+    ("normal form refused 4 input 1 later", 2),
+    ("normal form refused 7 input 0", 4),
+    ("compare contained", 5),
+    ("compare contained by the list", 14),
+    ("compare not contained", 5),
+    ("compare not contained by the list", 12),
+    ("compare refused 4 input 2 later", 2),
+    ("compare refused 7 input 0", 4),
+    ("fit refused 11 input 0 by the list", 3),
+    ("fit refused 11 input 0 later by the list", 4),
+    ("fit refused 1 input 100 by the list", 3),
+    ("normal form refused 11 input 0 by the list", 3),
+    ("normal form refused 11 input 0 later by the list", 4),
+    ("normal form refused 1 input 100 by the list", 3),
+    ("compare refused 11 input 0 by the list", 3),
+    ("compare refused 11 input 0 later by the list", 4),
+    ("compare refused 1 input 100 by the list", 3),
+];
+
 /// The sort of a vector's answer, divided by the place if it is a refusal.
 fn sort(vector: &Vector) -> String {
     let later = matches!(vector.answer().0, Answer::Refused(refusal) if refusal.place > 1);
     vector.sort() + if later { LATER } else { "" }
 }
 
+/// The sort of the answer of a vector under a list, and whether it is the list's doing.
+fn listed_sort(vector: &Vector) -> String {
+    let without = vector.clone().given(Given::default());
+    let changed = without.line(1) != vector.line(1);
+    sort(vector) + if changed { BY_THE_LIST } else { "" }
+}
+
 /// How many vectors are wanted of each sort of answer.
-fn wanted() -> BTreeMap<String, usize> {
+fn wanted() -> Wanted {
     let mut wanted = BTreeMap::new();
     for (sort, times) in ANSWERS {
         wanted.insert(sort.to_string(), times);
@@ -82,10 +123,28 @@ fn wanted() -> BTreeMap<String, usize> {
     wanted
 }
 
-/// The drawn vectors in the order in which they came, without those of a sort of which there are enough.
+/// How many are wanted of each sort.
+type Wanted = BTreeMap<String, usize>;
+
+/// The drawn vectors without pairs.
 pub fn drawn() -> Vec<Vector> {
-    let mut chance = Chance::from_seed(SEED);
-    let mut wanted = wanted();
+    kept(SEED, wanted(), any, sort)
+}
+
+/// The drawn vectors under lists, right and wrong, and with dictionaries.
+pub fn listed() -> Vec<Vector> {
+    let wanted = LISTED.map(|(sort, times)| (sort.to_string(), times));
+    kept(SEED + 2, wanted.into(), under_a_list, listed_sort)
+}
+
+/// Drawn vectors in the order in which they came, without those of a sort of which there are enough.
+fn kept(
+    seed: u64,
+    mut wanted: Wanted,
+    any: fn(&mut Chance) -> Vector,
+    sort: fn(&Vector) -> String,
+) -> Vec<Vector> {
+    let mut chance = Chance::from_seed(seed);
     let mut vectors = Vec::new();
     for _ in 0..MOST_DRAWN {
         if wanted.values().all(|&times| times == 0) {
@@ -102,6 +161,49 @@ pub fn drawn() -> Vec<Vector> {
         vectors.push(vector);
     }
     vectors
+}
+
+/// A drawn vector of a call that takes a list, with a list drawn for its entries; now and then a wrong one, or a dictionary.
+fn under_a_list(chance: &mut Chance) -> Vector {
+    let vector = match chance.below(8) {
+        0..=1 => normal_form(chance),
+        2..=3 => comparison(chance),
+        4 => fit(chance),
+        5 => implied(chance),
+        6 => partnered(chance),
+        _ => damage(chance),
+    };
+    if vector.given != Given::default() {
+        return vector;
+    }
+    let entries = [decode(&vector.first), decode(&vector.second)].concat();
+    let mut given = Given::list(excluding::drawn(chance, &entries));
+    if chance.once_in(10) {
+        given.pairs = excluding::wrong(chance, &given.pairs);
+    }
+    if chance.once_in(12) {
+        given.dictionary = excluding::dictionary(chance);
+    }
+    vector.given(given)
+}
+
+/// A comparison with a description that is weaker but for lacks that the list implies.
+fn implied(chance: &mut Chance) -> Vector {
+    let c = description(chance);
+    let pairs = excluding::drawn(chance, &c);
+    let weaker = derived::weaker(chance, &c);
+    let d = excluding::with_implied_lacks(chance, &pairs, &weaker);
+    let (c, d) = (encode(&c), encode(&d));
+    let output = around(chance, c.len() + d.len());
+    Vector::compare(c, d, output).given(Given::list(pairs))
+}
+
+/// A specimen with a property that excludes one of an item's, against a description.
+fn partnered(chance: &mut Chance) -> Vector {
+    let (alone, d) = (specimen(chance), description(chance));
+    let pairs = excluding::drawn(chance, &alone);
+    let s = excluding::with_partner(chance, &pairs, &alone);
+    Vector::fit(encode(&s), encode(&d)).given(Given::list(pairs))
 }
 
 /// A drawn vector.
@@ -164,17 +266,17 @@ fn normal_form(chance: &mut Chance) -> Vector {
 /// A description, and one that is drawn on its own, weaker, in another order, or misses by one entry.
 fn pair(chance: &mut Chance) -> (Vec<Entry>, Vec<Entry>) {
     let c = description(chance);
-    let weaker = pairs::weaker(chance, &c);
+    let weaker = derived::weaker(chance, &c);
     let d = match chance.below(7) {
         0 => description(chance),
         1 => weaker,
-        2 => pairs::reordered(chance, &weaker),
-        3 => pairs::past_at_most_0(chance, &c).unwrap_or(weaker),
-        4 => pairs::missed(chance, &weaker),
-        5 => pairs::missed(chance, &c),
+        2 => derived::reordered(chance, &weaker),
+        3 => derived::past_at_most_0(chance, &c).unwrap_or(weaker),
+        4 => derived::missed(chance, &weaker),
+        5 => derived::missed(chance, &c),
         _ => {
-            let reordered = pairs::reordered(chance, &c);
-            pairs::missed(chance, &reordered)
+            let reordered = derived::reordered(chance, &c);
+            derived::missed(chance, &reordered)
         }
     };
     (c, d)
@@ -249,8 +351,8 @@ pub fn at_the_limit() -> Vec<Vector> {
         ..draw::MERGING
     };
     let c = draw::description(chance, &shape);
-    let same = pairs::reordered(chance, &c);
-    let missed = pairs::missed(chance, &same);
+    let same = derived::reordered(chance, &c);
+    let missed = derived::missed(chance, &same);
     let (c, same, missed) = (encode(&c), encode(&same), encode(&missed));
     let both = 2 * c.len();
     let specimen = encode(&draw::full_specimen(chance));

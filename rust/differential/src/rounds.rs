@@ -9,21 +9,22 @@ use reference::{encode, Entry};
 use crate::agree::{self, Answer, Difference};
 use crate::chance::Chance;
 use crate::damage::{damaged, Sort};
+use crate::derived;
 use crate::draw::{self, Names, Shape};
 use crate::exchange;
-use crate::pairs;
+use crate::excluding::{self, Given};
 use crate::small::{confirm, confirm_fit, Pool, Size};
 
 /// What a round gives: nothing, or the difference that it found.
 pub type Found = Result<(), Difference>;
 
-/// How often each answer came of each call.
+/// How often each answer came of each call, under a list of pairs and without one.
 #[derive(Clone, Debug, Default)]
-pub struct Tally(BTreeMap<(&'static str, String), u64>);
+pub struct Tally(BTreeMap<(&'static str, bool, String), u64>);
 
 impl Tally {
     /// Counts an answer.
-    fn add(&mut self, call: &'static str, answer: Answer) {
+    fn add(&mut self, call: &'static str, listed: bool, answer: Answer) {
         let name = match answer {
             Answer::Refused(number, input) => format!("refused {number} input {input}"),
             Answer::Count(_) => "count".to_string(),
@@ -32,20 +33,28 @@ impl Tally {
             Answer::Contained => "contained".to_string(),
             Answer::NotContained(..) => "not contained".to_string(),
         };
-        *self.0.entry((call, name)).or_insert(0) += 1;
+        *self.0.entry((call, listed, name)).or_insert(0) += 1;
     }
 
-    /// How often this answer came of this call.
+    /// How often this answer came of this call, with a list and without.
     pub fn count(&self, call: &'static str, answer: &str) -> u64 {
-        let key = (call, answer.to_string());
+        let [listed, plain] = [true, false].map(|listed| (call, listed, answer.to_string()));
+        let count = |key| self.0.get(key).copied().unwrap_or(0);
+        count(&listed) + count(&plain)
+    }
+
+    /// How often this answer came of this call under a list.
+    pub fn count_listed(&self, call: &'static str, answer: &str) -> u64 {
+        let key = (call, true, answer.to_string());
         self.0.get(&key).copied().unwrap_or(0)
     }
 }
 
 impl fmt::Display for Tally {
     fn fmt(&self, f: &mut fmt::Formatter<'_>) -> fmt::Result {
-        for ((call, answer), count) in &self.0 {
-            writeln!(f, "{call:<17} {answer:<18} {count:>10}")?;
+        for ((call, listed, answer), count) in &self.0 {
+            let under = if *listed { "under a list" } else { "" };
+            writeln!(f, "{call:<17} {under:<13} {answer:<19} {count:>10}")?;
         }
         Ok(())
     }
@@ -75,6 +84,8 @@ pub struct Rounds {
     pub chance: Chance,
     /// How often each answer came.
     pub tally: Tally,
+    /// What the calls of a round are given before their inputs.
+    given: Given,
     pools: [(Names, Pool); 3],
 }
 
@@ -85,6 +96,7 @@ impl Rounds {
         Rounds {
             chance: Chance::from_seed(seed),
             tally: Tally::default(),
+            given: Given::default(),
             pools: [Names::Low, Names::Middle, Names::High].map(|names| (names, pool(names))),
         }
     }
@@ -99,7 +111,8 @@ impl Rounds {
             0..=19 => self.pair(),
             20..=27 => self.normal(),
             28..=37 => self.fits(),
-            38..=51 => self.damage(),
+            38..=48 => self.damage(),
+            49..=51 => self.lists(),
             52..=54 => self.exchange(),
             55..=57 => self.outputs(),
             58..=62 => self.small(),
@@ -112,10 +125,23 @@ impl Rounds {
         draw::description(&mut self.chance, &shape)
     }
 
+    /// Gives the calls to come a list drawn for these entries; half of the time an empty one.
+    fn give_list(&mut self, entries: &[Entry]) {
+        self.given = Given::default();
+        if self.chance.once_in(2) {
+            self.given.pairs = excluding::drawn(&mut self.chance, entries);
+        }
+    }
+
+    /// Counts an answer of a call that takes a list.
+    fn count(&mut self, call: &'static str, answer: Answer) -> Answer {
+        self.tally.add(call, !self.given.pairs.is_empty(), answer);
+        answer
+    }
+
     fn compare(&mut self, c: &[u8], d: &[u8], length: usize) -> Result<Answer, Difference> {
-        let answer = agree::compare(&mut self.chance, c, d, length)?;
-        self.tally.add("compare", answer);
-        Ok(answer)
+        let answer = agree::compare(&mut self.chance, self.given.under(), c, d, length)?;
+        Ok(self.count("compare", answer))
     }
 
     fn compare_entries(&mut self, c: &[Entry], d: &[Entry]) -> Result<Answer, Difference> {
@@ -125,21 +151,19 @@ impl Rounds {
     }
 
     fn contained(&mut self, c: &[Entry], d: &[Entry]) -> Found {
-        let answer = agree::contained(&mut self.chance, c, d)?;
-        self.tally.add("compare", answer);
+        let answer = agree::contained(&mut self.chance, self.given.under(), c, d)?;
+        self.count("compare", answer);
         Ok(())
     }
 
     fn fit(&mut self, s: &[u8], d: &[u8]) -> Result<Answer, Difference> {
-        let answer = agree::fit(s, d)?;
-        self.tally.add("fit", answer);
-        Ok(answer)
+        let answer = agree::fit(self.given.under(), s, d)?;
+        Ok(self.count("fit", answer))
     }
 
     fn normal_form(&mut self, d: &[u8], length: usize) -> Result<Answer, Difference> {
-        let answer = agree::normal_form(&mut self.chance, d, length)?;
-        self.tally.add("normal form", answer);
-        Ok(answer)
+        let answer = agree::normal_form(&mut self.chance, self.given.under(), d, length)?;
+        Ok(self.count("normal form", answer))
     }
 
     /// Reads the bytes as a description and as a specimen.
@@ -148,10 +172,12 @@ impl Rounds {
     ///
     /// The difference.
     pub fn read(&mut self, bytes: &[u8]) -> Found {
-        self.tally
-            .add("read description", agree::read_description(bytes)?);
-        self.tally
-            .add("read specimen", agree::read_specimen(bytes)?);
+        let (description, specimen) = (
+            agree::read_description(bytes)?,
+            agree::read_specimen(bytes)?,
+        );
+        self.tally.add("read description", false, description);
+        self.tally.add("read specimen", false, specimen);
         Ok(())
     }
 
@@ -163,6 +189,7 @@ impl Rounds {
     pub fn pair(&mut self) -> Found {
         let c = self.description();
         let other = self.description();
+        self.give_list(&[&c[..], &other].concat());
         self.compare_entries(&c, &other)?;
         self.weaker_and_missed(&c)
     }
@@ -170,25 +197,29 @@ impl Rounds {
     /// A description compared with weaker ones, and with ones that miss by an entry.
     fn weaker_and_missed(&mut self, c: &[Entry]) -> Found {
         let chance = &mut self.chance;
-        let mut d = pairs::weaker(chance, c);
+        let mut d = derived::weaker(chance, c);
         if chance.once_in(2) {
-            d = pairs::reordered(chance, &d);
+            d = derived::reordered(chance, &d);
         }
-        let missed = pairs::missed(chance, &d);
-        let past = pairs::past_at_most_0(chance, c);
+        let missed = derived::missed(chance, &d);
+        let past = derived::past_at_most_0(chance, c);
+        let implied = excluding::with_implied_lacks(chance, &self.given.pairs, &d);
+        self.contained(c, &implied)?;
         self.contained(c, &d)?;
         self.compare_entries(c, &missed)?;
         self.compare_entries(&missed, c)?;
         past.map_or(Ok(()), |past| self.contained(c, &past))
     }
 
-    /// The normal form of a description; each of the two is contained in the other.
+    /// The normal form of a description; each of the two is contained in the other. With implied lacks and in another order the
+    /// description has the same normal form.
     ///
     /// # Errors
     ///
     /// The difference.
     pub fn normal(&mut self) -> Found {
         let d = self.description();
+        self.give_list(&d);
         self.normal_of(&d)
     }
 
@@ -197,13 +228,19 @@ impl Rounds {
         let longer = self.chance.one_of([0, 1, 511, 512, 1500]);
         self.normal_form(&bytes, bytes.len() + longer)?;
         let mut out = vec![0; bytes.len()];
-        let entries = goltximen::normal_form(&bytes, &mut out).map_or(0, usize::from);
+        let under = self.given.under();
+        let entries = under.normal_form(&bytes, &mut out).map_or(0, usize::from);
         let normal = reference::decode(out.get(..crate::length_of(entries)).unwrap_or(&[]));
         self.contained(d, &normal)?;
-        self.contained(&normal, d)
+        self.contained(&normal, d)?;
+        let chance = &mut self.chance;
+        let more = excluding::with_implied_lacks(chance, &self.given.pairs, d);
+        let other = derived::reordered(chance, &more);
+        agree::same_normal_form(self.given.under(), d, &other)
     }
 
-    /// Specimens against descriptions: drawn on their own, and made for the description and then changed a little.
+    /// Specimens against descriptions: drawn on their own, and made for the description and then changed a little or given a
+    /// property that the list excludes.
     ///
     /// # Errors
     ///
@@ -212,11 +249,16 @@ impl Rounds {
         let shape = draw::shape(&mut self.chance);
         let d = draw::description(&mut self.chance, &shape);
         let alone = draw::specimen(&mut self.chance, &shape);
+        self.give_list(&[&d[..], &alone].concat());
         self.fit(&encode(&alone), &encode(&d))?;
         let made = self.specimen_for(&d);
         self.fit(&encode(&made), &encode(&d))?;
         let changed = changed(&mut self.chance, &made);
         self.fit(&encode(&changed), &encode(&d))?;
+        for s in [&alone, &made] {
+            let both = excluding::with_partner(&mut self.chance, &self.given.pairs, s);
+            self.fit(&encode(&both), &encode(&d))?;
+        }
         Ok(())
     }
 
@@ -225,7 +267,7 @@ impl Rounds {
     fn specimen_for(&mut self, d: &[Entry]) -> Vec<Entry> {
         let (d, nothing) = (encode(d), encode(&[entry(6, 0, 0, 0)]));
         let mut out = vec![0; d.len() + nothing.len()];
-        let entries = match goltximen::compare(&d, &nothing, &mut out) {
+        let entries = match self.given.under().compare(&d, &nothing, &mut out) {
             Ok(goltximen::Comparison::NotContained { entries, .. }) => usize::from(entries),
             _ => return Vec::new(),
         };
@@ -247,6 +289,7 @@ impl Rounds {
         let entries = draw::specimen(chance, &shape);
         let specimen = encode(&entries);
         let bad_specimen = damaged(chance, Sort::Specimen, &entries);
+        self.give_list(&entries);
         self.read(&bad)?;
         self.read(&bad_specimen)?;
         for (c, d) in [(&bad, &good), (&good, &bad), (&bad, &worse)] {
@@ -265,6 +308,41 @@ impl Rounds {
         Ok(())
     }
 
+    /// Lists that are refused and dictionaries, alone and together, in each call with inputs that are accepted or damaged.
+    ///
+    /// # Errors
+    ///
+    /// The difference.
+    pub fn lists(&mut self) -> Found {
+        let shape = draw::shape(&mut self.chance);
+        let chance = &mut self.chance;
+        let entries = draw::description(chance, &shape);
+        let properties = draw::specimen(chance, &shape);
+        let right = excluding::drawn(chance, &properties);
+        let (d, s) = (encode(&entries), encode(&properties));
+        let bad = damaged(chance, Sort::Description, &entries);
+        let bad_specimen = damaged(chance, Sort::Specimen, &properties);
+        let wrong = excluding::wrong(chance, &right);
+        let dictionary = excluding::dictionary(chance);
+        for (pairs, dictionary) in [
+            (&wrong, &Vec::new()),
+            (&right, &dictionary),
+            (&wrong, &dictionary),
+        ] {
+            self.given = Given {
+                pairs: pairs.clone(),
+                dictionary: dictionary.clone(),
+            };
+            for (s, d) in [(&s, &d), (&bad_specimen, &bad)] {
+                let length = self.chance.one_of([0, 2 * d.len()]);
+                self.fit(s, d)?;
+                self.normal_form(d, length)?;
+                self.compare(d, d, length)?;
+            }
+        }
+        Ok(())
+    }
+
     /// Two entries of one block exchanged, in a description and in a specimen: refused or not as distance and word sums say, and
     /// the same in each call.
     ///
@@ -272,6 +350,7 @@ impl Rounds {
     ///
     /// The difference.
     pub fn exchange(&mut self) -> Found {
+        self.given = Given::default();
         let shape = draw::shape(&mut self.chance);
         let d = draw::description(&mut self.chance, &shape);
         let s = draw::specimen(&mut self.chance, &shape);
@@ -298,7 +377,7 @@ impl Rounds {
         let mut bytes = encode(&entries);
         exchange::exchange(&mut bytes, one, other);
         let answer = agree::exchanged(sort, &bytes, exchange::told(&entries, one, other))?;
-        self.tally.add("exchange", answer);
+        self.tally.add("exchange", false, answer);
         Ok(bytes)
     }
 
@@ -309,6 +388,7 @@ impl Rounds {
     /// The difference.
     pub fn outputs(&mut self) -> Found {
         let (c, d) = (self.description(), self.description());
+        self.give_list(&[&c[..], &d].concat());
         let (c, d) = (encode(&c), encode(&d));
         let both = c.len() + d.len();
         for length in [
@@ -353,22 +433,26 @@ impl Rounds {
             ..draw::SMALL
         };
         let c = draw::description(chance, &shape);
-        let weaker = pairs::weaker(chance, &c);
-        let missed = pairs::missed(chance, &weaker);
+        let weaker = derived::weaker(chance, &c);
+        let missed = derived::missed(chance, &weaker);
         let other = draw::description(chance, &shape);
         let s = draw::specimen(chance, &shape);
         let more = with_one_more(chance, &s);
         let mut pool = pool.some(chance, 1000);
         pool.add_drawn(chance, size(names, 3), 1000);
+        self.give_list(&[&c[..], &missed].concat());
+        let pool = pool.keeping(&self.given.pairs);
         for d in [&weaker, &missed, &other] {
             let answer = self.compare_entries(&c, d)?;
-            confirm(&pool, &c, d, answer)?;
+            confirm(&pool, self.given.under(), &c, d, answer)?;
         }
         let made = self.specimen_for(&c);
         let changed = changed(&mut self.chance, &made);
-        for s in [&s, &more, &made, &changed] {
+        let both =
+            [&s, &made].map(|s| excluding::with_partner(&mut self.chance, &self.given.pairs, s));
+        for s in [&s, &more, &made, &changed, &both[0], &both[1]] {
             let answer = self.fit(&encode(s), &encode(&c))?;
-            confirm_fit(s, &c, answer)?;
+            confirm_fit(self.given.under(), s, &c, answer)?;
         }
         Ok(())
     }
@@ -383,6 +467,7 @@ impl Rounds {
         let c = draw::description(&mut self.chance, &shape);
         let d = draw::description(&mut self.chance, &shape);
         let s = draw::full_specimen(&mut self.chance);
+        self.give_list(&[&c[..], &d, &s].concat());
         self.normal_of(&c)?;
         self.compare_entries(&c, &d)?;
         self.weaker_and_missed(&c)?;

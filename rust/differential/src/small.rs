@@ -2,6 +2,7 @@
 
 use std::collections::BTreeSet;
 
+use goltximen::Under;
 use reference::notation::entry;
 use reference::record::{fits, specimen_record, Record};
 use reference::{encode, Entry, Link, Property};
@@ -61,6 +62,15 @@ impl Pool {
             let (one, other) = (chance.number(), chance.number());
             let pattern = chance.one_of([one, one & other, one | other]);
             self.records.push(kept(record(size, pattern)));
+        }
+    }
+
+    /// Those of these records that keep the list.
+    pub fn keeping(&self, pairs: &[u8]) -> Pool {
+        let records = self.records.iter();
+        let kept = records.filter(|record| record.keeps_the_list(pairs));
+        Pool {
+            records: kept.cloned().collect(),
         }
     }
 
@@ -125,25 +135,27 @@ fn record(size: Size, pattern: u64) -> Record {
     record
 }
 
-/// All descriptions of at most two entries over one property and so many links, with numbers up to 2.
-pub fn tiny_descriptions(names: Names, links: u16) -> Vec<Vec<Entry>> {
-    let firsts = tiny_entries(names, links, 0);
+/// All descriptions of at most two entries over so many properties and links, with numbers up to 2.
+pub fn tiny_descriptions(names: Names, properties: u16, links: u16) -> Vec<Vec<Entry>> {
+    let firsts = tiny_entries(names, properties, links, 0);
     let mut all = vec![Vec::new()];
     for &first in &firsts {
         all.push(vec![first]);
         all.extend(firsts.iter().map(|&second| vec![first, second]));
         if first.kind == 5 {
-            let below = tiny_entries(names, links, 1);
+            let below = tiny_entries(names, properties, links, 1);
             all.extend(below.iter().map(|&second| vec![first, second]));
         }
     }
     all
 }
 
-/// All entries of this owner over one property and so many links, with numbers up to 2.
-fn tiny_entries(names: Names, links: u16, owner: u16) -> Vec<Entry> {
-    let property = names.name(1);
-    let mut all: Vec<Entry> = [1, 2].map(|kind| entry(kind, owner, property, 0)).to_vec();
+/// All entries of this owner over so many properties and links, with numbers up to 2.
+fn tiny_entries(names: Names, properties: u16, links: u16, owner: u16) -> Vec<Entry> {
+    let mut all = Vec::new();
+    for property in (1..=properties).map(|property| names.name(property)) {
+        all.extend([1, 2].map(|kind| entry(kind, owner, property, 0)));
+    }
     for link in (1..=links).map(|link| names.name(link)) {
         all.push(entry(5, owner, link, 0));
         for number in 0..=2 {
@@ -171,35 +183,67 @@ pub fn tiny_groups(links: &[u16], groups: u16) -> Vec<Vec<Entry>> {
     all
 }
 
-/// The first entry of a list of groups and properties whose record, item by item, breaks the rule on links that lead to one item
-/// only; the counts are small.
-pub fn first_that_breaks(s: &[Entry]) -> Option<usize> {
-    (1..=s.len()).find(|&count| !specimen_record(&s[..count]).keeps_the_rule())
+/// All lists of so many properties, 1 to 3, and groups of two items by link 1, each owned by the top or an earlier group.
+pub fn tiny_items(entries: u16) -> Vec<Vec<Entry>> {
+    let mut all = vec![Vec::new()];
+    for _ in 0..entries {
+        all = all.iter().flat_map(|s| with_one_entry(s)).collect();
+    }
+    all
 }
 
-/// Looks at an answer of the comparison in records: 'contained' is so in each of the pool, 'not contained' in the specimen's.
+/// The list with each entry that may follow.
+fn with_one_entry(s: &[Entry]) -> Vec<Vec<Entry>> {
+    let groups = (1..).zip(s).filter(|(_, e)| e.kind == 7);
+    let owners = std::iter::once(0).chain(groups.map(|(number, _)| number));
+    let mut all = Vec::new();
+    for owner in owners {
+        let properties = (1..=3).map(|property| entry(1, owner, property, 0));
+        for e in properties.chain([entry(7, owner, 1, 1)]) {
+            all.push([s, &[e]].concat());
+        }
+    }
+    all
+}
+
+/// The first entry of a list of groups and properties whose record, item by item, no longer keeps this; the counts are small.
+pub fn first_that_breaks(s: &[Entry], keeps: impl Fn(&Record) -> bool) -> Option<usize> {
+    (1..=s.len()).find(|&count| !keeps(&specimen_record(&s[..count])))
+}
+
+/// Looks at an answer of the comparison in records: 'contained' is so in each of the pool, 'not contained' in the specimen's, which
+/// keeps the rule and the list.
 ///
 /// # Errors
 ///
 /// The difference.
-pub fn confirm(pool: &Pool, c: &[Entry], d: &[Entry], answer: Answer) -> Result<(), Difference> {
+pub fn confirm(
+    pool: &Pool,
+    under: Under,
+    c: &[Entry],
+    d: &[Entry],
+    answer: Answer,
+) -> Result<(), Difference> {
     match answer {
         Answer::Contained if !pool.contained(c, d) => Err(found(
             "compare: an item of a record fits C and misses D",
+            under,
             &[c, d],
         )),
         Answer::NotContained(_, entries) => {
             let (c_bytes, d_bytes) = (encode(c), encode(d));
             let mut out = vec![0; c_bytes.len() + d_bytes.len()];
-            let again = goltximen::compare(&c_bytes, &d_bytes, &mut out);
+            let again = under.compare(&c_bytes, &d_bytes, &mut out);
             let shown = reference::decode(out.get(..crate::length_of(entries)).unwrap_or(&[]));
             let record = specimen_record(&shown);
             let shows = fits(&record, 0, c, 0) && !fits(&record, 0, d, 0);
-            if again.is_ok() && record.keeps_the_rule() && shows {
+            let keeps = record.keeps_the_rule() && record.keeps_the_list(under.pairs);
+            if again.is_ok() && keeps && shows {
                 return Ok(());
             }
             Err(found(
                 "compare: the specimen's record does not show it",
+                under,
                 &[c, d],
             ))
         }
@@ -207,23 +251,32 @@ pub fn confirm(pool: &Pool, c: &[Entry], d: &[Entry], answer: Answer) -> Result<
     }
 }
 
-/// The fit answer is the one in the specimen's record, item by item, and 9 exactly where this record breaks the rule. The
-/// specimen's counts are small.
+/// The fit answer is the one in the specimen's record, item by item; 9 exactly where this record breaks the rule, and else 12
+/// exactly where it breaks the list. The specimen's counts are small.
 ///
 /// # Errors
 ///
 /// The difference.
-pub fn confirm_fit(s: &[Entry], d: &[Entry], answer: Answer) -> Result<(), Difference> {
+pub fn confirm_fit(
+    under: Under,
+    s: &[Entry],
+    d: &[Entry],
+    answer: Answer,
+) -> Result<(), Difference> {
     let record = specimen_record(s);
-    let (kept, expected) = (record.keeps_the_rule(), fits(&record, 0, d, 0));
-    let is_so = match answer {
-        Answer::Yes => kept && expected,
-        Answer::No => kept && !expected,
-        Answer::Refused(9, 1) => !kept,
-        _ => false,
+    let listed = record.keeps_the_list(under.pairs);
+    let expected = match (record.keeps_the_rule(), listed, fits(&record, 0, d, 0)) {
+        (false, ..) => Answer::Refused(9, 1),
+        (_, false, _) => Answer::Refused(12, 1),
+        (.., true) => Answer::Yes,
+        (.., false) => Answer::No,
     };
-    if is_so {
+    if answer == expected {
         return Ok(());
     }
-    Err(found("fit: the specimen's record says otherwise", &[s, d]))
+    Err(found(
+        "fit: the specimen's record says otherwise",
+        under,
+        &[s, d],
+    ))
 }

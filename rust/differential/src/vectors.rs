@@ -1,35 +1,51 @@
 //! Vectors: calls with their bytes, and the line that the reference gives for each.
 //!
-//! A vector is a header of four words, low byte first, and the bytes of its inputs. The words are the number of the call, the
-//! lengths of the two inputs and the length of the output. Each byte of the output is [`FILL`] before the call.
+//! A vector is a header of eight words of two bytes, low byte first, and then the bytes of what the call is given:
+//!
+//! | Bytes of the header | Word |
+//! |---|---|
+//! | 0-1 | the number of the call, see [`Call`] |
+//! | 2-3 | the length of the list of pairs |
+//! | 4-5 | the length of the dictionary |
+//! | 6-7 | the length of input 1 |
+//! | 8-9 | the length of input 2, 0 for a call of one input |
+//! | 10-11 | the length of the output, 0 for a call without one |
+//! | 12-13 | a number for a call that takes one; no call of today does, and it is 0 |
+//! | 14-15 | 0 |
+//!
+//! After byte 15 come the list, the dictionary, input 1 and input 2, with nothing between them and nothing before the next header.
+//! The fit answer, the normal form and the comparison are always made with the list and the dictionary, which may be empty; the two
+//! readers take neither. A call without pairs is one with a list of length 0. No length is above [`MOST_LENGTH`]. Each byte of
+//! the output is [`FILL`] before the call.
 
 use std::fmt;
 
 use reference::{Comparison, Refusal};
 
+use crate::excluding::Given;
 use crate::{drawn, named, word};
 
 /// Each byte of an output before the call.
 pub const FILL: u8 = 165;
-/// The most bytes of an input or output of a vector: 34 blocks.
+/// The most bytes of a list, dictionary, input or output of a vector: 34 blocks.
 pub const MOST_LENGTH: usize = 17_408;
 /// The most vectors of a list.
 pub const MOST_VECTORS: usize = 1000;
 /// What the digest of an output stays below, the largest prime below 2^32.
 const MODULUS: u64 = 4_294_967_291;
 
-/// The five calls, with their numbers in a header.
+/// The calls, with their numbers in a header.
 #[derive(Clone, Copy, Debug, PartialEq, Eq)]
 pub enum Call {
     /// Input 1 is read as a description.
     Description = 1,
     /// Input 1 is read as a specimen.
     Specimen = 2,
-    /// The fit answer for the specimen in input 1 and the description in input 2.
+    /// The fit answer for the specimen in input 1 and the description in input 2, under the list and the dictionary.
     Fit = 3,
-    /// The normal form of input 1.
+    /// The normal form of input 1, under the list and the dictionary.
     NormalForm = 4,
-    /// Input 1 compared with input 2.
+    /// Input 1 compared with input 2, under the list and the dictionary.
     Compare = 5,
 }
 
@@ -102,11 +118,13 @@ impl fmt::Display for Answer {
     }
 }
 
-/// A call with its inputs and the length of its output.
+/// A call with what it is given and the length of its output.
 #[derive(Clone, Debug, PartialEq, Eq)]
 pub struct Vector {
     /// The call.
     pub call: Call,
+    /// The list and the dictionary.
+    pub given: Given,
     /// Input 1.
     pub first: Vec<u8>,
     /// Input 2; empty for a call of one input.
@@ -144,32 +162,56 @@ impl Vector {
     fn of(call: Call, first: Vec<u8>, second: Vec<u8>, output: usize) -> Vector {
         Vector {
             call,
+            given: Given::default(),
             first,
             second,
             output,
         }
     }
 
-    /// The header and the inputs.
+    /// The same call under a list of these pairs.
+    pub fn under(self, pairs: &[(u16, u16)]) -> Vector {
+        self.given(Given::pairs(pairs))
+    }
+
+    /// The same call with this list and dictionary.
+    pub fn given(self, given: Given) -> Vector {
+        Vector { given, ..self }
+    }
+
+    /// What the header says the lengths of: the list, the dictionary and the inputs.
+    pub fn parts(&self) -> [&[u8]; 4] {
+        let Given { pairs, dictionary } = &self.given;
+        [pairs, dictionary, &self.first, &self.second]
+    }
+
+    /// The header, and the list, the dictionary and the inputs.
     pub fn bytes(&self) -> Vec<u8> {
-        let lengths = [self.first.len(), self.second.len(), self.output];
-        let mut bytes = word(self.call as usize).to_le_bytes().to_vec();
-        bytes.extend(lengths.into_iter().flat_map(|n| word(n).to_le_bytes()));
-        bytes.extend(&self.first);
-        bytes.extend(&self.second);
+        let mut header = vec![self.call as usize];
+        header.extend(self.parts().map(<[u8]>::len));
+        header.extend([self.output, 0, 0]);
+        let mut bytes: Vec<u8> = header
+            .into_iter()
+            .flat_map(|n| word(n).to_le_bytes())
+            .collect();
+        bytes.extend(self.parts().concat());
         bytes
     }
 
     /// What the reference answers, and the output after the call.
     pub fn answer(&self) -> (Answer, Vec<u8>) {
-        let (first, second) = (&self.first, &self.second);
+        let [pairs, dict, first, second] = self.parts();
         let mut out = vec![FILL; self.output];
         let answer = match self.call {
             Call::Description => reference::read_description(first).map(Answer::Accepted),
             Call::Specimen => reference::read_specimen(first).map(Answer::Accepted),
-            Call::Fit => reference::fit(first, second).map(Answer::Fits),
-            Call::NormalForm => reference::normal_form(first, &mut out).map(Answer::NormalForm),
-            Call::Compare => reference::compare(first, second, &mut out).map(Answer::Compared),
+            Call::Fit => reference::fit_with(pairs, dict, first, second).map(Answer::Fits),
+            Call::NormalForm => {
+                reference::normal_with(pairs, dict, first, &mut out).map(Answer::NormalForm)
+            }
+            Call::Compare => {
+                reference::compare_with(pairs, dict, first, second, &mut out).map(Answer::Compared)
+            }
         };
         (answer.unwrap_or_else(Answer::Refused), out)
     }
@@ -203,9 +245,11 @@ pub fn all() -> Vec<Vector> {
         named::limits(),
         named::checks(),
         named::single_links(),
+        named::excluding::all(),
         named::desk(),
         named::report(),
         drawn::drawn(),
+        drawn::listed(),
         drawn::at_the_limit(),
     ];
     lists.into_iter().flatten().collect()

@@ -9,7 +9,7 @@ use std::process::{Command, Stdio};
 use differential::chance::Chance;
 use differential::damage::{damaged, Sort};
 use differential::vectors::{all, Call};
-use differential::{draw, pairs, MOST_DESCRIPTION};
+use differential::{derived, draw, MOST_DESCRIPTION};
 use reference::notation::{blocks, entry};
 use reference::{encode, run_program, Entry};
 
@@ -197,8 +197,8 @@ fn drawn_pairs() {
         };
         let c = draw::description(chance, &shape);
         let other = draw::description(chance, &shape);
-        let weaker = pairs::weaker(chance, &c);
-        let missed = pairs::missed(chance, &weaker);
+        let weaker = derived::weaker(chance, &c);
+        let missed = derived::missed(chance, &weaker);
         for d in [&other, &weaker, &missed] {
             same(&program, &joined(&c, d));
         }

@@ -74,10 +74,19 @@ impl Command {
             ],
             Command::Write => &["--names", "--json", "--from", "--sort", "--out"],
             Command::Check => &["--names", "--json", "--from", "--sort"],
-            Command::Normal => &["--names", "--json", "--from", "--to", "--numbers", "--out"],
-            Command::Fit => &["--names", "--json", "--from"],
+            Command::Normal => &[
+                "--names",
+                "--pairs",
+                "--json",
+                "--from",
+                "--to",
+                "--numbers",
+                "--out",
+            ],
+            Command::Fit => &["--names", "--pairs", "--json", "--from"],
             Command::Compare => &[
                 "--names",
+                "--pairs",
                 "--json",
                 "--from",
                 "--svg",
@@ -85,8 +94,16 @@ impl Command {
                 "--specimen",
                 "--whole",
             ],
-            Command::Owl => &["--names", "--json", "--from", "--out"],
-            Command::FromOwl => &["--names", "--json", "--class", "--to", "--numbers", "--out"],
+            Command::Owl => &["--names", "--pairs", "--json", "--from", "--out"],
+            Command::FromOwl => &[
+                "--names",
+                "--json",
+                "--class",
+                "--sort",
+                "--to",
+                "--numbers",
+                "--out",
+            ],
         }
     }
 
@@ -117,12 +134,16 @@ pub enum To {
 pub struct Options {
     /// The names file.
     pub names: Option<PathBuf>,
+    /// The list of properties that exclude each other.
+    pub pairs: Option<PathBuf>,
     /// For programs.
     pub json: bool,
     /// The form of the inputs, where it is not told by them.
     pub from: Option<Form>,
     /// The sort of the inputs, where it is not told by them.
     pub sort: Option<Sort>,
+    /// The inputs are lists of pairs, or a list is what is to be written.
+    pub list: bool,
     /// The form of the output.
     pub to: Option<To>,
     /// Each entry is written with its number.
@@ -224,7 +245,8 @@ impl<'a> Line<'a> {
         if self.command.takes_pair() && count != 2 {
             return Err(format!("{word} takes two inputs, and {count} are given"));
         }
-        let stdin = self.files.iter().filter(|file| file.as_os_str() == "-");
+        let read = self.files.iter().chain(&self.options.pairs);
+        let stdin = read.filter(|file| file.as_os_str() == "-");
         if stdin.count() > 1 {
             return Err("standard input can be read once only".into());
         }
@@ -271,13 +293,20 @@ impl<'a> Line<'a> {
         let options = &mut self.options;
         match option {
             "--names" => options.names = Some(value.into()),
+            "--pairs" => options.pairs = Some(value.into()),
             "--out" => options.out = Some(value.into()),
             "--svg" => options.svg = Some(value.into()),
             "--html" => options.html = Some(value.into()),
             "--specimen" => options.specimen = Some(value.into()),
             "--class" => options.class = Some(value.to_string_lossy().into_owned()),
             "--from" => options.from = Some(one_of(option, &value, FORMS)?),
-            "--sort" => options.sort = Some(one_of(option, &value, SORTS)?),
+            "--sort" => {
+                options.sort = match self.command {
+                    Command::FromOwl => one_of(option, &value, SORTS_FROM_OWL)?,
+                    _ => one_of(option, &value, SORTS)?,
+                };
+                options.list = options.sort.is_none();
+            }
             _ => options.to = Some(one_of(option, &value, TARGETS)?),
         }
         Ok(())
@@ -285,10 +314,14 @@ impl<'a> Line<'a> {
 }
 
 const FORMS: &[(&str, Form)] = &[("blocks", Form::Blocks), ("text", Form::Text)];
-const SORTS: &[(&str, Sort)] = &[
-    ("description", Sort::Description),
-    ("specimen", Sort::Specimen),
+/// The sorts of inputs; a list of pairs is the one that has no entries.
+const SORTS: &[(&str, Option<Sort>)] = &[
+    ("description", Some(Sort::Description)),
+    ("specimen", Some(Sort::Specimen)),
+    ("pairs", None),
 ];
+const SORTS_FROM_OWL: &[(&str, Option<Sort>)] =
+    &[("description", Some(Sort::Description)), ("pairs", None)];
 const TARGETS: &[(&str, To)] = &[
     ("text", To::Text),
     ("desk", To::Desk),

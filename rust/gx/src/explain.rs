@@ -7,6 +7,7 @@ use crate::entry::{Entry, Link, Property, Says};
 use crate::input::Input;
 use crate::library::{self, Compared};
 use crate::names::Names;
+use crate::pairs::List;
 use crate::tree::{owners, places, way, Tree};
 use crate::words::{grouped, listed, Words};
 
@@ -26,9 +27,11 @@ pub struct Failure {
     pub way: Vec<Link>,
     /// What the supplier's normal form says there of the same thing.
     pub said: Vec<Says>,
+    /// The properties that the supplier's normal form has there and that exclude the one that is asked for.
+    pub excluding: Vec<Property>,
     /// Whether the supplier's normal form has entries at that place.
     pub place_known: bool,
-    /// The entries of the supplier's description at that place which speak of the same thing.
+    /// The entries of the supplier's description at that place which speak of the same thing, or of what excludes it.
     pub supplier: Vec<usize>,
     /// Whether one of these says nothing, since its link leads to one item only.
     pub supplier_always_met: bool,
@@ -62,24 +65,30 @@ pub enum Explained {
     NotContained(Box<Failure>),
 }
 
-/// Compares two accepted descriptions and explains the answer.
+/// Compares two accepted descriptions under a list and explains the answer.
 ///
 /// # Errors
 ///
-/// The library's refusal, which accepted descriptions do not meet.
-pub fn compared(supplier: &Input, service: &Input) -> Result<Explained, library::Refusal> {
-    match library::compare(&supplier.bytes, &service.bytes)? {
+/// The library's refusal, which accepted descriptions and lists do not meet.
+pub fn compared(
+    list: &List,
+    supplier: &Input,
+    service: &Input,
+) -> Result<Explained, library::Refusal> {
+    match library::compare(list.under(), &supplier.bytes, &service.bytes)? {
         Compared::Contained => Ok(Explained::Contained),
         Compared::NotContained { entry, specimen } => {
-            let normal = library::entries(&library::normal(&supplier.bytes)?);
+            let normal = library::normal(list.under(), &supplier.bytes)?;
+            let normal = library::entries(&normal);
             let specimen = library::entries(&specimen);
-            let failure = failure(supplier, service, entry, &normal, specimen);
+            let failure = failure(list, supplier, service, entry, &normal, specimen);
             Ok(Explained::NotContained(Box::new(failure)))
         }
     }
 }
 
 fn failure(
+    list: &List,
     supplier: &Input,
     service: &Input,
     entry: usize,
@@ -89,19 +98,36 @@ fn failure(
     let says = service.entries[entry - 1].says();
     let way = way(&service.entries, entry);
     let (said, _) = on_subject(normal, &way, says);
-    let (by_supplier, numbers) = on_subject(&supplier.entries, &way, says);
+    let (by_supplier, mut numbers) = on_subject(&supplier.entries, &way, says);
+    let excluding = excluding_there(list, normal, &way, says);
+    for &property in &excluding {
+        let has = on_subject(&supplier.entries, &way, Says::Has(property));
+        numbers.extend(has.1);
+    }
+    numbers.sort_unstable();
     Failure {
         entry,
         says,
         owners: owners(&service.entries, entry),
         place_known: !places(normal, &Tree::new(normal), &way).is_empty(),
         said,
+        excluding,
         supplier: numbers,
         supplier_always_met: by_supplier.iter().any(|says| says.is_always_met()),
         supplier_owners: leading(&supplier.entries, &way),
         specimen: marked(specimen, &way, says),
         way,
     }
+}
+
+/// The properties that a place has and that exclude the one that is asked for there.
+fn excluding_there(list: &List, normal: &[Entry], way: &[Link], says: Says) -> Vec<Property> {
+    let excluding = says.property().map(|property| list.excluding(property));
+    let has = |property: &Property| {
+        let has = Says::Has(*property);
+        on_subject(normal, way, has).0.contains(&has)
+    };
+    excluding.into_iter().flatten().filter(has).collect()
 }
 
 /// The owners that lead to a place, or as far towards it as there are any.
@@ -223,6 +249,11 @@ impl Failure {
         if !self.place_known {
             return format!("nothing about {every}");
         }
+        if !self.excluding.is_empty() {
+            let has = self.excluding.iter().map(|&one| words.property(one));
+            let has: Vec<String> = has.collect();
+            return format!("{every} lacks {subject}, since it has {}", listed(&has));
+        }
         if self.said.is_empty() {
             return format!("of {every}, nothing about {subject}");
         }
@@ -310,10 +341,11 @@ impl Failure {
         last.is_some_and(|&group| self.specimen.entries[group - 1].number > 0)
     }
 
-    /// The names of both descriptions: those given first, then the service's own, then the supplier's.
-    pub fn names(supplier: &Input, service: &Input) -> Names {
+    /// The names of both descriptions: those given first, then the service's own, then the supplier's, then the list's.
+    pub fn names(list: &List, supplier: &Input, service: &Input) -> Names {
         let mut names = service.names.clone();
         names.join(&supplier.names);
+        names.join(&list.names);
         names
     }
 }

@@ -55,7 +55,10 @@ fn inputs(command: Command) -> &'static str {
 
 fn about(command: Command) -> (&'static str, &'static str) {
     match command {
-        Command::Show => ("show FILE", "a description or specimen as text"),
+        Command::Show => (
+            "show FILE",
+            "a description, specimen or list of pairs as text",
+        ),
         Command::Write => ("write FILE", "a text as blocks"),
         Command::Check => (
             "check FILE",
@@ -84,12 +87,12 @@ fn about(command: Command) -> (&'static str, &'static str) {
 fn detail(command: Command) -> &'static str {
     match command {
         Command::Show => SHOW,
-        Command::Write => "Reads a text and writes its blocks to standard output or into a file. Nothing is written where the library refuses them.\n",
-        Command::Check => "Says what the library's reader says. Of a refusal it tells the row of the table, what is wrong in words, and shows the\nblock or entry in its surroundings; of an entry of a text also the line.\n",
+        Command::Write => "Reads a text and writes its blocks, or the bytes of a list of pairs, to standard output or into a file. Nothing is written\nwhere the library refuses them.\n",
+        Command::Check => "Says what the library's reader says. Of a refusal it tells the row of the table, what is wrong in words, and shows the\nblock or entry in its surroundings; of an entry of a text also the line. A list of pairs is known\nby its heading or by --sort pairs.\n",
         Command::Normal => NORMAL,
-        Command::Fit => "Answers whether the top item of the specimen fits the description; for a no it names the first entry that is not met.\n",
+        Command::Fit => "Answers whether the top item of the specimen fits the description; for a no it names the first entry that is not met.\nWith --pairs a specimen is refused in which an item has both properties of a pair (12).\n",
         Command::Compare => COMPARE,
-        Command::Owl => "Writes an ontology with the classes Supplier and Service, and SupplierOnly for what fits the first and not the second. The\nsupplier's description is contained in the service's exactly if a reasoner finds Supplier below Service, or SupplierOnly\nunsatisfiable. Property 7 is the class property_7, link 1 the object property link_1; words become labels. Links from 32768 up\nare functional.\n",
+        Command::Owl => "Writes an ontology with the classes Supplier and Service, and SupplierOnly for what fits the first and not the second. The\nsupplier's description is contained in the service's exactly if a reasoner finds Supplier below Service, or SupplierOnly\nunsatisfiable. Property 7 is the class property_7, link 1 the object property link_1; words become labels. Links from 32768 up\nare functional. With --pairs the two properties of a pair are disjoint classes.\n",
         Command::FromOwl => FROM_OWL,
     }
 }
@@ -101,28 +104,33 @@ not stand in the order of their numbers; --numbers writes them all.
 
 const NORMAL: &str = "\
 Writes the library's normal form of a description. Links from 32768 up lead to one item only: at least 2 by one makes its place
-impossible, and at most 1 or more, which every item meets, is left out.
+impossible, and at most 1 or more, which every item meets, is left out. With --pairs a place with both properties of a pair is
+impossible too, and where it has the one, lacks the other is left out.
 ";
 
 const COMPARE: &str = "\
 Answers whether every item that fits the supplier's description fits the service's. For a no it names the first entry that fails,
-where it stands, what the supplier's description says there, and shows a specimen that fits the first and not the second.
+where it stands, what the supplier's description says there, and shows a specimen that fits the first and not the second. With
+--pairs the answer is about the records that keep the list, and so is the specimen.
 ";
 
 const FROM_OWL: &str = "\
 Reads OWL 2 functional syntax: a class expression, or an ontology in which EquivalentClasses defines classes. It takes classes,
 ObjectComplementOf a class, ObjectIntersectionOf, ObjectAllValuesFrom, ObjectMinCardinality, ObjectMaxCardinality,
 ObjectExactCardinality, ObjectSomeValuesFrom owl:Thing, owl:Thing and owl:Nothing, and of links from 32768 up
-FunctionalObjectProperty; of anything else it says what it is and where.
+FunctionalObjectProperty; of anything else it says what it is and where. DisjointClasses of classes by their names are pairs of
+properties that exclude each other: --sort pairs writes these, and not the description.
 Names are property_7 and link_1 of <urn:goltximen#>, or others whose label or last part the names file knows.
 ";
 
 fn option_help(command: Command, option: &str) -> &'static str {
     match (option, command) {
         ("--names", _) => "  --names FILE        the words of properties and links\n",
+        ("--pairs", _) => "  --pairs FILE        the list of properties that exclude each other\n",
         ("--json", _) => "  --json              the answer for programs, one object on a line\n",
         ("--from", _) => "  --from FORM         the inputs are 'blocks' or 'text', whatever they look like\n",
-        ("--sort", _) => "  --sort SORT         the input is a 'description' or a 'specimen'\n",
+        ("--sort", Command::FromOwl) => "  --sort SORT         write the 'description' (without this option) or the 'pairs'\n",
+        ("--sort", _) => "  --sort SORT         the input is a 'description', a 'specimen' or a list of 'pairs'\n",
         ("--to", _) => "  --to FORM           write 'text' (without this option), 'desk' (5,1 [3,2,1; 4,2,1]) or 'blocks'\n",
         ("--numbers", _) => "  --numbers           in text, write each entry's number\n",
         ("--out", _) => "  --out FILE          write into this file; for folders, into this folder\n",
@@ -140,9 +148,9 @@ Every answer is that of the proved library; gx reads, writes, draws and words it
 
 Inputs are files, or standard input as -, also where no FILE is given. They are blocks or text, told apart by their bytes: an
 input with a zero byte, or an empty one, is blocks (the second byte of all accepted blocks is zero); any other is text. --from
-says it where that is wrong. A folder stands for its files, without hidden ones, names files (*.names) and folders: each gets a
-line, and one bad file stops none of the others. So it is for several files. With two folders each file of the first goes with
-each of the second.
+says it where that is wrong. A folder stands for its files, without hidden ones, names files (*.names), lists of pairs (*.pairs)
+and folders: each gets a line, and one bad file stops none of the others. So it is for several files. With two folders each file
+of the first goes with each of the second.
 
 A text has an entry on each line, or divides them by ';':
 
@@ -165,6 +173,14 @@ text without entries needs it. // begins a remark.
 
 Links from 32768 up, such as 'taken from field', lead to one item only. No record has two items by one: a group that brings its
 owner a second one is refused (9), at least 2 is impossible, and every item meets at most 1 or more.
+
+Properties such as clay and sand never hold of one item. A list of up to 64 pairs says so; it is bytes, four for a pair, or a
+text like
+    pairs
+    property 7 \"clay\" excludes property 8 \"sand\"
+or, as at the desk, pairs: 7,8. With --pairs no record has an item with both properties of a pair: a place of a description with
+both is impossible, one with the one lacks the other, and a specimen with both at one item is refused (12). A list with a 0, or
+with the same property twice in a pair, is refused (11).
 
 A names file has lines like
     property 7 \"sealed\"

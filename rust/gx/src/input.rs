@@ -8,6 +8,7 @@ use crate::blocks;
 use crate::entry::{Entry, Sort};
 use crate::library;
 use crate::names::Names;
+use crate::pairs::{self, List};
 use crate::refused;
 use crate::text::{self, Mistake, Position};
 use crate::trouble::Trouble;
@@ -158,12 +159,68 @@ impl Reading {
     ///
     /// The file cannot be read, its text has a mistake, or the library refuses it.
     pub fn input(&self, path: &Path, sort: Option<Sort>, input: u16) -> Result<Input, Trouble> {
-        let bytes = bytes_of(path)?;
-        let draft = match self.form.unwrap_or(Form::of(&bytes)) {
+        self.input_of(path, bytes_of(path)?, sort, input)
+    }
+
+    /// The same for the bytes of that file.
+    ///
+    /// # Errors
+    ///
+    /// The text has a mistake, or the library refuses the input.
+    pub fn input_of(
+        &self,
+        path: &Path,
+        bytes: Vec<u8>,
+        sort: Option<Sort>,
+        input: u16,
+    ) -> Result<Input, Trouble> {
+        let draft = match self.form_of(&bytes) {
             Form::Blocks => self.blocks(path, bytes, sort),
             Form::Text => self.text(path, &bytes, sort)?,
         };
         accepted(path, draft, input)
+    }
+
+    fn form_of(&self, bytes: &[u8]) -> Form {
+        self.form.unwrap_or(Form::of(bytes))
+    }
+
+    /// Whether these bytes are a text with the heading of a list of pairs.
+    pub fn is_headed_pairs(&self, bytes: &[u8]) -> bool {
+        let text = std::str::from_utf8(bytes);
+        self.form_of(bytes) == Form::Text && text.is_ok_and(text::is_headed_pairs)
+    }
+
+    /// Reads the bytes of a file as a list of pairs.
+    ///
+    /// # Errors
+    ///
+    /// The text has a mistake, or the library refuses the list.
+    pub fn list_of(&self, path: &Path, bytes: Vec<u8>) -> Result<List, Trouble> {
+        let mut names = self.names.clone();
+        let draft = match self.form_of(&bytes) {
+            Form::Blocks => List {
+                title: title(path),
+                pairs: pairs::decode(&bytes),
+                bytes,
+                names,
+                positions: Vec::new(),
+            },
+            Form::Text => {
+                let text = text_of(path, &bytes)?;
+                let parsed = text::parse_pairs(text, &names);
+                let parsed = parsed.map_err(|mistake| mistaken(path, mistake, text))?;
+                names.join(&parsed.words);
+                List {
+                    title: title(path),
+                    bytes: pairs::encode(&parsed.pairs),
+                    pairs: parsed.pairs,
+                    names,
+                    positions: parsed.positions,
+                }
+            }
+        };
+        accepted_list(path, draft)
     }
 
     fn blocks(&self, path: &Path, bytes: Vec<u8>, sort: Option<Sort>) -> Input {
@@ -226,8 +283,48 @@ pub fn accepted(path: &Path, draft: Input, input: u16) -> Result<Input, Trouble>
     })
 }
 
-/// The files that an argument names: itself, or the files of a folder by name. Hidden files, names files and folders in it are
-/// passed over.
+/// The list, if the library accepts it.
+///
+/// # Errors
+///
+/// The refusal.
+pub fn accepted_list(path: &Path, draft: List) -> Result<List, Trouble> {
+    let Err(refusal) = library::read_list(draft.under()) else {
+        return Ok(draft);
+    };
+    let place = usize::from(refusal.place);
+    Err(Trouble::Refused {
+        file: named(path),
+        why: refused::why_list(refusal, &draft),
+        shown: refused::shown_pairs(refusal, &draft),
+        refusal,
+        at: draft.positions.get(place.wrapping_sub(1)).copied(),
+    })
+}
+
+/// The specimen, if it keeps the list.
+///
+/// # Errors
+///
+/// The refusal.
+pub fn keeping(path: &Path, specimen: Input, list: &List) -> Result<Input, Trouble> {
+    let Err(refusal) = library::keeps(list.under(), &specimen.bytes) else {
+        return Ok(specimen);
+    };
+    let place = usize::from(refusal.place);
+    let mut names = specimen.names.clone();
+    names.join(&list.names);
+    Err(Trouble::Refused {
+        file: named(path),
+        why: refused::why_not_kept(place, &specimen.entries, list, &names),
+        shown: refused::shown(refusal, &specimen.bytes, &names),
+        refusal,
+        at: specimen.positions.get(place.wrapping_sub(1)).copied(),
+    })
+}
+
+/// The files that an argument names: itself, or the files of a folder by name. Hidden files, names files, lists of pairs and folders
+/// in it are passed over.
 ///
 /// # Errors
 ///
@@ -240,7 +337,8 @@ pub fn files_of(path: &Path) -> Result<Vec<PathBuf>, Trouble> {
     let mut files = listed.map_err(|error| unreadable(path, &error))?;
     files.retain(|file| {
         let name = title(file);
-        file.is_file() && !name.starts_with('.') && !name.ends_with(".names")
+        let beside = name.ends_with(".names") || name.ends_with(".pairs");
+        file.is_file() && !name.starts_with('.') && !beside
     });
     files.sort();
     Ok(files)

@@ -5,7 +5,8 @@
 //! | Module | Subject |
 //! |---|---|
 //! | [`entry`], [`blocks`], [`tree`] | entries, entries as blocks, which entry owns which |
-//! | [`names`], [`text`] | the words of properties and links, descriptions and specimens as text |
+//! | [`pairs`] | properties that exclude each other, and lists of them as bytes |
+//! | [`names`], [`text`] | the words of properties and links, descriptions, specimens and lists as text |
 //! | [`input`], [`trouble`], [`refused`] | inputs, what keeps one from an answer, a refusal in words |
 //! | [`library`] | the calls of the proved library |
 //! | [`words`], [`explain`], [`specimen`] | sentences, a no explained, a specimen as a tree of lines |
@@ -28,6 +29,7 @@ pub mod library;
 pub mod names;
 pub mod owl;
 pub mod page;
+pub mod pairs;
 pub mod refused;
 pub mod run;
 pub mod specimen;

@@ -1,8 +1,9 @@
-//! The calls of the proved library. Every answer that is printed comes from here.
+//! The calls of the proved library. Every answer that is printed comes from here. The calls under a list of properties that
+//! exclude each other take it first; without pairs they are the plain calls.
 
-pub use goltximen::{Comparison, Fit, Refusal};
+pub use goltximen::{Comparison, Fit, Reason, Refusal, Under};
 
-use crate::blocks::{decode, BLOCK, BLOCK_ENTRIES};
+use crate::blocks::{decode, encode, BLOCK, BLOCK_ENTRIES};
 use crate::entry::{Entry, Sort};
 
 /// The number of entries of an input, or its refusal.
@@ -17,13 +18,36 @@ pub fn read(sort: Sort, bytes: &[u8]) -> Result<u16, Refusal> {
     }
 }
 
+/// The refusal of a list of pairs, if it has one. No call reads a list alone: it is the first thing that a call looks at, so one
+/// on an empty input tells.
+///
+/// # Errors
+///
+/// The library's refusal.
+pub fn read_list(under: Under<'_>) -> Result<(), Refusal> {
+    match under.normal_form(&[], &mut []) {
+        Err(refusal) if refusal.reason == Reason::Pairs => Err(refusal),
+        _ => Ok(()),
+    }
+}
+
+/// The refusal of an accepted specimen that does not keep the list, if it has one. It is the last thing that is looked at before
+/// the description, so an empty description tells.
+///
+/// # Errors
+///
+/// The library's refusal.
+pub fn keeps(under: Under<'_>, specimen: &[u8]) -> Result<(), Refusal> {
+    under.fit(specimen, &encode(&[])).map(|_| ())
+}
+
 /// Whether the top item of a specimen fits a description.
 ///
 /// # Errors
 ///
 /// The library's refusal.
-pub fn fits(specimen: &[u8], description: &[u8]) -> Result<bool, Refusal> {
-    Ok(goltximen::fit(specimen, description)? == Fit::Yes)
+pub fn fits(under: Under<'_>, specimen: &[u8], description: &[u8]) -> Result<bool, Refusal> {
+    Ok(under.fit(specimen, description)? == Fit::Yes)
 }
 
 /// The blocks of a normal form.
@@ -31,9 +55,9 @@ pub fn fits(specimen: &[u8], description: &[u8]) -> Result<bool, Refusal> {
 /// # Errors
 ///
 /// The library's refusal.
-pub fn normal(description: &[u8]) -> Result<Vec<u8>, Refusal> {
+pub fn normal(under: Under<'_>, description: &[u8]) -> Result<Vec<u8>, Refusal> {
     let mut out = vec![0; description.len()];
-    let entries = goltximen::normal_form(description, &mut out)?;
+    let entries = under.normal_form(description, &mut out)?;
     out.truncate(length_of(entries));
     Ok(out)
 }
@@ -57,9 +81,9 @@ pub enum Compared {
 /// # Errors
 ///
 /// The library's refusal.
-pub fn compare(c: &[u8], d: &[u8]) -> Result<Compared, Refusal> {
+pub fn compare(under: Under<'_>, c: &[u8], d: &[u8]) -> Result<Compared, Refusal> {
     let mut out = vec![0; c.len() + d.len()];
-    Ok(match goltximen::compare(c, d, &mut out)? {
+    Ok(match under.compare(c, d, &mut out)? {
         Comparison::Contained => Compared::Contained,
         Comparison::NotContained { entry, entries } => {
             out.truncate(length_of(entries));

@@ -5,11 +5,12 @@
 use goltximen::{Reason, Refusal};
 
 use crate::blocks::{self, Frame, BLOCK, BLOCK_ENTRIES};
-use crate::entry::{Entry, Sort};
+use crate::entry::{Entry, Property, Sort};
 use crate::names::Names;
+use crate::pairs::{List, Pair, MOST_PAIRS, PAIR};
 use crate::text;
 use crate::tree::owners;
-use crate::words::grouped;
+use crate::words::{grouped, Words};
 
 /// Why the input is refused, in words.
 pub fn why(refusal: Refusal, sort: Sort, bytes: &[u8]) -> String {
@@ -39,7 +40,65 @@ pub fn why(refusal: Refusal, sort: Sort, bytes: &[u8]) -> String {
             format!("entry {place}: {fault}")
         }
         Reason::Output => "the output is too short".into(),
+        // No reader gives another.
+        _ => refusal.to_string(),
     }
+}
+
+/// Why the list of pairs is refused, in words.
+pub fn why_list(refusal: Refusal, list: &List) -> String {
+    let place = usize::from(refusal.place);
+    let pair = list.pairs.get(place.wrapping_sub(1));
+    match (pair, list.bytes.len() % PAIR) {
+        (Some(&Pair(one, other)), _) => format!("pair {place}: {}", pair_fault(one, other)),
+        (_, 0) => format!(
+            "the list has {} pairs, and the most is {MOST_PAIRS}",
+            grouped(list.pairs.len() as u32)
+        ),
+        (_, rest) => format!(
+            "the list has {} bytes, which is no multiple of 4: {}, and {}",
+            list.bytes.len(),
+            counted(list.pairs.len(), "whole pair", "whole pairs"),
+            counted(rest, "byte more", "bytes more")
+        ),
+    }
+}
+
+fn pair_fault(one: Property, other: Property) -> String {
+    match (one.0, other.0) {
+        (0, 0) => "both of its properties are 0".into(),
+        (0, _) => "its first property is 0".into(),
+        (_, 0) => "its second property is 0".into(),
+        (one, _) => format!("it names property {one} twice, and no property excludes itself"),
+    }
+}
+
+/// Why a specimen is refused that does not keep the list: the entry gives its owner a property, and an earlier one gives it another
+/// that excludes it.
+pub fn why_not_kept(place: usize, entries: &[Entry], list: &List, names: &Names) -> String {
+    let e = entries
+        .get(place.wrapping_sub(1))
+        .copied()
+        .unwrap_or_default();
+    let words = Words::new(names);
+    let excluding = list.excluding(Property(e.name));
+    let earlier = (1..).zip(&entries[..place.saturating_sub(1)]);
+    let first = earlier.filter(|(_, other)| (other.kind, other.owner) == (1, e.owner));
+    let mut first = first.filter(|(_, other)| excluding.contains(&Property(other.name)));
+    let owner = match e.owner {
+        0 => "the top item".into(),
+        owner => format!("the items of entry {owner}"),
+    };
+    let Some((number, other)) = first.next() else {
+        return format!("entry {place}: {owner} would have both properties of a pair");
+    };
+    let (this, that) = (Property(e.name), Property(other.name));
+    let pair = list.number_of(this, that).unwrap_or(0);
+    format!(
+        "entry {place}: it gives {owner} {}, and entry {number} gives {}; pair {pair} of the list says that the two exclude each other",
+        words.property(this),
+        words.property(that)
+    )
 }
 
 fn length(sort: Sort, bytes: &[u8]) -> String {
@@ -191,10 +250,38 @@ pub fn shown(refusal: Refusal, bytes: &[u8], names: &Names) -> String {
     match refusal.reason {
         Reason::Length | Reason::Output => String::new(),
         Reason::Check | Reason::Frame => shown_blocks(bytes, place),
-        Reason::Form | Reason::Owner | Reason::Depth | Reason::SecondItem => {
-            shown_entries(bytes, place, names)
-        }
+        _ => shown_entries(bytes, place, names),
     }
+}
+
+/// The pair that the refusal of a list names, in its surroundings.
+pub fn shown_pairs(refusal: Refusal, list: &List) -> String {
+    let place = usize::from(refusal.place);
+    if place == 0 {
+        return String::new();
+    }
+    let first = place.saturating_sub(AROUND).max(1);
+    let last = (place + AROUND).min(list.pairs.len());
+    let width = last.to_string().len();
+    let mut out = String::new();
+    for number in first..=last {
+        let sign = if number == place { '>' } else { ' ' };
+        let words = text::pair(list.pairs[number - 1], &list.names);
+        out.push_str(&format!("{sign} pair {number:>width$}: {words}\n"));
+    }
+    let at = (place - 1) * PAIR;
+    let bytes = list.bytes.get(at..at + PAIR).unwrap_or_default();
+    out.push_str(&format!(
+        "\n  pair {place} is bytes {at} to {}: {}\n",
+        at + PAIR - 1,
+        in_hex(bytes)
+    ));
+    out
+}
+
+fn in_hex(bytes: &[u8]) -> String {
+    let hex: Vec<String> = bytes.iter().map(|byte| format!("{byte:02x}")).collect();
+    hex.join(" ")
 }
 
 fn shown_blocks(bytes: &[u8], place: usize) -> String {
@@ -247,14 +334,10 @@ fn shown_entries(bytes: &[u8], place: usize, names: &Names) -> String {
         .copied()
         .unwrap_or_default();
     let (block, at) = blocks::place_of(place);
-    let hex: Vec<String> = blocks::entry_bytes(&e)
-        .iter()
-        .map(|byte| format!("{byte:02x}"))
-        .collect();
     out.push_str(&format!(
         "\n  entry {place} is in block {block}, bytes {at} to {}: {}\n",
         at + 7,
-        hex.join(" ")
+        in_hex(&blocks::entry_bytes(&e))
     ));
     out
 }

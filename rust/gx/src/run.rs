@@ -8,7 +8,7 @@ use std::path::{Path, PathBuf};
 use crate::args::{self, Args, Command, Options, To};
 use crate::commands::{Answer, Context, Extra, Status};
 use crate::help;
-use crate::input::{files_of, names_of, title, unreadable, Reading};
+use crate::input::{bytes_of, files_of, names_of, title, unreadable, Reading};
 use crate::json::Json;
 use crate::page;
 use crate::trouble::Trouble;
@@ -76,12 +76,21 @@ fn done(command: Command, files: &[PathBuf], options: Options) -> u8 {
         form: options.from,
         names,
     };
-    let run = Run {
+    let mut run = Run {
         command,
-        context: Context { options, reading },
+        context: Context {
+            options,
+            reading,
+            list: Default::default(),
+        },
     };
-    let many = files.iter().any(|file| file.is_dir());
-    if many || (!command.takes_pair() && files.len() > 1) {
+    let folders = files.iter().any(|file| file.is_dir());
+    let many = folders || (!command.takes_pair() && files.len() > 1);
+    if let Err(trouble) = run.read_list() {
+        run.print_trouble(&trouble, many);
+        return Status::Bad.code();
+    }
+    if many {
         return run.lines(files);
     }
     let blocks = command == Command::Write || run.options().to == Some(To::Blocks);
@@ -108,6 +117,15 @@ impl Run {
         options.out.is_none() && !options.json && std::io::stdout().is_terminal()
     }
 
+    /// Reads the list that all answers are about, if one is given.
+    fn read_list(&mut self) -> Result<(), Trouble> {
+        if let Some(path) = &self.context.options.pairs {
+            let bytes = bytes_of(path)?;
+            self.context.list = self.context.reading.list_of(path, bytes)?;
+        }
+        Ok(())
+    }
+
     /// One answer, in full.
     fn one(&self, files: &[&Path]) -> Status {
         let answer = self.context.answer(self.command, files);
@@ -118,7 +136,7 @@ impl Run {
         match answer {
             Ok(answer) => self.print_one(answer),
             Err(trouble) => {
-                self.print_trouble(&trouble);
+                self.print_trouble(&trouble, false);
                 Status::Bad
             }
         }
@@ -127,7 +145,7 @@ impl Run {
     fn print_one(&self, answer: Answer) -> Status {
         if let Some(out) = &self.options().out {
             if let Err(trouble) = store(out, &answer.full) {
-                self.print_trouble(&trouble);
+                self.print_trouble(&trouble, false);
                 return Status::Bad;
             }
         }
@@ -141,8 +159,11 @@ impl Run {
         }
     }
 
-    fn print_trouble(&self, trouble: &Trouble) {
-        self.store_refused(trouble, None);
+    /// What keeps one input from an answer, or all of many.
+    fn print_trouble(&self, trouble: &Trouble, many: bool) {
+        if !many {
+            self.store_refused(trouble, None);
+        }
         let unread = matches!(trouble, Trouble::File { .. });
         if self.options().json {
             print(format!("{}\n", Json::Object(trouble.json())).as_bytes());

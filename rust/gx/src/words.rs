@@ -138,6 +138,12 @@ pub fn blocks(count: usize) -> String {
     format!("{count} {word}")
 }
 
+/// The count with its word: "1 pair", "2 pairs".
+pub fn pairs(count: usize) -> String {
+    let word = if count == 1 { "pair" } else { "pairs" };
+    format!("{count} {word}")
+}
+
 /// Several things: "a", "a and b", "a, b and c".
 pub fn listed(things: &[String]) -> String {
     match things {

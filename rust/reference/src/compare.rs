@@ -2,9 +2,11 @@
 
 use std::collections::{BTreeMap, BTreeSet};
 
+use crate::background::Background;
 use crate::blocks::{write, Entry};
 use crate::normal::normal_place;
 use crate::order::{in_order, Row};
+use crate::pairs::Pairs;
 use crate::reading::{read, Sort};
 use crate::refusal::Refusal;
 use crate::tree::{top_place, Fact, Link, Place, Property};
@@ -25,20 +27,38 @@ pub enum Comparison {
     },
 }
 
-/// Compares C with D.
+/// Compares C with D, with no excluding pairs.
+pub fn compare(c: &[u8], d: &[u8], out: &mut [u8]) -> Result<Comparison, Refusal> {
+    compare_with(&[], &[], c, d, out)
+}
+
+/// Compares C with D, under a list of excluding pairs.
 ///
 /// "Input 1 is C, input 2 is D, the output is at least as long as both."
 /// The output is as long as the two together: "Entries never exceed those of
 /// C and D together."
-pub fn compare(c: &[u8], d: &[u8], out: &mut [u8]) -> Result<Comparison, Refusal> {
+///
+/// "What a yes and a no promise now ranges over every list that 11 doesn't
+/// refuse and over records that keep it, and a specimen is judged under the
+/// same list." The specimen keeps it: no place of N has both of a pair, and
+/// the property added for a failing lack has no partner there, or the lack
+/// would be supported.
+pub fn compare_with(
+    pairs: &[u8],
+    dict: &[u8],
+    c: &[u8],
+    d: &[u8],
+    out: &mut [u8],
+) -> Result<Comparison, Refusal> {
+    let Background { pairs } = Background::read(pairs, dict)?;
     let c_entries = read(c, Sort::Description, 1)?;
     let d_entries = read(d, Sort::Description, 2)?;
     if out.len() < c.len().saturating_add(d.len()) {
         return Err(Refusal::output_too_short());
     }
     // "N is C's normal form."
-    let n = normal_place(top_place(&c_entries));
-    let Some((number, e)) = first_that_fails(&n, &d_entries) else {
+    let n = normal_place(top_place(&c_entries), &pairs);
+    let Some((number, e)) = first_that_fails(&n, &d_entries, &pairs) else {
         return Ok(Comparison::Contained);
     };
     let specimen = in_order(filled(Some(&n), Some(&way(&d_entries, &e)), &e));
@@ -50,10 +70,10 @@ pub fn compare(c: &[u8], d: &[u8], out: &mut [u8]) -> Result<Comparison, Refusal
 }
 
 /// The first entry of D that fails, with its number.
-fn first_that_fails(n: &Place, d_entries: &[Entry]) -> Option<(usize, Entry)> {
+fn first_that_fails(n: &Place, d_entries: &[Entry], pairs: &Pairs) -> Option<(usize, Entry)> {
     (1..)
         .zip(d_entries)
-        .find(|(_, e)| !holds(n, &way(d_entries, e), e))
+        .find(|(_, e)| !holds(n, &way(d_entries, e), e, pairs))
         .map(|(number, e)| (number, *e))
 }
 
@@ -76,8 +96,8 @@ fn owner_of<'a>(entries: &'a [Entry], e: &Entry) -> Option<&'a Entry> {
 
 /// "It holds if N is kind 6; or if N has at most 0 of the next link at a
 /// place passed on W; or if N's place W (empty if N has none) supports it."
-fn holds(n: &Place, w: &[Link], e: &Entry) -> bool {
-    n.facts.contains(&Fact::Nothing) || passes_at_most_0(n, w) || supports(place_at(n, w), e)
+fn holds(n: &Place, w: &[Link], e: &Entry, pairs: &Pairs) -> bool {
+    n.facts.contains(&Fact::Nothing) || passes_at_most_0(n, w) || supports(place_at(n, w), e, pairs)
 }
 
 /// "if N has at most 0 of the next link at a place passed on W"
@@ -100,13 +120,14 @@ fn place_at<'a>(n: &'a Place, w: &[Link]) -> Option<&'a Place> {
 /// "Kinds 1 and 2 need the same entry; kind 3 needs n = 0 or at least m with
 /// m ≥ n; kind 4 needs at most m with m ≤ n; kind 5 always holds; kind 6
 /// never does." Of a link that never leads to two items, "at most 1 or more
-/// [...] holds in every comparison".
-fn supports(place: Option<&Place>, e: &Entry) -> bool {
+/// [...] holds in every comparison". A lack that a pair implies is not listed
+/// in N, "yet it supports a lack in the comparison".
+fn supports(place: Option<&Place>, e: &Entry, pairs: &Pairs) -> bool {
     let facts = place.map_or(&[][..], |place| &place.facts);
     let link = Link(e.name);
     match e.kind {
         1 => facts.contains(&Fact::Has(Property(e.name))),
-        2 => facts.contains(&Fact::Lacks(Property(e.name))),
+        2 => lacks(facts, Property(e.name), pairs),
         3 => {
             e.number == 0
                 || facts
@@ -122,6 +143,14 @@ fn supports(place: Option<&Place>, e: &Entry) -> bool {
         5 => true,
         _ => false,
     }
+}
+
+/// "a place with one counts as lacking the other"
+fn lacks(facts: &[Fact], property: Property, pairs: &Pairs) -> bool {
+    facts.contains(&Fact::Lacks(property))
+        || pairs
+            .partners(property)
+            .any(|partner| facts.contains(&Fact::Has(partner)))
 }
 
 /// The n of an at least of this link.

@@ -4,19 +4,24 @@
 //! when one holds another". Every call first reads its inputs in full, then
 //! works on trees of places, then writes its answer as blocks. Comments in
 //! quotation marks are sentences of that paper, or of the requests "A second
-//! check in each block" and "Links that lead to one item only" that came
-//! after it.
+//! check in each block", "Links that lead to one item only" and "Properties
+//! that exclude each other" that came after it.
+//!
+//! [`fit_with`], [`normal_with`] and [`compare_with`] take a list of excluding
+//! pairs; [`fit`], [`normal_form`] and [`compare`] are the calls with no pairs.
 //!
 //! No call panics, whatever bytes it is given. [`notation`] is for tests.
 
 #![forbid(unsafe_code)]
 #![warn(missing_docs)]
 
+mod background;
 mod blocks;
 mod compare;
 mod normal;
 pub mod notation;
 mod order;
+mod pairs;
 mod program;
 mod reading;
 pub mod record;
@@ -25,10 +30,10 @@ mod specimen;
 mod tree;
 
 pub use blocks::{decode, encode, Entry};
-pub use compare::{compare, Comparison};
-pub use normal::normal_form;
+pub use compare::{compare, compare_with, Comparison};
+pub use normal::{normal_form, normal_with};
 pub use program::run_program;
 pub use reading::{read_description, read_specimen};
 pub use refusal::Refusal;
-pub use specimen::fit;
+pub use specimen::{fit, fit_with};
 pub use tree::{Link, Property};

@@ -2,24 +2,40 @@
 
 use std::collections::{BTreeMap, BTreeSet};
 
+use crate::background::Background;
 use crate::blocks::{write, Entry};
 use crate::order::{in_order, Row};
+use crate::pairs::Pairs;
 use crate::reading::{read, Sort};
 use crate::refusal::Refusal;
-use crate::tree::{top_place, Every, Fact, Link, Place};
+use crate::tree::{top_place, Every, Fact, Link, Place, Property};
 
-/// Writes the normal form of a description in blocks and answers its number
-/// of entries.
+/// Writes the normal form of a description, with no excluding pairs.
+pub fn normal_form(description: &[u8], out: &mut [u8]) -> Result<usize, Refusal> {
+    normal_with(&[], &[], description, out)
+}
+
+/// Writes the normal form of a description in blocks, under a list of
+/// excluding pairs, and answers its number of entries.
 ///
 /// "One input; the output is at least as long." "Written in blocks from the
 /// start of the output, entries ascend by owner, then kind, then name; later
 /// bytes stay. The answer is the number of entries."
-pub fn normal_form(description: &[u8], out: &mut [u8]) -> Result<usize, Refusal> {
+///
+/// "A place with both is impossible; a place with one counts as lacking the
+/// other, so that lack is dropped from the normal form".
+pub fn normal_with(
+    pairs: &[u8],
+    dict: &[u8],
+    description: &[u8],
+    out: &mut [u8],
+) -> Result<usize, Refusal> {
+    let Background { pairs } = Background::read(pairs, dict)?;
     let entries = read(description, Sort::Description, 1)?;
     if out.len() < description.len() {
         return Err(Refusal::output_too_short());
     }
-    let normal = entries_of(&normal_place(top_place(&entries)));
+    let normal = entries_of(&normal_place(top_place(&entries), &pairs));
     write(&normal, out);
     Ok(normal.len())
 }
@@ -57,46 +73,48 @@ fn row_of_fact(fact: &Fact) -> Row {
 }
 
 /// A rule at one place; it says whether it changed anything.
-type Rule = fn(&mut Place) -> bool;
+type Rule = fn(&mut Place, &Pairs) -> bool;
 
-/// The request's rule, which has no number in the paper.
-const REQUEST: u8 = 10;
+/// The rules of the requests, which have no number in the paper.
+const SINGLE_LINKS: u8 = 10;
+const EXCLUDING_PAIRS: u8 = 11;
 
 /// The rules that apply at any place; the number is the one in the paper, 0
 /// for "Equal entries of one place become one."
-const RULES: [(u8, Rule); 10] = [
-    (1, merge_every),
+const RULES: [(u8, Rule); 11] = [
+    (1, |place, _| merge_every(place)),
     (2, remove_contradictions),
-    (3, remove_overcounts),
-    (4, drop_every_of_at_most_0),
-    (6, keep_smallest_at_most),
-    (7, keep_largest_at_least),
-    (8, drop_at_least_0),
-    (9, drop_empty_every),
-    (0, join_equal),
-    (REQUEST, drop_at_most_always_met),
+    (3, |place, _| remove_overcounts(place)),
+    (4, |place, _| drop_every_of_at_most_0(place)),
+    (6, |place, _| keep_smallest_at_most(place)),
+    (7, |place, _| keep_largest_at_least(place)),
+    (8, |place, _| drop_at_least_0(place)),
+    (9, |place, _| drop_empty_every(place)),
+    (0, |place, _| join_equal(place)),
+    (SINGLE_LINKS, |place, _| drop_at_most_always_met(place)),
+    (EXCLUDING_PAIRS, drop_implied_lacks),
 ];
 
 /// The normal form of a description given by its top place: the rules are
 /// applied until none changes anything.
-pub(crate) fn normal_place(mut top: Place) -> Place {
-    while apply_all(&mut top) {}
+pub(crate) fn normal_place(mut top: Place, pairs: &Pairs) -> Place {
+    while apply_all(&mut top, pairs) {}
     top
 }
 
 /// Applies each rule at each place, and rule 5 at the top.
-fn apply_all(top: &mut Place) -> bool {
+fn apply_all(top: &mut Place, pairs: &Pairs) -> bool {
     let below = RULES.iter().fold(false, |changed, &(_, rule)| {
-        apply_everywhere(top, rule) || changed
+        apply_everywhere(top, rule, pairs) || changed
     });
-    replace_impossible_top(top) || below
+    replace_impossible_top(top, pairs) || below
 }
 
 /// Applies one rule at this place and at all places below it.
-fn apply_everywhere(place: &mut Place, rule: Rule) -> bool {
-    let mut changed = rule(place);
+fn apply_everywhere(place: &mut Place, rule: Rule, pairs: &Pairs) -> bool {
+    let mut changed = rule(place, pairs);
     for every in &mut place.every {
-        changed = apply_everywhere(&mut every.place, rule) || changed;
+        changed = apply_everywhere(&mut every.place, rule, pairs) || changed;
     }
     changed
 }
@@ -119,8 +137,8 @@ fn merge_every(place: &mut Place) -> bool {
 
 /// "(2) a place with has and lacks of one property, or kind 6, goes with all
 /// below it, and its owner's place gains at most 0 of that link"
-fn remove_contradictions(place: &mut Place) -> bool {
-    remove_every_where(place, contradicts)
+fn remove_contradictions(place: &mut Place, pairs: &Pairs) -> bool {
+    remove_every_where(place, |below| contradicts(below, pairs))
 }
 
 /// "(3) likewise where at least n and at most m of one link have m < n"
@@ -130,7 +148,7 @@ fn remove_overcounts(place: &mut Place) -> bool {
 
 /// Removes each 'every' whose place is impossible; the place gains at most 0
 /// of its link.
-fn remove_every_where(place: &mut Place, impossible: fn(&Place) -> bool) -> bool {
+fn remove_every_where(place: &mut Place, impossible: impl Fn(&Place) -> bool) -> bool {
     let (gone, kept): (Vec<Every>, Vec<Every>) = std::mem::take(&mut place.every)
         .into_iter()
         .partition(|every| impossible(&every.place));
@@ -140,21 +158,34 @@ fn remove_every_where(place: &mut Place, impossible: fn(&Place) -> bool) -> bool
     !gone.is_empty()
 }
 
-/// "a place with has and lacks of one property, or kind 6"
-fn contradicts(place: &Place) -> bool {
-    let lacked: BTreeSet<_> = place
-        .facts
-        .iter()
-        .filter_map(|fact| match *fact {
-            Fact::Lacks(property) => Some(property),
-            _ => None,
-        })
-        .collect();
-    place.facts.iter().any(|fact| match fact {
-        Fact::Has(property) => lacked.contains(property),
+/// "a place with has and lacks of one property, or kind 6"; and of an
+/// excluding pair "A place with both is impossible"
+fn contradicts(place: &Place, pairs: &Pairs) -> bool {
+    let had = properties_had(place);
+    place.facts.iter().any(|fact| match *fact {
+        Fact::Has(property) => has_a_partner(&had, property, pairs),
+        Fact::Lacks(property) => had.contains(&property),
         Fact::Nothing => true,
         _ => false,
     })
+}
+
+/// The properties that the place lists with has.
+fn properties_had(place: &Place) -> BTreeSet<Property> {
+    place
+        .facts
+        .iter()
+        .filter_map(|fact| match *fact {
+            Fact::Has(property) => Some(property),
+            _ => None,
+        })
+        .collect()
+}
+
+/// Whether one of the properties had excludes this one: "a place with one
+/// counts as lacking the other".
+fn has_a_partner(had: &BTreeSet<Property>, property: Property, pairs: &Pairs) -> bool {
+    pairs.partners(property).any(|other| had.contains(&other))
 }
 
 /// "where at least n and at most m of one link have m < n"; and where at
@@ -206,9 +237,9 @@ fn drop_every_of_at_most_0(place: &mut Place) -> bool {
 
 /// "(5) a top that is impossible as in 2 or 3 becomes one entry of kind 6,
 /// and the rule doesn't apply to that entry alone"
-fn replace_impossible_top(top: &mut Place) -> bool {
+fn replace_impossible_top(top: &mut Place, pairs: &Pairs) -> bool {
     let alone = top.every.is_empty() && top.facts == [Fact::Nothing];
-    if alone || !(contradicts(top) || overcounts(top)) {
+    if alone || !(contradicts(top, pairs) || overcounts(top)) {
         return false;
     }
     *top = Place {
@@ -258,6 +289,18 @@ fn drop_at_most_always_met(place: &mut Place) -> bool {
     place.facts.len() != before
 }
 
+/// "a place with one counts as lacking the other, so that lack is dropped from
+/// the normal form"
+fn drop_implied_lacks(place: &mut Place, pairs: &Pairs) -> bool {
+    let before = place.facts.len();
+    let had = properties_had(place);
+    place.facts.retain(|fact| match *fact {
+        Fact::Lacks(property) => !has_a_partner(&had, property, pairs),
+        _ => true,
+    });
+    place.facts.len() != before
+}
+
 /// "(9) an 'every' that owns nothing goes"
 fn drop_empty_every(place: &mut Place) -> bool {
     let before = place.every.len();
@@ -279,7 +322,6 @@ fn join_equal(place: &mut Place) -> bool {
 #[cfg(test)]
 mod tests {
     use super::*;
-    use crate::tree::Property;
 
     fn every(link: u16, place: Place) -> Every {
         Every {
@@ -298,8 +340,19 @@ mod tests {
     const HAS: Fact = Fact::Has(Property(1));
     const LACKS: Fact = Fact::Lacks(Property(1));
 
+    /// No pairs.
+    fn without(rule: Rule) -> impl Fn(&mut Place) -> bool {
+        move |place| rule(place, &Pairs::default())
+    }
+
+    /// Properties 1 and 2 exclude each other, and 2 and 3.
+    fn with_pairs(rule: Rule) -> impl Fn(&mut Place) -> bool {
+        let pairs = Pairs::read(&[1, 0, 2, 0, 3, 0, 2, 0]).unwrap();
+        move |place| rule(place, &pairs)
+    }
+
     /// Each rule alone, before and after, and that it then no longer applies.
-    fn check(rule: Rule, before: Place, after: Place) {
+    fn check(rule: impl Fn(&mut Place) -> bool, before: Place, after: Place) {
         let mut found = before;
         assert!(rule(&mut found));
         assert_eq!(found, after);
@@ -329,7 +382,7 @@ mod tests {
         let worse = every(5, place(&[HAS, Fact::Nothing], vec![]));
         let good = every(4, place(&[HAS, Fact::Lacks(Property(2))], vec![]));
         check(
-            remove_contradictions,
+            without(remove_contradictions),
             place(&[HAS], vec![bad, good.clone(), worse]),
             place(
                 &[HAS, Fact::AtMost(Link(4), 0), Fact::AtMost(Link(5), 0)],
@@ -373,14 +426,14 @@ mod tests {
             place(&[Fact::AtMost(Link(9), 0)], good),
         );
         check(
-            replace_impossible_top,
+            without(replace_impossible_top),
             place(&two, vec![]),
             place(&[Fact::Nothing], vec![]),
         );
     }
 
     #[test]
-    fn the_request_s_rule() {
+    fn the_rule_of_single_links() {
         let at_most = |link, n| Fact::AtMost(Link(link), n);
         check(
             drop_at_most_always_met,
@@ -396,6 +449,45 @@ mod tests {
             ),
             place(&[HAS, at_most(32_768, 0), at_most(32_767, 1)], vec![]),
         );
+    }
+
+    #[test]
+    fn rules_2_and_5_of_excluding_pairs() {
+        let has = |property| Fact::Has(Property(property));
+        let good = vec![
+            every(7, place(&[has(1), has(3)], vec![])),
+            every(8, place(&[has(1), Fact::Lacks(Property(2))], vec![])),
+        ];
+        let mut all = good.clone();
+        all.push(every(9, place(&[has(2), has(1)], good.clone())));
+        check(
+            with_pairs(remove_contradictions),
+            place(&[], all.clone()),
+            place(&[Fact::AtMost(Link(9), 0)], good.clone()),
+        );
+        check(
+            with_pairs(replace_impossible_top),
+            place(&[has(3), has(2)], good),
+            place(&[Fact::Nothing], vec![]),
+        );
+        let mut found = place(&[], all.clone());
+        assert!(!without(remove_contradictions)(&mut found));
+        assert_eq!(found, place(&[], all));
+    }
+
+    #[test]
+    fn the_rule_of_excluding_pairs() {
+        let lacks = |property| Fact::Lacks(Property(property));
+        check(
+            with_pairs(drop_implied_lacks),
+            place(&[lacks(2), HAS, lacks(3), lacks(2), lacks(4)], vec![]),
+            place(&[HAS, lacks(3), lacks(4)], vec![]),
+        );
+        // One lack implies nothing, and neither does what stands below.
+        let below = vec![every(1, place(&[HAS], vec![]))];
+        let mut found = place(&[LACKS, lacks(2)], below.clone());
+        assert!(!with_pairs(drop_implied_lacks)(&mut found));
+        assert_eq!(found, place(&[LACKS, lacks(2)], below));
     }
 
     #[test]
@@ -415,22 +507,22 @@ mod tests {
         let over = [Fact::AtLeast(Link(1), 1), Fact::AtMost(Link(1), 0)];
         let below = vec![every(1, place(&[HAS], vec![]))];
         check(
-            replace_impossible_top,
+            without(replace_impossible_top),
             place(&[HAS, LACKS], below.clone()),
             nothing.clone(),
         );
         check(
-            replace_impossible_top,
+            without(replace_impossible_top),
             place(&over, below.clone()),
             nothing.clone(),
         );
         check(
-            replace_impossible_top,
+            without(replace_impossible_top),
             place(&[Fact::Nothing], below),
             nothing.clone(),
         );
         check(
-            replace_impossible_top,
+            without(replace_impossible_top),
             place(&[Fact::Nothing; 2], vec![]),
             nothing,
         );
@@ -474,8 +566,10 @@ mod tests {
     }
 
     #[test]
-    fn rules_are_the_nine_equal_entries_and_the_request() {
+    fn rules_are_the_nine_equal_entries_and_the_requests() {
         let numbers: Vec<u8> = RULES.iter().map(|rule| rule.0).collect();
-        assert_eq!(numbers, [1, 2, 3, 4, 6, 7, 8, 9, 0, REQUEST]);
+        let requests = [SINGLE_LINKS, EXCLUDING_PAIRS];
+        assert_eq!(numbers[..9], [1, 2, 3, 4, 6, 7, 8, 9, 0]);
+        assert_eq!(numbers[9..], requests);
     }
 }

@@ -3,15 +3,16 @@
 
 use std::collections::{BTreeMap, BTreeSet};
 
-use crate::blocks::Entry;
+use crate::blocks::{word, Entry};
 use crate::reading::MOST_DEPTH;
 use crate::tree::{Link, Property};
 
 /// "A finite record is a finite set of items, for each property the set of
 /// items that have it, for each link a set of ordered pairs."
 ///
-/// Any such sets can be put in here, also those that break the request's rule
-/// on links that never lead to two items; `keeps_the_rule` tells.
+/// Any such sets can be put in here, also those that break a request's rule on
+/// links that never lead to two items or on properties that exclude each other;
+/// `keeps_the_rule` and `keeps_the_list` tell.
 ///
 /// The items are the numbers from 0 up to but not including `items`.
 #[derive(Clone, Debug, Default, PartialEq, Eq)]
@@ -63,6 +64,15 @@ impl Record {
             .keys()
             .filter(|link| link.is_single())
             .all(|&link| (0..self.items).all(|item| self.linked(item, link).count() <= 1))
+    }
+
+    /// "records must keep it": no item has both properties of a pair in this
+    /// list, "four bytes a pair, low byte first".
+    pub fn keeps_the_list(&self, pairs: &[u8]) -> bool {
+        pairs.chunks_exact(4).all(|pair| {
+            let (one, other) = (Property(word(pair, 0)), Property(word(pair, 2)));
+            !(0..self.items).any(|item| self.has(item, one) && self.has(item, other))
+        })
     }
 
     /// The different items that the item is linked to by the link.

@@ -4,14 +4,18 @@
 ///
 /// "A place counts blocks or entries of that input from 1 by position, not
 /// by a stored number. A refusal also returns the input (1 or 2; 0 for
-/// number 7)."
+/// number 7)." Later requests add input 0 for number 11, which counts pairs,
+/// and input 100 for a dictionary.
 #[derive(Clone, Copy, Debug, PartialEq, Eq)]
 pub struct Refusal {
-    /// The number in the first column of the table of refusals, 1 to 7, or 9.
+    /// The number in the first column of the table of refusals, 1 to 7, or a
+    /// number that a request adds: 9, 11 or 12.
     pub number: u8,
-    /// The input that is refused: 1 or 2, or 0 for number 7.
+    /// The input that is refused: 1 or 2; 0 for numbers 7 and 11; 100 for the
+    /// dictionary.
     pub input: u16,
-    /// The block or entry that decides, or 0 for numbers 1 and 7.
+    /// The block, entry or pair that decides, or 0 for numbers 1 and 7 and for
+    /// a list of pairs of a wrong length.
     pub place: u32,
 }
 
@@ -32,6 +36,11 @@ pub(crate) const DEPTH: u8 = 6;
 pub(crate) const OUTPUT: u8 = 7;
 /// "a specimen group that brings its owner above one item by such a link"
 pub(crate) const SECOND_ITEM: u8 = 9;
+/// "length no multiple of 4 or over 64 pairs [...] pair with 0 or two equal
+/// numbers"
+pub(crate) const PAIRS: u8 = 11;
+/// "a specimen or delivered record with an item that has both of a pair"
+pub(crate) const BOTH_OF_A_PAIR: u8 = 12;
 
 impl Refusal {
     /// The refusal with this number at this place of this input.

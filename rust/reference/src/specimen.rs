@@ -1,5 +1,6 @@
 //! Specimens and the fit answer.
 
+use crate::background::Background;
 use crate::blocks::Entry;
 use crate::reading::{read, Sort};
 use crate::refusal::Refusal;
@@ -38,12 +39,29 @@ impl Items {
     }
 }
 
-/// The fit answer for the top item.
+/// The fit answer for the top item, with no excluding pairs.
+pub fn fit(specimen: &[u8], description: &[u8]) -> Result<bool, Refusal> {
+    fit_with(&[], &[], specimen, description)
+}
+
+/// The fit answer for the top item, under a list of excluding pairs.
 ///
 /// "The fit answer takes a specimen (input 1) and a description (input 2)
 /// and says yes or no for the top item. It has no output buffer."
-pub fn fit(specimen: &[u8], description: &[u8]) -> Result<bool, Refusal> {
+///
+/// "[...] the fit calls [...] take a list of up to 64 pairs of excluding
+/// properties, four bytes a pair, low byte first, and records must keep it."
+/// What fits is as it was; a specimen that doesn't keep the list is refused as
+/// 12, "after that input's other checks".
+pub fn fit_with(
+    pairs: &[u8],
+    dict: &[u8],
+    specimen: &[u8],
+    description: &[u8],
+) -> Result<bool, Refusal> {
+    let background = Background::read(pairs, dict)?;
     let specimen = read(specimen, Sort::Specimen, 1)?;
+    background.pairs.check_items(&specimen, 1)?;
     let description = read(description, Sort::Description, 2)?;
     let top_item = items_of(&specimen, 0);
     Ok(fits_place(&top_item, &top_place(&description)))

@@ -1,6 +1,7 @@
 //! The comparison.
 
-use super::entry::{Entry, AT_MOST};
+use super::entry::{Entry, AT_MOST, LACKS};
+use super::pairs::Pairs;
 use super::read::{entry_at, read, DESCRIPTION};
 use super::single::FIRST_SINGLE;
 use super::slots::{bounds, Key, Slots};
@@ -21,20 +22,44 @@ const PASSED: u16 = u16::MAX;
 
 /// Compares C with D. Where not contained, the specimen is written into the output.
 pub fn compare(c: &[u8], d: &[u8], out: &mut [u8]) -> Result<Comparison, Refusal> {
+    under(None, c, d, out)
+}
+
+/// The same under a list of properties that exclude each other.
+pub fn compare_with(
+    pairs: &[u8],
+    dictionary: &[u8],
+    c: &[u8],
+    d: &[u8],
+    out: &mut [u8],
+) -> Result<Comparison, Refusal> {
+    let pairs = Pairs::read(pairs, dictionary)?;
+    under(pairs.as_ref(), c, d, out)
+}
+
+fn under(pairs: Option<&Pairs>, c: &[u8], d: &[u8], out: &mut [u8]) -> Result<Comparison, Refusal> {
     match size(c.len().max(d.len())) {
-        Size::Small => sized::<64>(c, d, out),
-        Size::Middle => sized::<256>(c, d, out),
-        Size::Large => sized::<1024>(c, d, out),
+        Size::Small => sized::<64>(pairs, c, d, out),
+        Size::Middle => sized::<256>(pairs, c, d, out),
+        Size::Large => sized::<1024>(pairs, c, d, out),
     }
 }
 
-fn sized<const N: usize>(c: &[u8], d: &[u8], out: &mut [u8]) -> Result<Comparison, Refusal> {
+fn sized<const N: usize>(
+    pairs: Option<&Pairs>,
+    c: &[u8],
+    d: &[u8],
+    out: &mut [u8],
+) -> Result<Comparison, Refusal> {
     let mut slots = Slots::<N>::new();
     read::<N>(c, &DESCRIPTION, 1, |number, entry| {
         slots.enter(number, entry)
     })?;
+    if let Some(pairs) = pairs {
+        slots.restrict(pairs);
+    }
     slots.settle();
-    let failing = first_failing(&slots, d)?;
+    let failing = first_failing(pairs, &slots, d)?;
     if out.len() < c.len() + d.len() {
         return Err(TOO_SHORT);
     }
@@ -50,7 +75,11 @@ fn sized<const N: usize>(c: &[u8], d: &[u8], out: &mut [u8]) -> Result<Compariso
 
 /// Reads D, and answers the first entry that fails, or 0.
 #[inline(always)]
-fn first_failing<const N: usize>(slots: &Slots<N>, d: &[u8]) -> Result<usize, Refusal> {
+fn first_failing<const N: usize>(
+    pairs: Option<&Pairs>,
+    slots: &Slots<N>,
+    d: &[u8],
+) -> Result<usize, Refusal> {
     // A state for each 'every' entry: the place of C that it owns, or one of the two above.
     let mut states = [0u16; N];
     states[0] = if slots.is_broken() { PASSED } else { 0 };
@@ -58,7 +87,7 @@ fn first_failing<const N: usize>(slots: &Slots<N>, d: &[u8]) -> Result<usize, Re
     read::<N>(d, &DESCRIPTION, 2, |number, entry| {
         if failing == 0 {
             let state = states[entry.owner()];
-            let (holds, below) = look(slots, state, entry);
+            let (holds, below) = look(pairs, slots, state, entry);
             states[number] = below;
             failing = if holds { 0 } else { number };
         }
@@ -68,7 +97,12 @@ fn first_failing<const N: usize>(slots: &Slots<N>, d: &[u8]) -> Result<usize, Re
 
 /// Whether an entry at a place of this state holds, and the state of the place that it owns.
 #[inline]
-fn look<const N: usize>(slots: &Slots<N>, state: u16, entry: Entry) -> (bool, u16) {
+fn look<const N: usize>(
+    pairs: Option<&Pairs>,
+    slots: &Slots<N>,
+    state: u16,
+    entry: Entry,
+) -> (bool, u16) {
     if state == PASSED {
         return (true, PASSED);
     }
@@ -82,7 +116,13 @@ fn look<const N: usize>(slots: &Slots<N>, state: u16, entry: Entry) -> (bool, u1
         _ => found as u16,
     };
     let holds = (slot.least >= least) & (slot.most <= most);
-    (holds || is_always_met(entry), below)
+    let implied = || pairs.is_some_and(|pairs| is_implied(pairs, slots, state, entry));
+    (holds || is_always_met(entry) || implied(), below)
+}
+
+/// Whether an entry is a lack of what another property excludes that C has there.
+fn is_implied<const N: usize>(pairs: &Pairs, slots: &Slots<N>, state: u16, entry: Entry) -> bool {
+    entry.kind() == LACKS && pairs.excluded(slots, usize::from(state), entry.name())
 }
 
 /// Whether an entry is at most 1 or more of a link that leads to one item only.

@@ -4,6 +4,7 @@
 //! description. Each group is looked at once, against that place.
 
 use super::entry::{Entry, GROUP};
+use super::pairs::{Clashes, Pairs};
 use super::read::{entry_at, read, DESCRIPTION, SPECIMEN};
 use super::slots::{Key, Slots, BROKEN};
 use super::{size, Refusal, Size};
@@ -13,21 +14,62 @@ const NOWHERE: u16 = u16::MAX;
 
 /// Whether the top item of a specimen fits a description.
 pub fn fit(specimen: &[u8], description: &[u8]) -> Result<bool, Refusal> {
+    under(None, specimen, description)
+}
+
+/// The same under a list of properties that exclude each other.
+pub fn fit_with(
+    pairs: &[u8],
+    dictionary: &[u8],
+    specimen: &[u8],
+    description: &[u8],
+) -> Result<bool, Refusal> {
+    let pairs = Pairs::read(pairs, dictionary)?;
+    under(pairs.as_ref(), specimen, description)
+}
+
+fn under(pairs: Option<&Pairs>, specimen: &[u8], description: &[u8]) -> Result<bool, Refusal> {
     match size(specimen.len().max(description.len())) {
-        Size::Small => sized::<64, 64>(specimen, description),
-        Size::Middle => sized::<256, 256>(specimen, description),
-        Size::Large => sized::<2048, 1024>(specimen, description),
+        Size::Small => sized::<64, 64>(pairs, specimen, description),
+        Size::Middle => sized::<256, 256>(pairs, specimen, description),
+        Size::Large => sized::<2048, 1024>(pairs, specimen, description),
+    }
+}
+
+/// Reads a specimen, and answers its number of entries.
+#[inline(always)]
+fn read_owned<const M: usize>(
+    pairs: Option<&Pairs>,
+    specimen: &[u8],
+    owned: &mut Owned<M>,
+) -> Result<usize, Refusal> {
+    let Some(pairs) = pairs else {
+        return read::<M>(specimen, &SPECIMEN, 1, |number, entry| {
+            owned.enter(number, entry)
+        });
+    };
+    let mut clashes = Clashes::<M>::new(pairs);
+    let entries = read::<M>(specimen, &SPECIMEN, 1, |number, entry| {
+        owned.enter(number, entry);
+        clashes.enter(number, entry);
+    })?;
+    match clashes.first {
+        0 => Ok(entries),
+        first => Err(Refusal {
+            number: 12,
+            input: 1,
+            place: first as u16,
+        }),
     }
 }
 
 fn sized<const M: usize, const N: usize>(
+    pairs: Option<&Pairs>,
     specimen: &[u8],
     description: &[u8],
 ) -> Result<bool, Refusal> {
     let mut owned = Owned::<M>::new();
-    let entries = read::<M>(specimen, &SPECIMEN, 1, |number, entry| {
-        owned.enter(number, entry)
-    })?;
+    let entries = read_owned(pairs, specimen, &mut owned)?;
     let mut slots = Slots::<N>::new();
     read::<N>(description, &DESCRIPTION, 2, |number, entry| {
         slots.enter(number, entry)

@@ -1,4 +1,5 @@
-//! The five calls in plain, safe Rust, written for speed: one thread, no heap.
+//! The calls in plain, safe Rust, written for speed: one thread, no heap. Those that take a list of properties that exclude each
+//! other do without it where it is empty.
 //!
 //! Each call is compiled for three sizes of its tables, so that a small input doesn't pay for clearing large ones.
 
@@ -7,16 +8,18 @@ mod entry;
 mod fit;
 mod normal;
 mod order;
+mod pairs;
 mod queue;
 mod read;
 mod rows;
+mod seen;
 mod single;
 mod slots;
 mod specimen;
 
-pub use compare::{compare, Comparison};
-pub use fit::fit;
-pub use normal::normal_form;
+pub use compare::{compare, compare_with, Comparison};
+pub use fit::{fit, fit_with};
+pub use normal::{normal_form, normal_with};
 pub use read::{read_description, read_specimen};
 
 /// The bytes of a block.
@@ -25,11 +28,11 @@ const BLOCK: usize = 512;
 /// What a refused call answers.
 #[derive(Clone, Copy, Debug, PartialEq, Eq)]
 pub struct Refusal {
-    /// The number in the table of refusals, 1 to 7 or 9.
+    /// The number in the table of refusals, 1 to 7, 9, 11 or 12.
     pub number: u8,
-    /// The input, 1 or 2; 0 for number 7.
+    /// The input, 1 or 2; 0 for numbers 7 and 11, 100 for the dictionary.
     pub input: u16,
-    /// The block or entry; 0 for numbers 1 and 7.
+    /// The block, entry or pair; 0 for numbers 1 and 7 and for a list of a wrong length.
     pub place: u16,
 }
 

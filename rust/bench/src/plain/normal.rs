@@ -2,6 +2,7 @@
 
 use super::entry::{Entry, AT_LEAST, AT_MOST, EVERY, HAS, LACKS, NOTHING};
 use super::order::{slot_of, Order};
+use super::pairs::Pairs;
 use super::queue::{Queue, Waiting};
 use super::read::{read, DESCRIPTION};
 use super::rows::Rows;
@@ -10,20 +11,42 @@ use super::{size, Refusal, Size, TOO_SHORT};
 
 /// Writes the normal form of a description and answers its number of entries.
 pub fn normal_form(description: &[u8], out: &mut [u8]) -> Result<usize, Refusal> {
+    under(None, description, out)
+}
+
+/// The same under a list of properties that exclude each other.
+pub fn normal_with(
+    pairs: &[u8],
+    dictionary: &[u8],
+    description: &[u8],
+    out: &mut [u8],
+) -> Result<usize, Refusal> {
+    let pairs = Pairs::read(pairs, dictionary)?;
+    under(pairs.as_ref(), description, out)
+}
+
+fn under(pairs: Option<&Pairs>, description: &[u8], out: &mut [u8]) -> Result<usize, Refusal> {
     match size(description.len()) {
-        Size::Small => sized::<64>(description, out),
-        Size::Middle => sized::<256>(description, out),
-        Size::Large => sized::<1024>(description, out),
+        Size::Small => sized::<64>(pairs, description, out),
+        Size::Middle => sized::<256>(pairs, description, out),
+        Size::Large => sized::<1024>(pairs, description, out),
     }
 }
 
-fn sized<const N: usize>(description: &[u8], out: &mut [u8]) -> Result<usize, Refusal> {
+fn sized<const N: usize>(
+    pairs: Option<&Pairs>,
+    description: &[u8],
+    out: &mut [u8],
+) -> Result<usize, Refusal> {
     let mut slots = Slots::<N>::new();
     read::<N>(description, &DESCRIPTION, 1, |number, entry| {
         slots.enter(number, entry)
     })?;
     if out.len() < description.len() {
         return Err(TOO_SHORT);
+    }
+    if let Some(pairs) = pairs {
+        slots.restrict(pairs);
     }
     slots.settle();
     Ok(write(&slots, out))

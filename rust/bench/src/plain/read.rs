@@ -1,7 +1,8 @@
 //! Reading: one pass over the bytes for checks and frames, one over the entries.
 
 use super::entry::{Entry, AT_LEAST, AT_MOST, EVERY, GROUP, HAS, LACKS, NOTHING};
-use super::single::{is_single_group, Led};
+use super::seen::Seen;
+use super::single::{is_second, is_single_group};
 use super::{size, Refusal, Size, BLOCK};
 
 type Block = [u8; BLOCK];
@@ -132,7 +133,7 @@ fn check_entries<const N: usize>(
     let mut levels = [NEVER; N];
     levels[0] = 0;
     // Made with the first group by a link that leads to one item only, so that other inputs don't pay for clearing it.
-    let mut led: Option<Led<N>> = None;
+    let mut led: Option<Seen<N>> = None;
     let mut number = 0;
     for block in blocks {
         let entries = block[4..508].as_chunks::<8>().0;
@@ -144,7 +145,7 @@ fn check_entries<const N: usize>(
                 return Err((fault(entry, rules, level), number));
             }
             let looked_at = rules.owner_kind == GROUP && is_single_group(entry);
-            if looked_at && led.get_or_insert_with(Led::new).is_second(entry) {
+            if looked_at && is_second(led.get_or_insert_with(Seen::new), entry) {
                 return Err((9, number));
             }
             let owns = entry.kind() == rules.owner_kind;

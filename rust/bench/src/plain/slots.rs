@@ -5,6 +5,7 @@
 //! one item only says nothing: once settled it is no bound.
 
 use super::entry::{Entry, AT_LEAST, AT_MOST, HAS, LACKS, NOTHING};
+use super::pairs::Pairs;
 use super::single::FIRST_SINGLE;
 
 /// No bound from above: more than any number of items.
@@ -47,6 +48,11 @@ impl Key {
     #[inline]
     pub fn name(self) -> u16 {
         self.0 as u16
+    }
+
+    #[inline]
+    fn is_property(self) -> bool {
+        self.0 & 1 << 16 == 0
     }
 
     /// The most items that there can be: one by a link that leads to one item only.
@@ -153,6 +159,24 @@ impl<const N: usize> Slots<N> {
         let held = &mut self.slots[slot];
         held.least = held.least.max(least);
         held.most = held.most.min(most);
+    }
+
+    /// Whether a place has a property.
+    #[inline]
+    pub fn has(&self, place: usize, property: u16) -> bool {
+        self.slots[self.find(Key::of_kind(place, HAS, property))].least > 0
+    }
+
+    /// Where a place has a property that excludes another, has the other gets at most 0, so that nothing fits, and lacks the other
+    /// says nothing more. What a place has stays, so no slot's turn matters to another's.
+    pub fn restrict(&mut self, pairs: &Pairs) {
+        for number in 1..=self.used {
+            let key = self.slots[number].key;
+            if key.is_property() && pairs.excluded(self, key.place(), key.name()) {
+                let slot = &mut self.slots[number];
+                slot.most = all_if(slot.least == 0);
+            }
+        }
     }
 
     /// From the last slot to the first: a link to a place that nothing fits gets at most 0, and places are marked. Nothing fits

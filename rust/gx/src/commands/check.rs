@@ -2,14 +2,17 @@
 
 use std::path::Path;
 
-use super::{Answer, Context, Status};
+use super::{list, Alone, Answer, Context, Status};
 use crate::blocks::BLOCK;
 use crate::json::Json;
 use crate::trouble::Trouble;
 use crate::words;
 
 pub(super) fn check(context: &Context, file: &Path) -> Result<Answer, Trouble> {
-    let input = context.reading.input(file, context.options.sort, 1)?;
+    let input = match context.alone(file)? {
+        Alone::Entries(input) => input,
+        Alone::Pairs(pairs) => return Ok(list::check(&pairs)),
+    };
     let (entries, blocks) = (input.entries.len(), input.bytes.len() / BLOCK);
     let line = format!(
         "accepted: a {} of {} in {}",

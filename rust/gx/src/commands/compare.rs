@@ -8,6 +8,7 @@ use crate::explain::{compared, Explained, Failure};
 use crate::input::{not_refused, Input};
 use crate::json::Json;
 use crate::names::Names;
+use crate::pairs::List;
 use crate::specimen;
 use crate::text;
 use crate::tree::Tree;
@@ -18,10 +19,12 @@ use crate::{page, svg};
 pub(super) fn compare(context: &Context, c: &Path, d: &Path) -> Result<Answer, Trouble> {
     let supplier = context.description(c, 1)?;
     let service = context.description(d, 2)?;
-    let explained = compared(&supplier, &service).map_err(|refusal| not_refused(d, refusal))?;
-    let names = Failure::names(&supplier, &service);
+    let list = &context.list;
+    let explained = compared(list, &supplier, &service);
+    let explained = explained.map_err(|refusal| not_refused(d, refusal))?;
+    let names = Failure::names(list, &supplier, &service);
     let mut answer = match &explained {
-        Explained::Contained => contained(),
+        Explained::Contained => contained(list),
         Explained::NotContained(failure) => not_contained(failure, &supplier, &service, &names),
     };
     answer.extras = extras(context, &explained, &supplier, &service, &names);
@@ -47,7 +50,8 @@ fn extras(
         extras.push((Extra::Svg, drawing.into_bytes()));
     }
     if options.html.is_some() {
-        let page = page::page(explained, supplier, service, words, options.whole);
+        let list = &context.list;
+        let page = page::page(explained, list, supplier, service, words, options.whole);
         extras.push((Extra::Html, page.into_bytes()));
     }
     if let (Explained::NotContained(failure), true) = (explained, options.specimen.is_some()) {
@@ -56,16 +60,31 @@ fn extras(
     extras
 }
 
-fn contained() -> Answer {
+fn contained(list: &List) -> Answer {
     let line = "contained".to_string();
-    let full = "contained\n\nEvery item that fits the supplier's description fits the service's description.\n";
+    let full = format!(
+        "contained\n\nEvery item that fits the supplier's description fits the service's description{}.\n",
+        where_kept(list)
+    );
     Answer {
         status: Status::Yes,
         line,
-        full: full.into(),
+        full: full.into_bytes(),
         ending: "txt",
         json: vec![("answer", Json::text("contained"))],
         extras: Vec::new(),
+    }
+}
+
+/// Of which records the answer speaks, where there is a list.
+fn where_kept(list: &List) -> String {
+    match list.pairs.len() {
+        0 => String::new(),
+        count => format!(
+            ", in every record that keeps the {} of {}",
+            words::pairs(count),
+            list.title
+        ),
     }
 }
 

@@ -5,21 +5,23 @@ use std::path::Path;
 use super::{Answer, Context, Status};
 use crate::blocks::encode;
 use crate::entry::{Entry, Sort};
-use crate::input::{not_refused, Input};
+use crate::input::{keeping, not_refused, Input};
 use crate::json::Json;
-use crate::library::{self, Refusal};
+use crate::library::{self, Refusal, Under};
 use crate::tree::{owners, way};
 use crate::trouble::Trouble;
 use crate::words::Words;
 
 pub(super) fn fit(context: &Context, specimen: &Path, file: &Path) -> Result<Answer, Trouble> {
     let shown = context.reading.input(specimen, Some(Sort::Specimen), 1)?;
+    let shown = keeping(specimen, shown, &context.list)?;
     let description = context.description(file, 2)?;
-    let fits = library::fits(&shown.bytes, &description.bytes);
+    let under = context.list.under();
+    let fits = library::fits(under, &shown.bytes, &description.bytes);
     if fits.map_err(|refusal| not_refused(file, refusal))? {
         return Ok(yes());
     }
-    let unmet = first_unmet(&shown, &description);
+    let unmet = first_unmet(under, &shown, &description);
     let unmet = unmet.map_err(|refusal| not_refused(file, refusal))?;
     Ok(no(&shown, &description, unmet))
 }
@@ -65,10 +67,14 @@ fn no(specimen: &Input, description: &Input, unmet: Option<usize>) -> Answer {
 
 /// The first entry that is not met. An item fits a description if it fits, for each entry, the description of that entry and its
 /// owners alone; so the library is asked of each of these.
-fn first_unmet(specimen: &Input, description: &Input) -> Result<Option<usize>, Refusal> {
+fn first_unmet(
+    under: Under<'_>,
+    specimen: &Input,
+    description: &Input,
+) -> Result<Option<usize>, Refusal> {
     for entry in 1..=description.entries.len() {
         let alone = encode(&alone(&description.entries, entry));
-        if !library::fits(&specimen.bytes, &alone)? {
+        if !library::fits(under, &specimen.bytes, &alone)? {
             return Ok(Some(entry));
         }
     }

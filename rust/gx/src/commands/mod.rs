@@ -3,6 +3,7 @@
 mod check;
 mod compare;
 mod fit;
+mod list;
 mod normal;
 mod owl;
 mod show;
@@ -11,9 +12,10 @@ use std::path::Path;
 
 use crate::args::{Command, Options, To};
 use crate::entry::{Entry, Sort};
-use crate::input::{Input, Reading};
+use crate::input::{bytes_of, Input, Reading};
 use crate::json::Json;
 use crate::names::Names;
+use crate::pairs::List;
 use crate::text::{self, Numbers};
 use crate::trouble::Trouble;
 
@@ -74,6 +76,16 @@ pub struct Context {
     pub options: Options,
     /// How inputs are read.
     pub reading: Reading,
+    /// The properties that exclude each other; with no pairs where no list is given.
+    pub list: List,
+}
+
+/// A file that is read alone.
+enum Alone {
+    /// A description or a specimen.
+    Entries(Input),
+    /// A list of properties that exclude each other.
+    Pairs(List),
 }
 
 impl Context {
@@ -97,6 +109,16 @@ impl Context {
                 why: "wrong number of inputs".into(),
             }),
         }
+    }
+
+    /// A file of any sort: a list of pairs where the options or its heading say so.
+    fn alone(&self, file: &Path) -> Result<Alone, Trouble> {
+        let (reading, sort) = (&self.reading, self.options.sort);
+        let bytes = bytes_of(file)?;
+        if self.options.list || sort.is_none() && reading.is_headed_pairs(&bytes) {
+            return reading.list_of(file, bytes).map(Alone::Pairs);
+        }
+        reading.input_of(file, bytes, sort, 1).map(Alone::Entries)
     }
 
     /// A description, the call's input of this number.

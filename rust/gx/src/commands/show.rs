@@ -1,8 +1,8 @@
-//! A description or specimen as text, and as blocks.
+//! A description or specimen as text, and as blocks; and a list of pairs likewise.
 
 use std::path::Path;
 
-use super::{entries_json, Answer, Context, Status};
+use super::{entries_json, list, Alone, Answer, Context, Status};
 use crate::input::Input;
 use crate::json::Json;
 use crate::text;
@@ -10,7 +10,10 @@ use crate::trouble::Trouble;
 use crate::words;
 
 pub(super) fn show(context: &Context, file: &Path) -> Result<Answer, Trouble> {
-    let input = context.reading.input(file, context.options.sort, 1)?;
+    let input = match context.alone(file)? {
+        Alone::Entries(input) => input,
+        Alone::Pairs(pairs) => return Ok(list::show(context, &pairs)),
+    };
     let (full, ending) = context.written(input.sort, &input.entries, &input.names);
     Ok(Answer {
         status: Status::Yes,
@@ -23,7 +26,10 @@ pub(super) fn show(context: &Context, file: &Path) -> Result<Answer, Trouble> {
 }
 
 pub(super) fn write(context: &Context, file: &Path) -> Result<Answer, Trouble> {
-    let input = context.reading.input(file, context.options.sort, 1)?;
+    let input = match context.alone(file)? {
+        Alone::Entries(input) => input,
+        Alone::Pairs(pairs) => return Ok(list::write(&pairs)),
+    };
     let blocks = input.bytes.len() / crate::blocks::BLOCK;
     Ok(Answer {
         status: Status::Yes,

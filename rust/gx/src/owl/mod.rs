@@ -11,7 +11,8 @@
 //! | several entries of one place | `ObjectIntersectionOf(..)` |
 //! | a place without entries | `owl:Thing` |
 //!
-//! Links from 32,768 up lead to one item only: the axiom `FunctionalObjectProperty(:link_32768)` says so to a reasoner.
+//! Links from 32,768 up lead to one item only: the axiom `FunctionalObjectProperty(:link_32768)` says so to a reasoner. So does
+//! `DisjointClasses(:property_7 :property_8)` of two properties that exclude each other.
 //!
 //! OWL speaks of all records and the paper of finite ones; for this fragment the answers are the same, since the specimen of a no
 //! is finite.
@@ -20,7 +21,7 @@ mod lexer;
 mod read;
 mod write;
 
-pub use read::{read, Found};
+pub use read::{read, read_pairs, Found};
 pub use write::question;
 
 /// Where the names of properties and links begin.

@@ -6,15 +6,18 @@ use super::lexer::{tokens, Sign, Token};
 use super::{OWL, RDFS, SPACE};
 use crate::entry::{Entry, Link, Property};
 use crate::names::Names;
+use crate::pairs::Pair;
 use crate::text::{Mistake, Position};
 
-/// A description that was found.
+/// What was found.
 #[derive(Clone, Debug)]
 pub struct Found {
-    /// Its entries, as they are written.
+    /// The entries of the description, as they are written.
     pub entries: Vec<Entry>,
     /// Where each begins.
     pub positions: Vec<Position>,
+    /// The properties that exclude each other, as they are written.
+    pub pairs: Vec<Pair>,
     /// The words that labels give.
     pub words: Names,
 }
@@ -23,43 +26,44 @@ pub struct Found {
 const DEEPEST: usize = 200;
 const A_CLASS: &str = "a class, ObjectComplementOf a class, ObjectIntersectionOf, ObjectAllValuesFrom, ObjectMinCardinality, \
 ObjectMaxCardinality, ObjectExactCardinality, or ObjectSomeValuesFrom owl:Thing";
-const AN_AXIOM: &str = "a Declaration, an annotation, FunctionalObjectProperty, or EquivalentClasses of a class and an expression";
+const AN_AXIOM: &str = "a Declaration, an annotation, FunctionalObjectProperty, DisjointClasses of classes, or EquivalentClasses of a \
+class and an expression";
+const A_PLAIN_CLASS: &str = "a class by its name and without a definition: only such classes are taken as excluding each other";
 const A_FUNCTION: &str = "link_32768 to link_65535, which lead to one item only: of other links there may be several items";
 
-/// Reads a class expression, or the one that defines a class in an ontology.
+/// Reads a class expression, or the one that defines a class in an ontology, and the properties that exclude each other there.
 ///
 /// # Errors
 ///
 /// The first mistake, or the first construct that descriptions do not have.
 pub fn read(text: &str, class: Option<&str>, names: &Names) -> Result<Found, Mistake> {
-    let mut reader = Reader {
-        tokens: tokens(text)?,
-        at: 0,
-        names,
-        prefixes: BTreeMap::new(),
-        labels: BTreeMap::new(),
-        functional: Vec::new(),
-        defined: Vec::new(),
-        entries: Vec::new(),
-        positions: Vec::new(),
-    };
-    reader.prefixes.insert("owl:".into(), OWL.into());
-    reader.prefixes.insert("rdfs:".into(), RDFS.into());
-    reader.prefixes.insert(":".into(), SPACE.into());
-    if reader.next_is("Prefix") || reader.next_is("Ontology") {
+    let mut reader = Reader::new(text, names)?;
+    if reader.is_ontology() {
         reader.document()?;
         reader.only_functions()?;
+        reader.excluding()?;
         reader.at = reader.chosen(class)?;
         reader.expression(0, 0)?;
     } else {
         reader.expression(0, 0)?;
         reader.expect(&Sign::End, "the end of the text after the class expression")?;
     }
-    Ok(Found {
-        words: reader.words(),
-        entries: reader.entries,
-        positions: reader.positions,
-    })
+    Ok(reader.found())
+}
+
+/// Reads the properties that exclude each other in an ontology, whatever classes it defines.
+///
+/// # Errors
+///
+/// The first mistake, or the first axiom that is not taken.
+pub fn read_pairs(text: &str, names: &Names) -> Result<Found, Mistake> {
+    let mut reader = Reader::new(text, names)?;
+    if !reader.is_ontology() {
+        return reader.fault("an ontology: only that says which classes exclude each other");
+    }
+    reader.document()?;
+    reader.excluding()?;
+    Ok(reader.found())
 }
 
 struct Reader<'a> {
@@ -70,13 +74,47 @@ struct Reader<'a> {
     labels: BTreeMap<String, String>,
     /// Where the object properties stand of which it is said that they lead to one item only.
     functional: Vec<usize>,
+    /// Where the classes begin of which it is said that they exclude each other.
+    disjoint: Vec<usize>,
     /// The classes that are defined, and where their expressions begin.
     defined: Vec<(String, usize)>,
     entries: Vec<Entry>,
     positions: Vec<Position>,
+    pairs: Vec<Pair>,
 }
 
-impl Reader<'_> {
+impl<'a> Reader<'a> {
+    fn new(text: &str, names: &'a Names) -> Result<Reader<'a>, Mistake> {
+        let spaces = [("owl:", OWL), ("rdfs:", RDFS), (":", SPACE)];
+        let prefixes = spaces.map(|(prefix, iri)| (prefix.into(), iri.into()));
+        Ok(Reader {
+            tokens: tokens(text)?,
+            at: 0,
+            names,
+            prefixes: prefixes.into(),
+            labels: BTreeMap::new(),
+            functional: Vec::new(),
+            disjoint: Vec::new(),
+            defined: Vec::new(),
+            entries: Vec::new(),
+            positions: Vec::new(),
+            pairs: Vec::new(),
+        })
+    }
+
+    fn is_ontology(&self) -> bool {
+        self.next_is("Prefix") || self.next_is("Ontology")
+    }
+
+    fn found(self) -> Found {
+        Found {
+            words: self.words(),
+            entries: self.entries,
+            positions: self.positions,
+            pairs: self.pairs,
+        }
+    }
+
     /// The next sign; after the last there is only the end.
     fn next(&self) -> &Token {
         let last = self.tokens.len() - 1;
@@ -161,8 +199,40 @@ impl Reader<'_> {
                 self.functional.push(self.at + 1);
                 self.pass_over()
             }
+            "DisjointClasses" => {
+                self.take();
+                self.disjoint.push(self.at + 1);
+                self.pass_over()
+            }
             _ => self.fault(AN_AXIOM),
         }
+    }
+
+    /// Each two of the classes that are said to exclude each other. A class that is no property of ours is in no description, so
+    /// that it does not matter.
+    fn excluding(&mut self) -> Result<(), Mistake> {
+        for at in std::mem::take(&mut self.disjoint) {
+            self.at = at;
+            let mut earlier: Vec<Property> = Vec::new();
+            while self.next().sign != Sign::Close {
+                let iri = self.iri(&self.next().sign);
+                let iri = iri.filter(|iri| !self.is_defined(iri));
+                let Some(iri) = iri else {
+                    return self.fault(A_PLAIN_CLASS);
+                };
+                if let Some(property) = self.property_of(&iri) {
+                    self.pairs
+                        .extend(earlier.iter().map(|&one| Pair(one, property)));
+                    earlier.push(property);
+                }
+                self.take();
+            }
+        }
+        Ok(())
+    }
+
+    fn is_defined(&self, iri: &str) -> bool {
+        self.defined.iter().any(|(defined, _)| defined == iri)
     }
 
     /// That a link leads to one item only is taken where it is so of that link; else the description would mean something else.
@@ -325,7 +395,7 @@ impl Reader<'_> {
                 self.push(6, owner, 0, 0, at)?;
             }
             _ => {
-                if self.defined.iter().any(|(defined, _)| *defined == iri) {
+                if self.is_defined(&iri) {
                     let expected = "a class without a definition: named definitions are not taken";
                     return self.fault(expected);
                 }
@@ -422,10 +492,14 @@ impl Reader<'_> {
         number.or_else(|| self.called(iri, |names, word| names.link_called(word)))
     }
 
-    fn property(&self, iri: &str) -> Result<Property, Mistake> {
+    /// The property of an IRI, by its number or by its word.
+    fn property_of(&self, iri: &str) -> Option<Property> {
         let number = numbered(iri, "property_").map(Property);
-        let found = number.or_else(|| self.called(iri, |names, word| names.property_called(word)));
-        found.map_or_else(
+        number.or_else(|| self.called(iri, |names, word| names.property_called(word)))
+    }
+
+    fn property(&self, iri: &str) -> Result<Property, Mistake> {
+        self.property_of(iri).map_or_else(
             || self.fault(format!("property_1 to property_65535 of <{SPACE}>, or a property's word in the names file")),
             Ok,
         )

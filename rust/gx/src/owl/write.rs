@@ -5,14 +5,15 @@ use std::collections::BTreeSet;
 use super::{OWL, RDFS, SPACE};
 use crate::entry::{Entry, Link, Property, Says};
 use crate::names::Names;
+use crate::pairs::Pair;
 use crate::text::quoted;
 use crate::tree::Tree;
 
 const COMMENT: &str = "The supplier's description is contained in the service's exactly if Supplier is a subclass of Service; \
 that is, if SupplierOnly, which has what fits the first and not the second, is unsatisfiable.";
 
-/// The ontology that asks whether the first description is contained in the second.
-pub fn question(supplier: &[Entry], service: &[Entry], names: &Names) -> String {
+/// The ontology that asks whether the first description is contained in the second where these pairs exclude each other.
+pub fn question(pairs: &[Pair], supplier: &[Entry], service: &[Entry], names: &Names) -> String {
     let mut out = format!("Prefix(:=<{SPACE}>)\nPrefix(owl:=<{OWL}>)\nPrefix(rdfs:=<{RDFS}>)\n");
     let space = SPACE.trim_end_matches('#');
     out.push_str(&format!("Ontology(<{space}>\n"));
@@ -20,7 +21,7 @@ pub fn question(supplier: &[Entry], service: &[Entry], names: &Names) -> String 
     for class in ["Supplier", "Service", "SupplierOnly"] {
         out.push_str(&format!("Declaration(Class(:{class}))\n"));
     }
-    out.push_str(&declared(supplier, service, names));
+    out.push_str(&declared(pairs, supplier, service, names));
     out.push_str(&format!(
         "EquivalentClasses(:Supplier\n{})\n",
         class(supplier)
@@ -33,10 +34,11 @@ pub fn question(supplier: &[Entry], service: &[Entry], names: &Names) -> String 
     out
 }
 
-/// The properties and links of both, their words, and which links lead to one item only.
-fn declared(supplier: &[Entry], service: &[Entry], names: &Names) -> String {
+/// The properties and links of all, their words, which links lead to one item only, and which properties exclude each other.
+fn declared(pairs: &[Pair], supplier: &[Entry], service: &[Entry], names: &Names) -> String {
     let all = || supplier.iter().chain(service).map(|e| e.says());
-    let properties: BTreeSet<Property> = all().filter_map(Says::property).collect();
+    let mut properties: BTreeSet<Property> = all().filter_map(Says::property).collect();
+    properties.extend(pairs.iter().flat_map(|pair| [pair.0, pair.1]));
     let links: BTreeSet<Link> = all().filter_map(Says::link).collect();
     let mut out = String::new();
     for &property in &properties {
@@ -51,6 +53,12 @@ fn declared(supplier: &[Entry], service: &[Entry], names: &Names) -> String {
             out.push_str(&format!("FunctionalObjectProperty({name})\n"));
         }
         out.push_str(&labelled(&name, names.link(link)));
+    }
+    for Pair(one, other) in pairs {
+        let (one, other) = (one.0, other.0);
+        out.push_str(&format!(
+            "DisjointClasses(:property_{one} :property_{other})\n"
+        ));
     }
     out
 }

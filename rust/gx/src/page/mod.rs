@@ -8,14 +8,17 @@ mod style;
 
 use crate::explain::{Explained, Failure};
 use crate::input::Input;
+use crate::pairs::List;
 use crate::svg::{self, escaped};
+use crate::text;
 use crate::trouble::Trouble;
 use crate::words::{self, Words};
 use description::{listing, Marks};
 
-/// The page of a comparison.
+/// The page of a comparison under a list.
 pub fn page(
     explained: &Explained,
+    list: &List,
     supplier: &Input,
     service: &Input,
     words: Words<'_>,
@@ -30,7 +33,27 @@ pub fn page(
         Explained::NotContained(_) => "Not contained",
     };
     let title = format!("{title}: {} in {}", supplier.title, service.title);
-    framed(&title, &format!("{body}{FOOTER}"))
+    let (listed, footer) = match list.pairs.is_empty() {
+        true => (String::new(), FOOTER.into()),
+        false => (
+            pairs(list, words),
+            FOOTER.replace("finite record,", "finite record that keeps these pairs,"),
+        ),
+    };
+    framed(&title, &format!("{body}{listed}{footer}"))
+}
+
+/// The properties that exclude each other.
+fn pairs(list: &List, words: Words<'_>) -> String {
+    let pairs = list.pairs.iter().map(|&pair| {
+        let pair = text::pair(pair, words.names());
+        format!("<li>{}</li>\n", escaped(&pair))
+    });
+    format!(
+        "<section class=\"card\" id=\"pairs\">\n<h2>Properties that exclude each other</h2>\n\
+         <p>No item has both properties of a pair.</p>\n<ul>\n{}</ul>\n</section>\n",
+        pairs.collect::<String>()
+    )
 }
 
 /// The page of inputs that have no answer.

@@ -1,5 +1,7 @@
 //! A text as entries.
 
+mod pairs;
+
 use std::collections::BTreeMap;
 
 use super::lexer::{Lexer, Sign, Token};
@@ -7,6 +9,9 @@ use super::mistake::{Mistake, Position};
 use super::write::quoted;
 use crate::entry::{Entry, Link, Property, Sort};
 use crate::names::{Clash, Names};
+
+pub use pairs::{is_headed_pairs, parse_pairs, ParsedPairs};
+pub(super) use pairs::{EXCLUDES, HEADING};
 
 /// What a text says.
 #[derive(Clone, Debug, Default)]
@@ -60,6 +65,8 @@ struct Parser<'a> {
     names: &'a Names,
     learnt: Names,
     rows: Vec<Row>,
+    /// The word that ends a name, where one does.
+    stop: Option<&'static str>,
     /// The owners of the places that are open, with where they were opened.
     open: Vec<(usize, Position)>,
 }
@@ -74,6 +81,7 @@ impl<'a> Parser<'a> {
             names,
             learnt: Names::default(),
             rows: Vec::new(),
+            stop: None,
             open: Vec::new(),
         })
     }
@@ -89,6 +97,11 @@ impl<'a> Parser<'a> {
 
     fn next_is_word(&self, word: &str) -> bool {
         matches!(&self.next.sign, Sign::Word(next) if next == word)
+    }
+
+    /// Whether the word comes next that ends a name.
+    fn next_stops(&self) -> bool {
+        self.stop.is_some_and(|stop| self.next_is_word(stop))
     }
 
     fn word(&mut self, word: &str) -> Result<(), Mistake> {
@@ -262,8 +275,8 @@ impl<'a> Parser<'a> {
     /// An entry that begins with this word.
     fn in_words(&mut self, word: &str) -> Result<Entry, Mistake> {
         let (kind, name, number) = match word {
-            "has" => (1, self.property()?, 0),
-            "lacks" => (2, self.property()?, 0),
+            "has" => (1, self.owned_property()?, 0),
+            "lacks" => (2, self.owned_property()?, 0),
             "at" => return self.bound(),
             "every" => {
                 self.take()?;
@@ -346,8 +359,13 @@ impl<'a> Parser<'a> {
     }
 
     /// The property after `has` or `lacks`.
-    fn property(&mut self) -> Result<u16, Mistake> {
+    fn owned_property(&mut self) -> Result<u16, Mistake> {
         self.take()?;
+        self.named_property()
+    }
+
+    /// A property by its number or its word.
+    fn named_property(&mut self) -> Result<u16, Mistake> {
         let number = self.numbered_name("property", "a property from 0 to 65,535, or its word")?;
         match number {
             Some(number) => {
@@ -395,6 +413,7 @@ impl<'a> Parser<'a> {
                 }
                 Ok(Some((word, token.at)))
             }
+            _ if self.next_stops() => Ok(None),
             Sign::Word(_) | Sign::Number(_) => {
                 self.expected(format!("{THE_END}, or its word in quotes"))
             }
@@ -402,7 +421,7 @@ impl<'a> Parser<'a> {
         }
     }
 
-    /// A word in quotes, or words without them up to the next other sign.
+    /// A word in quotes, or words without them up to the next other sign or the word that ends a name.
     fn name_in_words(&mut self, expected: &str) -> Result<(String, Position), Mistake> {
         let at = self.next.at;
         if let Sign::Quoted(word) = &self.next.sign {
@@ -411,12 +430,15 @@ impl<'a> Parser<'a> {
             return Ok((word, at));
         }
         let mut words = Vec::new();
-        if !matches!(self.next.sign, Sign::Word(_)) {
+        if !matches!(self.next.sign, Sign::Word(_)) || self.next_stops() {
             return self.expected(expected);
         }
         while let Sign::Word(word) | Sign::Number(word) = &self.next.sign {
             words.push(word.clone());
             self.take()?;
+            if self.next_stops() {
+                break;
+            }
         }
         Ok((words.join(" "), at))
     }

@@ -1,7 +1,9 @@
-//! Entries as text.
+//! Entries as text, and pairs.
 
+use super::parse::{EXCLUDES, HEADING};
 use crate::entry::{Entry, Link, Property, Says, Sort};
 use crate::names::Names;
+use crate::pairs::Pair;
 use crate::tree::Tree;
 
 /// Which entries are written with their number.
@@ -39,6 +41,29 @@ pub fn desk(sort: Sort, entries: &[Entry]) -> String {
     }
     writer.desk_place(0);
     writer.out
+}
+
+/// A list of pairs as text, a pair on each line after the heading.
+pub fn pairs(pairs: &[Pair], names: &Names) -> String {
+    let lines = pairs.iter().map(|&one| pair(one, names) + "\n");
+    format!("{HEADING}\n{}", lines.collect::<String>())
+}
+
+/// A list of pairs in desk notation, on one line.
+pub fn desk_pairs(pairs: &[Pair]) -> String {
+    let written: Vec<String> = pairs
+        .iter()
+        .map(|Pair(one, other)| format!("{},{}", one.0, other.0))
+        .collect();
+    format!("{HEADING}: {}", written.join("; "))
+        .trim_end()
+        .into()
+}
+
+/// One pair as a line of text.
+pub fn pair(Pair(one, other): Pair, names: &Names) -> String {
+    let [one, other] = [one, other].map(|property| property_name(property, names));
+    format!("{one} {EXCLUDES} {other}")
 }
 
 struct Writer<'a> {

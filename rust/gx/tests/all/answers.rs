@@ -1,15 +1,16 @@
 //! Every answer that is printed is the library's.
 
 use differential::chance::Chance;
+use differential::derived::{missed, weaker};
 use differential::draw;
-use differential::pairs::{missed, weaker};
-use goltximen::{Comparison, Fit};
+use goltximen::{Comparison, Fit, Under};
 use gx::blocks::{encode, BLOCK};
 use gx::entry::Sort;
 use gx::explain::{compared, Explained, Failure};
 use gx::input::Input;
 use gx::library;
 use gx::names::Names;
+use gx::pairs::List;
 use gx::words::Words;
 use gx::{page, svg};
 
@@ -182,8 +183,8 @@ fn input(entries: &[reference::Entry]) -> Input {
 fn is_explained(c: &Input, d: &Input) {
     let names = Names::default();
     let words = Words::new(&names);
-    let explained = compared(c, d).unwrap();
-    let page = page::page(&explained, c, d, words, false);
+    let explained = compared(&List::default(), c, d).unwrap();
+    let page = page::page(&explained, &List::default(), c, d, words, false);
     let Explained::NotContained(failure) = &explained else {
         assert!(page.contains("</span> Contained</h1>") && !page.contains("<mark>"));
         return;
@@ -213,7 +214,10 @@ fn the_mark_is_true(failure: &Failure, d: &Input) {
         })
         .collect();
     let specimen = encode(&failure.specimen.entries);
-    assert_eq!(library::fits(&specimen, &encode(&alone)), Ok(false));
+    assert_eq!(
+        library::fits(Under::default(), &specimen, &encode(&alone)),
+        Ok(false)
+    );
 }
 
 #[test]

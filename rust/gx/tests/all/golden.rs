@@ -27,9 +27,15 @@ fn is_golden(name: &str, bytes: &[u8]) {
 
 /// The page and the drawing of two texts.
 fn both(name: &str, c: &str, d: &str) {
+    both_under(name, "pairs", c, d);
+}
+
+/// The same under a list, which has no pairs where it is only its heading.
+fn both_under(name: &str, pairs: &str, c: &str, d: &str) {
     let folder = Folder::new(&format!("golden-{name}"));
     folder
         .put("names", NAMES)
+        .put("laboratory.pairs", pairs)
         .put("supplier.txt", c)
         .put("service.txt", d);
     let args = [
@@ -38,6 +44,8 @@ fn both(name: &str, c: &str, d: &str) {
         "service.txt",
         "--names",
         "names",
+        "--pairs",
+        "laboratory.pairs",
         "--html",
         "page",
         "--svg",
@@ -108,6 +116,19 @@ fn more_than_a_link_leads_to() {
         "at least 2 sample; every sample [at least 1 field; at most 3 field]",
         "every sample [at most 1 field; at least 2 field]",
     );
+}
+
+#[test]
+fn properties_that_exclude_each_other() {
+    let pairs = "sealed excludes property 8; property 9 \"loam\" excludes sealed";
+    let c = "at least 2 sample; every sample [has sealed]";
+    both_under(
+        "excluding",
+        pairs,
+        c,
+        "every sample [lacks property 9; has property 8]",
+    );
+    both_under("excluding-yes", pairs, c, "every sample [lacks property 8]");
 }
 
 #[test]

@@ -7,6 +7,7 @@ mod folders;
 mod golden;
 mod mistakes;
 mod owl;
+mod pairs;
 mod reasoners;
 mod support;
 mod texts;

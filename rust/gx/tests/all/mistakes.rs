@@ -9,7 +9,7 @@ use gx::text::{desk, parse, text, Mistake, Numbers};
 
 use crate::support::ours;
 
-fn is_at(mistake: &Mistake, line: usize, column: usize, expected: &str, found: &str) {
+pub fn is_at(mistake: &Mistake, line: usize, column: usize, expected: &str, found: &str) {
     let told = format!("{mistake}");
     assert_eq!(
         (mistake.at.line, mistake.at.column),
@@ -221,7 +221,7 @@ fn spoilt_texts_are_mistakes_or_texts() {
         let written = match chance.below(3) {
             0 => text(Sort::Description, &entries, &names, Numbers::All),
             1 => desk(Sort::Description, &entries),
-            _ => question(&entries, &entries, &names),
+            _ => question(&[], &entries, &entries, &names),
         };
         let bytes = spoilt(&mut chance, written.as_bytes());
         let spoilt = String::from_utf8_lossy(&bytes);

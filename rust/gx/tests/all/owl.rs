@@ -27,7 +27,7 @@ fn a_question_is_read_back() {
             ours(&description(&mut chance)),
             ours(&description(&mut chance)),
         );
-        let text = question(&c, &d, &names);
+        let text = question(&[], &c, &d, &names);
         let found = read(&text, Some("Supplier"), &Names::default()).unwrap();
         assert_eq!(found.entries, as_written(&c), "{text}");
         let found = read(&text, Some("Service"), &Names::default()).unwrap();
@@ -217,7 +217,7 @@ fn links_that_lead_to_one_item_only_are_functional() {
         description("5,32768 [3,32768,2; 2,50000]"),
     );
     let names = Names::read("link 32768 \"field\" \"fields\"").unwrap();
-    let text = question(&c, &d, &names);
+    let text = question(&[], &c, &d, &names);
     let functional: Vec<&str> = text
         .lines()
         .filter(|line| line.starts_with("Functional"))

@@ -5,12 +5,15 @@ use std::process::{Command, Stdio};
 use std::time::{Duration, Instant};
 
 use differential::chance::Chance;
+use differential::derived::{missed, weaker};
 use differential::draw::{self, Names as Drawn, Shape};
-use differential::pairs::{missed, weaker};
+use differential::excluding::{drawn, with_implied_lacks};
 use gx::blocks::encode;
-use gx::library::{compare, Compared};
+use gx::entry::Entry;
+use gx::library::{compare, Compared, Under};
 use gx::names::Names;
 use gx::owl::question;
+use gx::pairs;
 
 use crate::support::{ours, Folder};
 
@@ -23,8 +26,9 @@ const TRIES: usize = 2;
 /// How long it may take for all. One that does not end has said nothing, and what it has not said is no difference.
 const LIMIT: Duration = Duration::from_secs(60);
 
-/// A small pair with small numbers: a reasoner may make as many items as a number says.
-fn pair(seed: u64) -> (Vec<gx::entry::Entry>, Vec<gx::entry::Entry>) {
+/// A small pair with small numbers: a reasoner may make as many items as a number says. And a list of properties that exclude each
+/// other, half of the time an empty one.
+fn pair(seed: u64) -> (Vec<Entry>, Vec<Entry>, Vec<u8>) {
     let mut chance = Chance::from_seed(seed);
     let shape = Shape {
         entries: 4 + chance.below(8),
@@ -48,7 +52,12 @@ fn pair(seed: u64) -> (Vec<gx::entry::Entry>, Vec<gx::entry::Entry>) {
             },
         ),
     };
-    (ours(&c), ours(&d))
+    let list = match chance.once_in(2) {
+        true => drawn(&mut chance, &[&c[..], &d].concat()),
+        false => Vec::new(),
+    };
+    let d = with_implied_lacks(&mut chance, &list, &d);
+    (ours(&c), ours(&d), list)
 }
 
 /// What a program prints, if it ends in time. Konclude now and then does not end, so it is asked again.
@@ -98,9 +107,13 @@ fn agree(program: &str, ask: impl Fn(&Folder, &str) -> Option<bool>) {
     let begin = Instant::now();
     let (mut answered, mut contained) = (0, 0);
     for seed in 0..PAIRS {
-        let (c, d) = pair(seed);
-        let text = question(&c, &d, &Names::default());
-        let ours = compare(&encode(&c), &encode(&d)).unwrap() == Compared::Contained;
+        let (c, d, list) = pair(seed);
+        let text = question(&pairs::decode(&list), &c, &d, &Names::default());
+        let under = Under {
+            pairs: &list,
+            dictionary: &[],
+        };
+        let ours = compare(under, &encode(&c), &encode(&d)).unwrap() == Compared::Contained;
         contained += u64::from(ours);
         if begin.elapsed() > LIMIT {
             continue;
@@ -187,6 +200,9 @@ fn in_lisp(owl: &str) -> String {
                 declared.push_str(&format!("{word}{})\n", number.trim_end_matches(')')));
             }
         }
+        if let Some(classes) = line.strip_prefix("DisjointClasses(") {
+            declared.push_str(&format!("(disjoint {}\n", classes.replace(':', "")));
+        }
     }
     declared + &lisp
 }
@@ -195,11 +211,13 @@ fn in_lisp(owl: &str) -> String {
 fn the_notation_of_fact() {
     let entries = |desk| ours(&reference::notation::entries(desk));
     let text = question(
+        &pairs::decode(&[7, 0, 8, 0]),
         &entries("1,7; 5,32768 [4,2,0]"),
         &entries("3,32768,2"),
         &Names::default(),
     );
     let lisp = in_lisp(&text);
-    let declared = "(defprimconcept property_7)\n(defprimrole link_2)\n(defprimrole link_32768)\n(functional link_32768)\n(equal_c Supplier\n";
+    let declared = "(defprimconcept property_7)\n(defprimconcept property_8)\n(defprimrole link_2)\n(defprimrole link_32768)\n\
+                    (functional link_32768)\n(disjoint property_7 property_8)\n(equal_c Supplier\n";
     assert!(lisp.starts_with(declared), "{lisp}");
 }

@@ -5,8 +5,8 @@ use std::path::{Path, PathBuf};
 use std::process::{Command, Stdio};
 
 use differential::chance::Chance;
+use differential::derived::reordered;
 use differential::draw;
-use differential::pairs::reordered;
 use gx::entry::Entry;
 
 /// What a run of the program gave.

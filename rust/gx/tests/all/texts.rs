@@ -82,10 +82,10 @@ fn inputs_at_the_limit_survive() {
     for _ in 0..6 {
         let shape = draw::full_shape(&mut chance);
         let entries = draw::description(&mut chance, &shape);
-        let entries = differential::pairs::reordered(&mut chance, &entries);
+        let entries = differential::derived::reordered(&mut chance, &entries);
         blocks_survive(Sort::Description, &ours(&entries), &names());
         let entries = draw::full_specimen(&mut chance);
-        let entries = differential::pairs::reordered(&mut chance, &entries);
+        let entries = differential::derived::reordered(&mut chance, &entries);
         blocks_survive(Sort::Specimen, &ours(&entries), &names());
     }
 }

@@ -168,17 +168,32 @@ pub fn record(chance: &mut Chance, size: Size, items: usize) -> Record {
     record
 }
 
-/// All records of this many items with properties 1 up to this and this link
+/// The record without some of its properties, so that it keeps the list of
+/// excluding pairs: of a pair that an item has, the second goes.
+pub fn keeping(mut record: Record, pairs: &[u8]) -> Record {
+    for pair in pairs.chunks_exact(4) {
+        let property = |at: usize| Property(u16::from_le_bytes([pair[at], pair[at + 1]]));
+        for item in 0..record.items {
+            if record.has(item, property(0)) {
+                let items = record.properties.entry(property(2)).or_default();
+                items.remove(&item);
+            }
+        }
+    }
+    record
+}
+
+/// All records of this many items with properties 1 up to this and these links
 /// that keep the rule on links that never lead to two items.
-pub fn all_records(items: usize, properties: usize, link: Link) -> Vec<Record> {
-    let bits = items * items + items * properties;
+pub fn all_records(items: usize, properties: usize, links: &[Link]) -> Vec<Record> {
+    let bits = items * items * links.len() + items * properties;
     (0u32..1 << bits)
-        .map(|pattern| numbered_record(items, properties, link, pattern))
+        .map(|pattern| numbered_record(items, properties, links, pattern))
         .filter(Record::keeps_the_rule)
         .collect()
 }
 
-fn numbered_record(items: usize, properties: usize, link: Link, pattern: u32) -> Record {
+fn numbered_record(items: usize, properties: usize, links: &[Link], pattern: u32) -> Record {
     let mut record = Record::of_items(items);
     let mut bit = 0;
     let mut set = || {
@@ -186,9 +201,11 @@ fn numbered_record(items: usize, properties: usize, link: Link, pattern: u32) ->
         pattern >> (bit - 1) & 1 == 1
     };
     for item in 0..items {
-        for to in 0..items {
-            if set() {
-                record.add_link(link, item, to);
+        for &link in links {
+            for to in 0..items {
+                if set() {
+                    record.add_link(link, item, to);
+                }
             }
         }
         for property in 1..=properties as u16 {

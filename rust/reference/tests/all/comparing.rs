@@ -1,10 +1,10 @@
 //! The comparison against brute force and against the fit answer.
 
 use reference::record::{fits, specimen_record, Record};
-use reference::{encode, fit, Entry, Link};
+use reference::{encode, fit_with, Entry, Link};
 
-use crate::chance::{all_records, description, exact_description, record, Chance, Size};
-use crate::notation::{compared, entry, normal, Answer};
+use crate::chance::{all_records, description, exact_description, keeping, record, Chance, Size};
+use crate::notation::{compared, compared_under, entry, normal_under, Answer};
 
 /// A link that may lead to several items, and one that never leads to two.
 const EITHER: [u16; 2] = [1, 32_768];
@@ -38,7 +38,7 @@ fn every_small_record(link: u16) -> Vec<Record> {
     let mut records = Vec::new();
     for items in 1..=3 {
         for properties in 1..=2 {
-            records.extend(all_records(items, properties, Link(link)));
+            records.extend(all_records(items, properties, &[Link(link)]));
         }
     }
     records
@@ -46,7 +46,7 @@ fn every_small_record(link: u16) -> Vec<Record> {
 
 /// Whether item 0 fits, record by record, 64 to a word. The records are taken
 /// over all ways to number the items, so item 0 stands for each item.
-fn fitting_records(records: &[Record], description: &[Entry]) -> Vec<u64> {
+pub fn fitting_records(records: &[Record], description: &[Entry]) -> Vec<u64> {
     let word = |chunk: &[Record]| {
         chunk.iter().fold(0u64, |word, record| {
             word << 1 | u64::from(fits(record, 0, description, 0))
@@ -60,27 +60,29 @@ fn counterexample(first: &[u64], second: &[u64]) -> bool {
     first.iter().zip(second).any(|(a, b)| a & !b != 0)
 }
 
-/// The specimen is one of C's and none of D's.
-fn check_specimen(c: &[Entry], d: &[Entry], specimen: &[Entry]) {
+/// The specimen is one of C's and none of D's, and the list of excluding pairs
+/// doesn't refuse it: "a specimen is judged under the same list".
+fn check_specimen(pairs: &[u8], c: &[Entry], d: &[Entry], specimen: &[Entry]) {
     let bytes = encode(specimen);
-    assert_eq!(fit(&bytes, &encode(c)), Ok(true), "{c:?} {d:?}");
-    assert_eq!(fit(&bytes, &encode(d)), Ok(false), "{c:?} {d:?}");
+    let fit = |description: &[Entry]| fit_with(pairs, &[], &bytes, &encode(description));
+    assert_eq!(fit(c), Ok(true), "{c:?} {d:?}");
+    assert_eq!(fit(d), Ok(false), "{c:?} {d:?}");
     // "Entries never exceed those of C and D together."
     assert!(specimen.len() <= c.len() + d.len());
     for pair in specimen.windows(2) {
         let key = |e: &Entry| (e.owner, e.kind, e.name);
         assert!(key(&pair[0]) < key(&pair[1]));
     }
-    if pairs(specimen) < 2000 {
+    if linked_pairs(specimen) < 2000 {
         let record = specimen_record(specimen);
-        assert!(record.keeps_the_rule());
+        assert!(record.keeps_the_rule() && record.keeps_the_list(pairs));
         assert!(fits(&record, 0, c, 0));
         assert!(!fits(&record, 0, d, 0));
     }
 }
 
 /// The number of linked pairs in the record of a specimen.
-fn pairs(specimen: &[Entry]) -> u64 {
+fn linked_pairs(specimen: &[Entry]) -> u64 {
     let count = |number: u16| match usize::from(number).checked_sub(1) {
         Some(index) => u64::from(specimen[index].number) + 1,
         None => 1,
@@ -92,32 +94,37 @@ fn pairs(specimen: &[Entry]) -> u64 {
 }
 
 /// Up to the failing entry, D is met.
-fn check_first(c: &[Entry], d: &[Entry], failing: usize) {
-    let before = compared(&encode(c), &encode(&d[..failing - 1]));
+fn check_first(pairs: &[u8], c: &[Entry], d: &[Entry], failing: usize) {
+    let before = compared_under(pairs, &encode(c), &encode(&d[..failing - 1]));
     assert_eq!(before, Answer::Contained);
-    let with = compared(&encode(c), &encode(&d[..failing]));
+    let with = compared_under(pairs, &encode(c), &encode(&d[..failing]));
     assert!(matches!(with, Answer::Not { entry, .. } if entry == failing));
 }
 
-/// Compares each with each and checks against the small records of this link.
-fn against_brute_force(link: u16, descriptions: &[Vec<Entry>]) -> (usize, usize) {
-    let records = every_small_record(link);
+/// Compares each with each under a list of excluding pairs and checks against
+/// these records, which keep the list: a yes has no counterexample, and a no
+/// has its specimen.
+pub fn against_records(
+    pairs: &[u8],
+    records: &[Record],
+    descriptions: &[Vec<Entry>],
+) -> (usize, usize) {
     let fitting: Vec<Vec<u64>> = descriptions
         .iter()
-        .map(|entries| fitting_records(&records, entries))
+        .map(|entries| fitting_records(records, entries))
         .collect();
     let (mut contained, mut not) = (0, 0);
     for (c, c_fitting) in descriptions.iter().zip(&fitting) {
         for (d, d_fitting) in descriptions.iter().zip(&fitting) {
-            match compared(&encode(c), &encode(d)) {
+            match compared_under(pairs, &encode(c), &encode(d)) {
                 Answer::Contained => {
                     contained += 1;
                     assert!(!counterexample(c_fitting, d_fitting), "{c:?} {d:?}");
                 }
                 Answer::Not { entry, specimen } => {
                     not += 1;
-                    check_specimen(c, d, &specimen);
-                    check_first(c, d, entry);
+                    check_specimen(pairs, c, d, &specimen);
+                    check_first(pairs, c, d, entry);
                 }
                 Answer::Refused(refusal) => panic!("{refusal:?}"),
             }
@@ -126,12 +133,12 @@ fn against_brute_force(link: u16, descriptions: &[Vec<Entry>]) -> (usize, usize)
     (contained, not)
 }
 
-/// All descriptions of up to two entries with this link, few properties and
-/// few numbers.
-fn every_tiny_description(link: u16) -> Vec<Vec<Entry>> {
+/// All descriptions of up to two entries with this link, properties up to this
+/// and few numbers.
+pub fn every_tiny_description(link: u16, properties: u16) -> Vec<Vec<Entry>> {
     let mut one = vec![entry(6, 0, 0, 0), entry(5, 0, link, 0)];
-    one.extend([1, 2].map(|property| entry(1, 0, property, 0)));
-    one.extend([1, 2].map(|property| entry(2, 0, property, 0)));
+    one.extend((1..=properties).map(|property| entry(1, 0, property, 0)));
+    one.extend((1..=properties).map(|property| entry(2, 0, property, 0)));
     one.extend([0, 1, 2, 3].map(|n| entry(3, 0, link, n)));
     one.extend([0, 1, 2].map(|n| entry(4, 0, link, n)));
     let mut all = vec![vec![]];
@@ -151,8 +158,8 @@ fn every_tiny_description(link: u16) -> Vec<Vec<Entry>> {
 #[test]
 fn all_tiny_descriptions() {
     for link in EITHER {
-        let descriptions = every_tiny_description(link);
-        let (contained, not) = against_brute_force(link, &descriptions);
+        let descriptions = every_tiny_description(link, 2);
+        let (contained, not) = against_records(&[], &every_small_record(link), &descriptions);
         assert!(contained > 1000 && not > 1000, "{contained} {not}");
     }
 }
@@ -166,56 +173,39 @@ fn drawn_tiny_descriptions() {
             ..TINY
         };
         let descriptions: Vec<_> = (0..100).map(|_| description(&mut chance, size)).collect();
-        let (contained, not) = against_brute_force(link, &descriptions);
+        let (contained, not) = against_records(&[], &every_small_record(link), &descriptions);
         assert!(contained > 500 && not > 500, "{contained} {not}");
     }
 }
 
 #[test]
 fn drawn_descriptions_against_drawn_records() {
-    against_drawn_records(SMALL);
+    against_drawn_records(&[], SMALL);
 }
 
 /// Links 32,767 and 32,768: of one there may be several items, of the other
 /// never two.
 #[test]
 fn drawn_descriptions_with_both_sorts_of_links() {
-    against_drawn_records(Size {
-        links_after: 32_766,
-        ..SMALL
-    });
+    against_drawn_records(
+        &[],
+        Size {
+            links_after: 32_766,
+            ..SMALL
+        },
+    );
 }
 
-fn against_drawn_records(size: Size) {
+pub fn against_drawn_records(pairs: &[u8], size: Size) {
     let mut chance = Chance::from(32);
     let records: Vec<Record> = (0..3000)
         .map(|_| {
             let items = 2 + chance.below(6);
-            record(&mut chance, size, items)
+            keeping(record(&mut chance, size, items), pairs)
         })
         .collect();
     let descriptions: Vec<_> = (0..120).map(|_| description(&mut chance, size)).collect();
-    let fitting: Vec<Vec<u64>> = descriptions
-        .iter()
-        .map(|entries| fitting_records(&records, entries))
-        .collect();
-    let (mut contained, mut not) = (0, 0);
-    for (c, c_fitting) in descriptions.iter().zip(&fitting) {
-        for (d, d_fitting) in descriptions.iter().zip(&fitting) {
-            match compared(&encode(c), &encode(d)) {
-                Answer::Contained => {
-                    contained += 1;
-                    assert!(!counterexample(c_fitting, d_fitting), "{c:?} {d:?}");
-                }
-                Answer::Not { entry, specimen } => {
-                    not += 1;
-                    check_specimen(c, d, &specimen);
-                    check_first(c, d, entry);
-                }
-                Answer::Refused(refusal) => panic!("{refusal:?}"),
-            }
-        }
-    }
+    let (contained, not) = against_records(pairs, &records, &descriptions);
     assert!(contained > 500 && not > 500, "{contained} {not}");
 }
 
@@ -249,14 +239,17 @@ fn weakened(chance: &mut Chance, c: &[Entry]) -> Vec<Entry> {
 #[test]
 fn large_descriptions_by_fit() {
     for links_after in [0, 32_766] {
-        large_by_fit(Size {
-            links_after,
-            ..LARGE
-        });
+        large_by_fit(
+            &[],
+            Size {
+                links_after,
+                ..LARGE
+            },
+        );
     }
 }
 
-fn large_by_fit(size: Size) {
+pub fn large_by_fit(pairs: &[u8], size: Size) {
     let mut chance = Chance::from(33);
     let (mut contained, mut not, mut deep) = (0, 0, 0);
     for _ in 0..700 {
@@ -272,13 +265,13 @@ fn large_by_fit(size: Size) {
             .collect();
         let d = weakened(&mut chance, &c);
         for (c, d) in [(&c, &d), (&d, &c)] {
-            match compared(&encode(c), &encode(d)) {
+            match compared_under(pairs, &encode(c), &encode(d)) {
                 Answer::Contained => contained += 1,
                 Answer::Not { entry, specimen } => {
                     not += 1;
                     deep += usize::from(d[entry - 1].owner != 0);
-                    check_specimen(c, d, &specimen);
-                    check_first(c, d, entry);
+                    check_specimen(pairs, c, d, &specimen);
+                    check_first(pairs, c, d, entry);
                 }
                 Answer::Refused(refusal) => panic!("{refusal:?}"),
             }
@@ -308,7 +301,7 @@ fn the_largest_descriptions_by_fit() {
         let d: Vec<Entry> = exact_description(&mut chance, wide, 1008);
         for (c, d) in [(&c, &d), (&d, &c)] {
             if let Answer::Not { specimen, .. } = compared(&encode(c), &encode(d)) {
-                check_specimen(c, d, &specimen);
+                check_specimen(&[], c, d, &specimen);
             }
         }
     }
@@ -320,7 +313,7 @@ fn the_largest_descriptions_by_fit() {
         panic!("contained");
     };
     assert_eq!((entry, specimen.len()), (33, 1008 + 33));
-    check_specimen(&c, &d, &specimen);
+    check_specimen(&[], &c, &d, &specimen);
     assert_eq!(compared(&encode(&d), &encode(&d)), Answer::Contained);
 }
 
@@ -329,27 +322,33 @@ fn the_largest_descriptions_by_fit() {
 #[test]
 fn both_ways_is_equal_normal_forms() {
     for links_after in [0, 32_767] {
-        both_ways(Size {
-            entries: 4,
-            properties: 1,
-            links_after,
-            links: 1,
-            number: 2,
-        });
+        both_ways(
+            &[],
+            Size {
+                entries: 4,
+                properties: 1,
+                links_after,
+                links: 1,
+                number: 2,
+            },
+        );
     }
 }
 
-fn both_ways(size: Size) {
+pub fn both_ways(pairs: &[u8], size: Size) {
     let mut chance = Chance::from(35);
     let descriptions: Vec<_> = (0..90).map(|_| description(&mut chance, size)).collect();
-    let holds = |c: &[Entry], d: &[Entry]| compared(&encode(c), &encode(d)) == Answer::Contained;
+    let holds = |c: &[Entry], d: &[Entry]| {
+        compared_under(pairs, &encode(c), &encode(d)) == Answer::Contained
+    };
+    let normal = |entries: &[Entry]| normal_under(pairs, &encode(entries)).unwrap();
     let mut equal = 0;
     for c in &descriptions {
-        let c_normal = normal(&encode(c)).unwrap();
+        let c_normal = normal(c);
         assert!(holds(c, &c_normal) && holds(&c_normal, c) && holds(c, c));
         for d in &descriptions {
             let both = holds(c, d) && holds(d, c);
-            assert_eq!(both, normal(&encode(d)).unwrap() == c_normal, "{c:?} {d:?}");
+            assert_eq!(both, normal(d) == c_normal, "{c:?} {d:?}");
             equal += usize::from(both);
         }
     }

@@ -4,6 +4,7 @@ mod chance;
 mod comparing;
 mod desk;
 mod exchange;
+mod excluding;
 mod fitting;
 mod framing;
 mod normal;

@@ -3,8 +3,8 @@
 use reference::record::fits;
 use reference::{encode, Entry, Link};
 
-use crate::chance::{description, exact_description, record, reordered, Chance, Size};
-use crate::notation::{blocks, entries, entry, normal};
+use crate::chance::{description, exact_description, keeping, record, reordered, Chance, Size};
+use crate::notation::{blocks, entries, entry, normal, normal_under};
 
 const SMALL: Size = Size {
     entries: 12,
@@ -34,9 +34,17 @@ fn beside(a: &Entry, b: &Entry) -> bool {
     a.owner == b.owner && a.name == b.name
 }
 
-/// Checks on the entries that none of the rules applies and that the order
-/// is right.
-fn check_normal(found: &[Entry]) {
+/// Whether the two entries name the two properties of a pair.
+fn are_a_pair(pairs: &[u8], a: &Entry, b: &Entry) -> bool {
+    let bytes = |a: &Entry, b: &Entry| [a.name.to_le_bytes(), b.name.to_le_bytes()].concat();
+    pairs
+        .chunks(4)
+        .any(|pair| pair == bytes(a, b) || pair == bytes(b, a))
+}
+
+/// Checks on the entries that none of the rules applies under a list of
+/// excluding pairs and that the order is right.
+pub fn check_normal(pairs: &[u8], found: &[Entry]) {
     // Rule 5's outcome.
     if found == entries("6") {
         return;
@@ -58,6 +66,12 @@ fn check_normal(found: &[Entry]) {
             assert_ne!((a.kind, b.kind), (1, 2), "rule 2");
             assert!((a.kind, b.kind) != (3, 4) || a.number <= b.number, "rule 3");
             assert!((a.kind, a.number, b.kind) != (4, 0, 5), "rule 4");
+        }
+    }
+    for (a, b) in found.iter().flat_map(|a| found.iter().map(move |b| (a, b))) {
+        if a.kind == 1 && a.owner == b.owner && are_a_pair(pairs, a, b) {
+            assert_ne!(b.kind, 1, "a place with both");
+            assert_ne!(b.kind, 2, "an implied lack");
         }
     }
     for pair in found.windows(2) {
@@ -146,7 +160,7 @@ fn no_rule_applies_afterwards_and_twice_is_once() {
             ..size
         };
         let found = normal_entries(&description(&mut chance, size));
-        check_normal(&found);
+        check_normal(&[], &found);
         assert_eq!(normal_entries(&found), found);
         kept += usize::from(found.len() > 3);
     }
@@ -177,20 +191,27 @@ fn the_order_of_the_input_does_not_matter() {
 
 #[test]
 fn the_same_items_fit() {
+    the_same_items_fit_under(&[], SMALL);
+}
+
+/// Drawn descriptions and their normal forms in drawn records that keep the
+/// list of excluding pairs.
+pub fn the_same_items_fit_under(pairs: &[u8], size: Size) {
     let mut chance = Chance::from(13);
     let mut fitted = 0;
     for round in 0..300 {
         let links_after = [0, 32_766][round % 2];
         let size = Size {
             links_after,
-            ..SMALL
+            ..size
         };
         let before = description(&mut chance, size);
-        let after = normal_entries(&before);
+        let after = normal_under(pairs, &encode(&before)).unwrap();
+        check_normal(pairs, &after);
         for _ in 0..40 {
             let items = 1 + chance.below(5);
-            let record = record(&mut chance, size, items);
-            assert!(record.keeps_the_rule());
+            let record = keeping(record(&mut chance, size, items), pairs);
+            assert!(record.keeps_the_rule() && record.keeps_the_list(pairs));
             for item in 0..items {
                 let fit = fits(&record, item, &before, 0);
                 assert_eq!(fits(&record, item, &after, 0), fit);
@@ -220,7 +241,7 @@ fn the_largest_descriptions() {
     };
     for size in [wide, narrow, LARGE, SMALL] {
         let found = normal_entries(&exact_description(&mut chance, size, 1008));
-        check_normal(&found);
+        check_normal(&[], &found);
         assert_eq!(normal_entries(&found), found);
     }
     // An impossible place at depth 32 that goes up to the top.

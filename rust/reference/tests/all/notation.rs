@@ -1,7 +1,7 @@
 //! The calls on what is written in the notation of the desk examples.
 
 pub use reference::notation::{blocks, entries, entry};
-use reference::{compare, encode, normal_form, Comparison, Entry, Refusal};
+use reference::{compare_with, encode, normal_with, Comparison, Entry, Refusal};
 
 /// The value that fills outputs before a call.
 pub const FILL: u8 = 0xA5;
@@ -22,11 +22,22 @@ fn the_notation() {
     );
 }
 
+/// The bytes of a list of excluding pairs.
+pub fn list(pairs: &[(u16, u16)]) -> Vec<u8> {
+    let words = pairs.iter().flat_map(|&(one, other)| [one, other]);
+    words.flat_map(u16::to_le_bytes).collect()
+}
+
+/// The normal form with no pairs.
+pub fn normal(description: &[u8]) -> Result<Vec<Entry>, Refusal> {
+    normal_under(&[], description)
+}
+
 /// Calls the normal form with an output somewhat longer than needed, checks
 /// the number answered and the bytes that stay, and answers the entries.
-pub fn normal(description: &[u8]) -> Result<Vec<Entry>, Refusal> {
+pub fn normal_under(pairs: &[u8], description: &[u8]) -> Result<Vec<Entry>, Refusal> {
     let mut out = vec![FILL; description.len() + 700];
-    let answer = normal_form(description, &mut out);
+    let answer = normal_with(pairs, &[], description, &mut out);
     let written = match answer {
         Ok(count) => written_entries(&out, count),
         Err(_) => Vec::new(),
@@ -49,11 +60,16 @@ pub enum Answer {
     Refused(Refusal),
 }
 
+/// The comparison with no pairs.
+pub fn compared(c: &[u8], d: &[u8]) -> Answer {
+    compared_under(&[], c, d)
+}
+
 /// Calls the comparison with an output somewhat longer than needed, checks
 /// the number answered and the bytes that stay, and answers the specimen.
-pub fn compared(c: &[u8], d: &[u8]) -> Answer {
+pub fn compared_under(pairs: &[u8], c: &[u8], d: &[u8]) -> Answer {
     let mut out = vec![FILL; c.len() + d.len() + 700];
-    let (answer, length) = match compare(c, d, &mut out) {
+    let (answer, length) = match compare_with(pairs, &[], c, d, &mut out) {
         Ok(Comparison::Contained) => (Answer::Contained, 0),
         Ok(Comparison::NotContained { entry, entries }) => {
             let specimen = written_entries(&out, entries);

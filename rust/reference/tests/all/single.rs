@@ -66,9 +66,10 @@ fn which_records_keep_the_rule() {
 /// Of the 16 ways to link two items, 9 keep the rule.
 #[test]
 fn all_records_that_keep_the_rule_are_tried() {
-    assert_eq!(all_records(2, 0, Link(32_767)).len(), 16);
-    assert_eq!(all_records(2, 0, Link(32_768)).len(), 9);
-    assert_eq!(all_records(3, 1, Link(65_535)).len(), 8 * 64);
+    assert_eq!(all_records(2, 0, &[Link(32_767)]).len(), 16);
+    assert_eq!(all_records(2, 0, &[Link(32_768)]).len(), 9);
+    assert_eq!(all_records(2, 0, &[Link(1), Link(32_768)]).len(), 16 * 9);
+    assert_eq!(all_records(3, 1, &[Link(65_535)]).len(), 8 * 64);
 }
 
 /// "at least 2 of such a link makes its place impossible": rules 2, 3 and 5

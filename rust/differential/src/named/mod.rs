@@ -1,4 +1,6 @@
-//! Vectors of the paper's cases and of the examples that the report prints.
+//! Vectors of the paper's cases, of the requests' statements and of the examples that the report prints.
+
+pub mod excluding;
 
 use reference::notation::{blocks, entry};
 use reference::{encode, Entry};

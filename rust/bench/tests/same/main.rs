@@ -1,5 +1,9 @@
 //! The plain Rust gives the same answers and output bytes as the reference, and so does the proved library.
 
+mod excluding;
+
+use std::fmt::Debug;
+
 use bench::inputs::{bucket, entry, one_bucket, single_links, worst_fit, Chance, Model, Shape};
 use bench::plain;
 use reference::{encode, Entry};
@@ -155,15 +159,15 @@ fn drawn(rules: &Draw, chance: &mut Chance) -> Vec<u8> {
     bytes
 }
 
-fn number_input_place(refusal: plain::Refusal) -> (u8, u16, u32) {
+fn number_input_place(refusal: plain::Refusal) -> Refused {
     (refusal.number, refusal.input, refusal.place.into())
 }
 
-fn of_reference(refusal: reference::Refusal) -> (u8, u16, u32) {
+fn of_reference(refusal: reference::Refusal) -> Refused {
     (refusal.number, refusal.input, refusal.place)
 }
 
-fn of_product(refusal: goltximen::Refusal) -> (u8, u16, u32) {
+fn of_product(refusal: goltximen::Refusal) -> Refused {
     (refusal.reason.number(), refusal.input, refusal.place.into())
 }
 
@@ -181,47 +185,85 @@ fn same_reading(bytes: &[u8]) {
     assert_eq!(found, product.map_err(of_product));
 }
 
-fn same_normal_form(bytes: &[u8], out: usize) {
-    let mut outs = [vec![FILL; out], vec![FILL; out], vec![FILL; out]];
-    let found = plain::normal_form(bytes, &mut outs[0]).map_err(number_input_place);
-    let due = reference::normal_form(bytes, &mut outs[1]).map_err(of_reference);
-    let product = goltximen::normal_form(bytes, &mut outs[2]).map(usize::from);
-    assert_eq!(found, due);
-    assert_eq!(found, product.map_err(of_product));
-    assert!(outs[0] == outs[1] && outs[0] == outs[2]);
+/// A refusal's number, input and place.
+type Refused = (u8, u16, u32);
+
+/// A call of the plain Rust, of the reference and of the library, each on an output.
+type Calls<'a, A> = [&'a dyn Fn(&mut [u8]) -> A; 3];
+
+/// The answer of three calls that have to give the same and to write the same into an output of this length.
+fn same_written<A: PartialEq + Debug>(out: usize, calls: Calls<A>) -> A {
+    let [found, due, product] = calls.map(|call| {
+        let mut out = vec![FILL; out];
+        (call(&mut out), out)
+    });
+    assert_eq!(found.0, due.0);
+    assert_eq!(found.0, product.0);
+    assert!(found.1 == due.1 && found.1 == product.1);
+    found.0
 }
 
-fn same_comparison(c: &[u8], d: &[u8], out: usize) {
-    let mut outs = [vec![FILL; out], vec![FILL; out], vec![FILL; out]];
-    let found = plain::compare(c, d, &mut outs[0]).map_err(number_input_place);
-    let due = reference::compare(c, d, &mut outs[1]).map_err(of_reference);
-    let product = goltximen::compare(c, d, &mut outs[2]).map_err(of_product);
-    let found = found.map(|answer| match answer {
+fn same_normal_form(bytes: &[u8], out: usize) {
+    let calls: Calls<Result<usize, Refused>> = [
+        &|out| plain::normal_form(bytes, out).map_err(number_input_place),
+        &|out| reference::normal_form(bytes, out).map_err(of_reference),
+        &|out| product_count(goltximen::normal_form(bytes, out)),
+    ];
+    let _ = same_written(out, calls);
+}
+
+fn product_count(answer: Result<u16, goltximen::Refusal>) -> Result<usize, Refused> {
+    answer.map(usize::from).map_err(of_product)
+}
+
+/// The failing entry and the entries of the specimen; both are 0 where contained.
+type Compared = Result<(usize, usize), Refused>;
+
+fn plain_comparison(answer: Result<plain::Comparison, plain::Refusal>) -> Compared {
+    let entries = answer.map(|answer| match answer {
         plain::Comparison::Contained => (0, 0),
         plain::Comparison::NotContained { entry, entries } => (entry, entries),
     });
-    let due = due.map(|answer| match answer {
+    entries.map_err(number_input_place)
+}
+
+fn reference_comparison(answer: Result<reference::Comparison, reference::Refusal>) -> Compared {
+    let entries = answer.map(|answer| match answer {
         reference::Comparison::Contained => (0, 0),
         reference::Comparison::NotContained { entry, entries } => (entry, entries),
     });
-    let product = product.map(|answer| match answer {
+    entries.map_err(of_reference)
+}
+
+fn product_comparison(answer: Result<goltximen::Comparison, goltximen::Refusal>) -> Compared {
+    let entries = answer.map(|answer| match answer {
         goltximen::Comparison::Contained => (0, 0),
         goltximen::Comparison::NotContained { entry, entries } => (entry.into(), entries.into()),
     });
-    assert_eq!(found, due);
-    assert_eq!(found, product);
-    assert!(outs[0] == outs[1] && outs[0] == outs[2]);
+    entries.map_err(of_product)
+}
+
+fn same_comparison(c: &[u8], d: &[u8], out: usize) {
+    let calls: Calls<Compared> = [
+        &|out| plain_comparison(plain::compare(c, d, out)),
+        &|out| reference_comparison(reference::compare(c, d, out)),
+        &|out| product_comparison(goltximen::compare(c, d, out)),
+    ];
+    let _ = same_written(out, calls);
+}
+
+fn product_fit(answer: Result<goltximen::Fit, goltximen::Refusal>) -> Result<bool, Refused> {
+    let yes = answer.map(|answer| answer == goltximen::Fit::Yes);
+    yes.map_err(of_product)
 }
 
 fn same_fit(specimen: &[u8], description: &[u8]) -> Option<bool> {
-    let found = plain::fit(specimen, description).map_err(number_input_place);
-    assert_eq!(
-        found,
-        reference::fit(specimen, description).map_err(of_reference)
-    );
-    let product = goltximen::fit(specimen, description).map_err(of_product);
-    assert_eq!(found, product.map(|answer| answer == goltximen::Fit::Yes));
-    found.ok()
+    let calls: Calls<Result<bool, Refused>> = [
+        &|_| plain::fit(specimen, description).map_err(number_input_place),
+        &|_| reference::fit(specimen, description).map_err(of_reference),
+        &|_| product_fit(goltximen::fit(specimen, description)),
+    ];
+    same_written(0, calls).ok()
 }
 
 /// An output's length: mostly enough, at times one byte short or long.
@@ -460,7 +502,7 @@ fn inputs_of_the_benchmark() {
         assert_eq!(bucket(group.owner.into(), group.name.into()), 0);
     }
     let (groups, every) = worst_fit();
-    let shipped = include_bytes!("../../../crates/fits/stdin");
+    let shipped = include_bytes!("../../../../crates/fits/stdin");
     assert!([&groups[..], &every[..]].concat() == shipped);
     assert_eq!(same_fit(&groups, &every), Some(true));
 }

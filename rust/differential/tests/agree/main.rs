@@ -1,14 +1,19 @@
 //! A fixed number of drawn cases, and sweeps over every byte, place and length that decides.
 
+mod excluding;
+
 use differential::agree::{self, Answer, Difference};
 use differential::chance::Chance;
 use differential::damage::{framed, seal, seal_first, Sort};
 use differential::draw::{self, Names, Shape};
 use differential::exchange::{exchange, least_unseen, told};
+use differential::excluding::Given;
 use differential::rounds::{Found, Rounds};
 use differential::small::{confirm, first_that_breaks, tiny_descriptions, tiny_groups, Pool, Size};
 use differential::{length_of, BLOCK, MOST_DEPTH};
+use goltximen::Under;
 use reference::notation::entry;
+use reference::record::Record;
 use reference::{encode, Entry};
 
 /// Makes so many rounds, each with its own seed, and gives what was counted.
@@ -148,46 +153,54 @@ fn small_ones_in_records() {
 /// All pairs of descriptions of at most two entries over one property and one link, against all records of at most three items.
 #[test]
 fn all_tiny_pairs_in_all_records() {
-    let count = all_tiny_pairs(Names::Low, 1, 3);
+    let count = all_tiny_pairs(&Given::default(), Names::Low, (1, 1), 3);
     assert_eq!(count, (121, 4 + 64 + 4096));
 }
 
 /// The same for link 32,768, against all records that keep the rule: by it each item has none of the items or one of them.
 #[test]
 fn all_tiny_pairs_of_a_single_link() {
-    let count = all_tiny_pairs(Names::Middle, 1, 3);
+    let count = all_tiny_pairs(&Given::default(), Names::Middle, (1, 1), 3);
     assert_eq!(count, (121, 4 + 4 * 9 + 8 * 64));
 }
 
 /// The same for links 32,768 and 32,767 together, against all records of at most two items that keep the rule.
 #[test]
 fn all_tiny_pairs_of_both_sorts_of_links() {
-    let count = all_tiny_pairs(Names::Middle, 2, 2);
+    let count = all_tiny_pairs(&Given::default(), Names::Middle, (1, 2), 2);
     assert_eq!(count, (1 + 17 + 17 * 17 + 2 * 17, 8 + 4 * 16 * 9));
 }
 
-/// All pairs of descriptions of at most two entries over one property and so many links, against all records of at most so many
-/// items that keep the rule. Gives the numbers of descriptions and records.
-fn all_tiny_pairs(names: Names, links: u16, most_items: usize) -> (usize, usize) {
+/// All pairs of descriptions of at most two entries over so many properties and links, against all records of at most so many
+/// items that keep the rule and the list. Gives the numbers of descriptions and records.
+fn all_tiny_pairs(
+    given: &Given,
+    names: Names,
+    (properties, links): (u16, u16),
+    most_items: usize,
+) -> (usize, usize) {
     let mut pool = Pool::empty();
     for items in 1..=most_items {
         pool.add_all(Size {
             items,
-            properties: 1,
+            properties,
             links,
             names,
         });
     }
-    let all = tiny_descriptions(names, links);
+    let (pool, under) = (pool.keeping(&given.pairs), given.under());
+    let all = tiny_descriptions(names, properties, links);
     let fitting: Vec<Vec<bool>> = all.iter().map(|d| pool.fitting(d)).collect();
     let mut chance = Chance::from_seed(3);
     for (c, fit_c) in all.iter().zip(&fitting) {
         for (d, fit_d) in all.iter().zip(&fitting) {
-            let answer = agreed(agree::compare(&mut chance, &encode(c), &encode(d), 1024));
+            let (c_bytes, d_bytes) = (encode(c), encode(d));
+            let compared = agree::compare(&mut chance, under, &c_bytes, &d_bytes, 1024);
+            let answer = agreed(compared);
             let found = fit_c.iter().zip(fit_d).any(|(&c, &d)| c && !d);
             assert!(answer != Answer::Contained || !found, "{c:?} {d:?}");
             // What 'not contained' claims is looked at in the specimen's record.
-            if let Err(difference) = confirm(&Pool::empty(), c, d, answer) {
+            if let Err(difference) = confirm(&Pool::empty(), under, c, d, answer) {
                 panic!("{difference}");
             }
         }
@@ -204,8 +217,8 @@ fn all_tiny_groups_in_their_records() {
         for s in tiny_groups(&[1, 32_767, 32_768, 65_535], groups) {
             let bytes = encode(&s);
             let read = agreed(agree::read_specimen(&bytes));
-            let fit = agreed(agree::fit(&bytes, &encode(&[])));
-            let Some(place) = first_that_breaks(&s) else {
+            let fit = agreed(agree::fit(Under::default(), &bytes, &encode(&[])));
+            let Some(place) = first_that_breaks(&s, Record::keeps_the_rule) else {
                 assert_eq!((read, fit), (Answer::Count(s.len()), Answer::Yes));
                 accepted += 1;
                 continue;
@@ -409,12 +422,14 @@ fn a_specimen_longer_than_both() {
     d.push(entry(4, 32, 1, 65_535));
     let (c, d) = (encode(&c), encode(&d));
     let mut chance = Chance::from_seed(5);
+    let mut compared = |length| {
+        let answer = agree::compare(&mut chance, Under::default(), &c, &d, length);
+        agreed(answer)
+    };
     for length in [c.len() + d.len(), c.len() + d.len() + 700] {
-        let answer = agreed(agree::compare(&mut chance, &c, &d, length));
-        assert_eq!(answer, Answer::NotContained(33, 1041));
+        assert_eq!(compared(length), Answer::NotContained(33, 1041));
     }
-    let short = agreed(agree::compare(&mut chance, &c, &d, c.len() + d.len() - 1));
-    assert_eq!(short, Answer::Refused(7, 0));
+    assert_eq!(compared(c.len() + d.len() - 1), Answer::Refused(7, 0));
     assert_eq!(length_of(1041), 17 * BLOCK);
 }
 
@@ -425,7 +440,8 @@ fn fit_of_many_groups_of_one_link() {
     let group = |n: u16| [entry(7, 0, 1, u16::MAX), entry(1, 2 * n + 1, 7, 0)];
     let d: Vec<Entry> = (0..504).flat_map(every).collect();
     let mut s: Vec<Entry> = (0..1008).flat_map(group).collect();
-    assert_eq!(agreed(agree::fit(&encode(&s), &encode(&d))), Answer::Yes);
+    let fit = |s: &[Entry]| agreed(agree::fit(Under::default(), &encode(s), &encode(&d)));
+    assert_eq!(fit(&s), Answer::Yes);
     s[2015].name = 8;
-    assert_eq!(agreed(agree::fit(&encode(&s), &encode(&d))), Answer::No);
+    assert_eq!(fit(&s), Answer::No);
 }

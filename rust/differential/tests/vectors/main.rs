@@ -1,10 +1,13 @@
 //! The vectors: the files that are kept are the ones that are made, every answer comes often enough, and the named cases give what
 //! the paper and the report say.
 
+mod excluding;
+
 use std::collections::{BTreeMap, BTreeSet};
 
 use differential::agree;
 use differential::chance::Chance;
+use differential::excluding::Given;
 use differential::vectors::{
     all, digest, standard_input, standard_output, Answer, Call, Vector, FILL, MOST_LENGTH,
     MOST_VECTORS,
@@ -81,11 +84,16 @@ fn the_files_are_the_ones_that_are_made() {
 
 #[test]
 fn the_bytes_of_a_vector() {
-    let vector = Vector::compare(vec![1, 2, 3], vec![4; 258], 515);
+    let vector = Vector::compare(vec![1, 2, 3], vec![4; 258], 515).given(Given {
+        pairs: vec![5; 8],
+        dictionary: vec![6; 4],
+    });
     let bytes = vector.bytes();
-    assert_eq!(bytes[..8], [5, 0, 3, 0, 2, 1, 3, 2]);
-    assert_eq!(bytes[8..12], [1, 2, 3, 4]);
-    assert_eq!(bytes.len(), 8 + 3 + 258);
+    let header = [5, 0, 8, 0, 4, 0, 3, 0, 2, 1, 3, 2, 0, 0, 0, 0];
+    assert_eq!(bytes[..16], header);
+    assert_eq!(bytes[16..28], [5, 5, 5, 5, 5, 5, 5, 5, 6, 6, 6, 6]);
+    assert_eq!(bytes[28..32], [1, 2, 3, 4]);
+    assert_eq!(bytes.len(), 16 + 8 + 4 + 3 + 258);
 }
 
 #[test]
@@ -101,10 +109,11 @@ fn the_digest() {
 fn as_many_and_as_long_as_allowed() {
     let vectors = all();
     assert!(vectors.len() <= MOST_VECTORS);
-    assert!(standard_input(&vectors).len() < 800_000);
+    assert!(standard_input(&vectors).len() < 1_300_000);
     for vector in &vectors {
-        let lengths = [vector.first.len(), vector.second.len(), vector.output];
+        let lengths = vector.parts().map(<[u8]>::len);
         assert!(lengths.iter().all(|&length| length <= MOST_LENGTH));
+        assert!(vector.output <= MOST_LENGTH);
         let one_input = !matches!(vector.call, Call::Fit | Call::Compare);
         assert!(vector.second.is_empty() || !one_input);
         let no_output = !matches!(vector.call, Call::NormalForm | Call::Compare);
@@ -136,7 +145,7 @@ fn each_answer_of_each_call() {
     }
 }
 
-/// Each refusal of each call and input at least three times, each number 2 to 6 and 9 at three places or more.
+/// Each refusal of each call and input at least three times, each number 2 to 6, 9, 11 and 12 at three places or more.
 #[test]
 fn each_refusal() {
     let vectors = all();
@@ -159,6 +168,12 @@ fn each_refusal() {
     }
     assert!(!sorts.contains_key("description refused 9 input 1"));
     assert!(!sorts.contains_key("fit refused 9 input 2"));
+    for call in ["fit", "normal form", "compare"] {
+        for refusal in ["refused 11 input 0", "refused 1 input 100"] {
+            assert!(sorts[&format!("{call} {refusal}")] >= 3, "{call} {refusal}");
+        }
+    }
+    assert!(sorts["fit refused 12 input 1"] >= 3);
     assert!(sorts["normal form refused 7 input 0"] >= 3);
     assert!(sorts["compare refused 7 input 0"] >= 3);
     let mut places: BTreeMap<u8, BTreeSet<u32>> = BTreeMap::new();
@@ -170,7 +185,7 @@ fn each_refusal() {
                 .insert(refusal.place);
         }
     }
-    for number in [2, 3, 4, 5, 6, 9] {
+    for number in [2, 3, 4, 5, 6, 9, 11, 12] {
         assert!(places[&number].len() >= 3, "{number}");
     }
 }
@@ -180,13 +195,13 @@ fn each_refusal() {
 fn the_library_agrees() {
     let mut chance = Chance::from_seed(7);
     for (number, vector) in (1..).zip(all()) {
-        let (first, second) = (&vector.first, &vector.second);
+        let (under, first, second) = (vector.given.under(), &vector.first, &vector.second);
         let agreed = match vector.call {
             Call::Description => agree::read_description(first),
             Call::Specimen => agree::read_specimen(first),
-            Call::Fit => agree::fit(first, second),
-            Call::NormalForm => agree::normal_form(&mut chance, first, vector.output),
-            Call::Compare => agree::compare(&mut chance, first, second, vector.output),
+            Call::Fit => agree::fit(under, first, second),
+            Call::NormalForm => agree::normal_form(&mut chance, under, first, vector.output),
+            Call::Compare => agree::compare(&mut chance, under, first, second, vector.output),
         };
         if let Err(difference) = agreed {
             panic!("vector {number}: {difference}");

@@ -2,6 +2,8 @@
 //!
 //! An entry is written as its kind, owner, name and number.
 
+mod under;
+
 use goltximen::{
     compare, fit, normal_form, read_description, read_specimen, Comparison, Fit, Reason, Refusal,
 };
@@ -299,8 +301,12 @@ fn call_all() {
     );
 }
 
+fn on_a_small_stack(calls: fn()) {
+    let thread = std::thread::Builder::new().stack_size(96 * 1024);
+    thread.spawn(calls).unwrap().join().unwrap();
+}
+
 #[test]
 fn a_stack_of_96_kib_has_room() {
-    let thread = std::thread::Builder::new().stack_size(96 * 1024);
-    thread.spawn(call_all).unwrap().join().unwrap();
+    on_a_small_stack(call_all);
 }
