@@ -37,7 +37,7 @@ pub fn page(
         true => (String::new(), FOOTER.into()),
         false => (
             pairs(list, words),
-            FOOTER.replace("finite record,", "finite record that keeps these pairs,"),
+            FOOTER.replace("two items,", "two items, and keeps these pairs,"),
         ),
     };
     framed(&title, &format!("{body}{listed}{footer}"))
