@@ -8,12 +8,12 @@ use Rattle.fit.proofs.tables.judge_many.Tie as tie
 
 judge-with-requires : tie.Need-judge-with-requires
 judge-with-requires c κs =
-    let a = c .before .before .before .before .before .before in
+    let a = c .before .before .before .before .before .before .before .before in
     let f = accepted-facts _ _ _ (a .pre .0) in
     let g = accepted-facts _ _ _ (a .pre .1) in
-    (a .pre .0, a .pre .1, omega (arith, f .1), omega (arith, g .1), omega arith, refl, refl, refl, refl)
+    (a .pre .0, a .pre .1, omega (arith, f .1), omega (arith, g .1), omega arith, omega arith, refl, refl, refl, refl, refl, refl)
 
 pub judge-many-spec : {M : Type 1} → statement M
 judge-many-spec =
     tie.close
-    (tie.spec (λ c. search needs) (λ c. search needs) (λ c. search needs) (λ c. search needs) judge-with-requires (λ c. search needs))
+    (tie.spec (λ c. search needs) (λ c. search needs) (λ c. search needs) (λ c. search needs) (λ c. search needs) (λ c. search needs) judge-with-requires (λ c. search needs))
