@@ -1,6 +1,9 @@
 //! The plain Rust gives the same answers and output bytes as the reference, and so does the proved library.
 
-use bench::inputs::{entry, single_links, worst_fit, Chance, Model, Shape};
+use bench::inputs::{
+    entry, one_link_at_least, one_link_every, one_link_place, single_links, worst_fit, Chance, Model,
+    Shape,
+};
 use bench::plain;
 use reference::{encode, Entry};
 
@@ -442,8 +445,11 @@ fn inputs_of_the_benchmark() {
     assert_eq!(same_fit(&groups, &every), Some(true));
     same_reading(&groups);
     assert_eq!(reference::read_specimen(&groups), Ok(2016));
-    let (groups, every) = worst_fit();
+    let (groups, every) = one_link_place();
     let shipped = include_bytes!("../../../crates/fits/stdin");
     assert!([&groups[..], &every[..]].concat() == shipped);
-    assert_eq!(same_fit(&groups, &every), Some(true));
+    let cases = [one_link_at_least(), one_link_every(), worst_fit()];
+    for (groups, description) in cases.iter().chain([&(groups, every)]) {
+        assert_eq!(same_fit(groups, description), Some(true));
+    }
 }
