@@ -3,7 +3,7 @@
 ghost use mathlib.Core.Path.{_≡_};
 ghost use mathlib.Core.Bool.{cond};
 ghost use Prim.Native.Nat.{_<_};
-ghost use lib.ListN.{length, set};
+ghost use lib.ListN.{getD, length, set};
 ghost use Rattle.fit.specs.code.Bare.{demands};
 use base::wide;
 use blocks::Entry;
@@ -30,12 +30,20 @@ pub(crate) fn mark(marks: &mut [u8], o: usize)
     marks[o] = 1;
 }
 
-// Marks the owner of an entry that an item with nothing does not meet.
+// 1 where an entry tells, and else the mark that was there.
+fn raised(tells: bool, old: u8) -> u8
+    ensures { λ r. ⌜ r ≡ cond tells 1 old ⌝ }
+{
+    if tells { 1 } else { old }
+}
+
+// Marks the owner of an entry that an item with nothing does not meet. The mark is stored either way: entries come in any order of kinds, and a
+// jump would be guessed wrong.
 pub(crate) fn mark_demand(marks: &mut [u8], e: Entry)
     requires { ⌜ e .owner < length (now marks) ⌝ }
-    ensures { λ _. ⌜ now (marks .exit) ≡ cond (demands e) (set (now (marks .entry)) (e .owner) 1) (now (marks .entry)) ⌝ }
+    ensures { λ _. ⌜ now (marks .exit) ≡ set (now (marks .entry)) (e .owner) (cond (demands e) 1 (getD (now (marks .entry)) (e .owner) 0)) ⌝ }
 {
-    if demands_item(e) {
-        mark(marks, wide(e.owner));
-    }
+    let o = wide(e.owner);
+    let old = marks[o];
+    marks[o] = raised(demands_item(e), old);
 }

@@ -67,7 +67,7 @@ fn any_of(
 
 // Whether the items of group g have a property: whether an entry that g owns gives it.
 fn has_property(s: &[u8], index: &[u16], most: usize, total: usize, g: usize, p: Property) -> bool
-    requires { ⌜ Ready Schema.Specimen most (now s) total (now index) × (g < 2017) ⌝ }
+    requires { ⌜ Ready Schema.Specimen most (now s) total (now index) × (g < 2048) ⌝ }
     ensures { λ r. ⌜ r ≡ hasProperty (entriesOf (now (s .entry))) g (p .0) ⌝ }
 {
     any_of(s, index, most, total, hash(most, g, 1, p.0), g, 1, p.0)
@@ -75,7 +75,7 @@ fn has_property(s: &[u8], index: &[u16], most: usize, total: usize, g: usize, p:
 
 // Whether group g has a group by a link that owns nothing.
 fn has_bare(s: &[u8], index: &[u16], most: usize, total: usize, g: usize, l: Link) -> bool
-    requires { ⌜ Ready Schema.Specimen most (now s) total (now index) × (g < 2017) × (1 < most) ⌝ }
+    requires { ⌜ Ready Schema.Specimen most (now s) total (now index) × (g < 2048) × (1 < most) ⌝ }
     ensures { λ r. ⌜ r ≡ hasBare (entriesOf (now (s .entry))) g (l .0) ⌝ }
 {
     any_of(s, index, most, total, hash(most, g, 8, l.0), g, 7, l.0)
@@ -91,7 +91,7 @@ pub(crate) fn bare_fails(
     l: Link,
     e: usize,
 ) -> bool
-    requires { ⌜ Ready Schema.Specimen (n .most) (now s) (n .specimen) (now index) × (g < 2017) × (e < length (now marks)) × (1 < n .most) ⌝ }
+    requires { ⌜ Ready Schema.Specimen (n .most) (now s) (n .specimen) (now index) × (g < 2048) × (e < length (now marks)) × (1 < n .most) ⌝ }
     ensures { λ r. ⌜ r ≡ not (eqb (getD (now (marks .entry)) e 0) 0 || not (hasBare (entriesOf (now (s .entry))) g (l .0))) ⌝ }
 {
     if marks[e] == 0 {
@@ -111,7 +111,7 @@ pub(crate) fn meets_atom(
     e: Entry,
     adds: &mut u16,
 ) -> bool
-    requires { ⌜ Known (n .most) (now s) (n .specimen) (now si) (now rows) (now links) (n .rows) × (g < 2017) ⌝ }
+    requires { ⌜ Known (n .most) (now s) (n .specimen) (now si) (now rows) (now links) (n .rows) × (g < 2048) ⌝ }
     ensures { λ r. ⌜ (r ≡ meetsAtom (entriesOf (now (s .entry))) g e) × (now (adds .exit) ≡ now (adds .entry)) ⌝ }
 {
     let kind = e.kind;

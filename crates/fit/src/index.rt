@@ -13,13 +13,16 @@ use crate::bare::mark_demand;
 use base::wide;
 use blocks::Link;
 
-// What is left of a number by the number of buckets. Tables come in three sizes, and a division by a constant is sooner done.
+// What is left of a number by the number of buckets. Tables come in four sizes, and a division by a constant is sooner done: by a power of two it is none.
 fn reduced(x: usize, most: usize) -> usize
     requires { ⌜ 0 < most ⌝ }
     ensures { λ r. ⌜ (r ≡ x % most) × (r < most) ⌝ }
 {
-    if most == 2017 {
-        return x % 2017;
+    if most == 2048 {
+        return x % 2048;
+    }
+    if most == 1024 {
+        return x % 1024;
     }
     if most == 256 {
         return x % 256;
@@ -61,7 +64,7 @@ pub(crate) fn last_of(index: &[u16], b: usize) -> usize
 
 // The last entry of the bucket where group g's groups by a link stand, or 0.
 pub(crate) fn last_group(index: &[u16], most: usize, g: usize, l: Link) -> usize
-    requires { ⌜ (0 < most) × (most ≤ length (now index)) × (g < 2017) ⌝ }
+    requires { ⌜ (0 < most) × (most ≤ length (now index)) × (g < 2048) ⌝ }
     ensures { λ r. ⌜ r ≡ getD (now (index .entry)) (hashOf most g 7 (l .0)) 0 ⌝ }
 {
     last_of(index, hash(most, g, 7, l.0))
@@ -93,7 +96,7 @@ fn set_number(index: &mut [u16], i: usize, x: u16)
 
 // Puts number n in front of the chain of bucket b.
 pub(crate) fn put(index: &mut [u16], most: usize, n: usize, b: usize)
-    requires { ⌜ (most ≤ 2017) × (length (now index) ≡ most + most) × (n < most) × (b < most) ⌝ }
+    requires { ⌜ (most ≤ 2048) × (length (now index) ≡ most + most) × (n < most) × (b < most) ⌝ }
     ensures { λ _. ⌜ now (index .exit) ≡ chained (now (index .entry)) most n b ⌝ }
 {
     set_number(index, most + n, number_at(index, b));
@@ -110,7 +113,7 @@ fn mark_at(marks: &[u8], i: usize) -> u8
 
 // The index of a specimen, in one pass over its entries. The marks say which groups own something.
 pub(crate) fn index_specimen(s: &[u8], total: usize, most: usize, marks: &[u8], index: &mut [u16])
-    requires { ⌜ (total ≡ length (entriesOf (now s))) × (total < most) × (most ≤ 2017) × Ordered (entriesOf (now s))
+    requires { ⌜ (total ≡ length (entriesOf (now s))) × (total < most) × (most ≤ 2048) × Ordered (entriesOf (now s))
         × Marked anyEntry (entriesOf (now s)) total most (now marks) × (now index ≡ replicate (most + most) 0) ⌝ }
     ensures { λ _. ⌜ Ready Schema.Specimen most (now (s .entry)) total (now (index .exit)) ⌝ }
 {
@@ -135,7 +138,7 @@ pub(crate) fn index_description(
     index: &mut [u16],
     marks: &mut [u8],
 )
-    requires { ⌜ (total ≡ length (entriesOf (now d))) × (total < most) × (most ≤ 2017) × Ordered (entriesOf (now d))
+    requires { ⌜ (total ≡ length (entriesOf (now d))) × (total < most) × (most ≤ 2048) × Ordered (entriesOf (now d))
         × (now index ≡ replicate (most + most) 0) × (now marks ≡ replicate most 0) ⌝ }
     ensures { λ _. ⌜ Ready Schema.Description most (now (d .entry)) total (now (index .exit)) × Marked demands (entriesOf (now (d .entry))) total most (now (marks .exit)) ⌝ }
 {

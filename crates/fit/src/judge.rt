@@ -33,7 +33,7 @@ pub(crate) fn fits_place(
     left: usize,
     adds: &mut u16,
 ) -> bool
-    requires { ⌜ Known (n .most) (now s) (n .specimen) (now si) (now rows) (now links) (n .rows) × Ready Schema.Description (n .most) (now d) (n .description) (now di) × Marked demands (entriesOf (now d)) (n .description) (n .most) (now marks) × (g < 2017) × (o < n .most) × (left ≤ 33) × (1 < n .most) ⌝ }
+    requires { ⌜ Known (n .most) (now s) (n .specimen) (now si) (now rows) (now links) (n .rows) × Ready Schema.Description (n .most) (now d) (n .description) (now di) × Marked demands (entriesOf (now d)) (n .description) (n .most) (now marks) × (g < 2048) × (o < n .most) × (left ≤ 33) × (1 < n .most) ⌝ }
     ensures { λ r. ⌜ (r ≡ fitsPlace left (entriesOf (now (s .entry))) (entriesOf (now (d .entry))) g o) × (now (adds .exit) ≡ now (adds .entry)) ⌝ }
 {
     let mut e = last_of(di, o);
@@ -63,7 +63,7 @@ pub(crate) fn meets_entry(
     left: usize,
     adds: &mut u16,
 ) -> bool
-    requires { ⌜ Known (n .most) (now s) (n .specimen) (now si) (now rows) (now links) (n .rows) × Ready Schema.Description (n .most) (now d) (n .description) (now di) × Marked demands (entriesOf (now d)) (n .description) (n .most) (now marks) × (g < 2017) × (e < n .most) × (left ≤ 33) × (1 < n .most) ⌝ }
+    requires { ⌜ Known (n .most) (now s) (n .specimen) (now si) (now rows) (now links) (n .rows) × Ready Schema.Description (n .most) (now d) (n .description) (now di) × Marked demands (entriesOf (now d)) (n .description) (n .most) (now marks) × (g < 2048) × (e < n .most) × (left ≤ 33) × (1 < n .most) ⌝ }
     ensures { λ r. ⌜ (r ≡ meetsEntry left (entriesOf (now (s .entry))) (entriesOf (now (d .entry))) g e) × (now (adds .exit) ≡ now (adds .entry)) ⌝ }
 {
     if left == 0 {

@@ -1,4 +1,4 @@
-// The tables that judging needs, in three sizes: what is short is judged with short tables, which are sooner cleared.
+// The tables that judging needs, in four sizes: what is short is judged with short tables, which are sooner cleared.
 ghost use mathlib.Core.Path.{_≡_};
 ghost use Prim.Native.Nat.{_+_, _≤_, _<_};
 ghost use lib.ListN.{length, replicate};
@@ -35,7 +35,7 @@ fn judge_with(
     owning: &mut [u8],
     demanding: &mut [u8],
 ) -> Judged
-    requires { ⌜ (readingOf Schema.Specimen 1 (now s) ≡ Reading.Accepted n) × (readingOf Schema.Description 2 (now d) ≡ Reading.Accepted m) × (n < most) × (m < most) × (most ≤ 2017) × (1 < most)
+    requires { ⌜ (readingOf Schema.Specimen 1 (now s) ≡ Reading.Accepted n) × (readingOf Schema.Description 2 (now d) ≡ Reading.Accepted m) × (n < most) × (m < most) × (most ≤ 2048) × (1 < most)
         × (now si ≡ replicate (most + most) 0) × (now di ≡ replicate (most + most) 0) × (length (now rows) ≡ most) × (now links ≡ replicate (most + most) 0) × (now owning ≡ replicate most 0) × (now demanding ≡ replicate most 0) ⌝ }
     ensures { λ r. ⌜ (r .fits ≡ topFits (now (s .entry)) (now (d .entry))) × (r .table ≡ groupsIn (now (s .entry))) × (r .walk ≡ 0) ⌝ }
 {
@@ -123,23 +123,49 @@ fn judge_some(s: &[u8], n: usize, d: &[u8], m: usize) -> Judged
     )
 }
 
-// The same for any number.
+// The same for at most 1,023.
 fn judge_many(s: &[u8], n: usize, d: &[u8], m: usize) -> Judged
-    requires { ⌜ (readingOf Schema.Specimen 1 (now s) ≡ Reading.Accepted n) × (readingOf Schema.Description 2 (now d) ≡ Reading.Accepted m) ⌝ }
+    requires { ⌜ (readingOf Schema.Specimen 1 (now s) ≡ Reading.Accepted n) × (readingOf Schema.Description 2 (now d) ≡ Reading.Accepted m) × (n < 1024) × (m < 1024) ⌝ }
     ensures { λ r. ⌜ (r .fits ≡ topFits (now (s .entry)) (now (d .entry))) × (r .table ≡ groupsIn (now (s .entry))) × (r .walk ≡ 0) ⌝ }
 {
-    let mut si = [0u16; 4034];
-    let mut di = [0u16; 4034];
-    let mut rows = [0u64; 2017];
-    let mut links = [0u16; 4034];
-    let mut owning = [0u8; 2017];
-    let mut demanding = [0u8; 2017];
+    let mut si = [0u16; 2048];
+    let mut di = [0u16; 2048];
+    let mut rows = [0u64; 1024];
+    let mut links = [0u16; 2048];
+    let mut owning = [0u8; 1024];
+    let mut demanding = [0u8; 1024];
     judge_with(
         s,
         n,
         d,
         m,
-        2017,
+        1024,
+        &mut si,
+        &mut di,
+        &mut rows,
+        &mut links,
+        &mut owning,
+        &mut demanding,
+    )
+}
+
+// The same for any number.
+fn judge_all(s: &[u8], n: usize, d: &[u8], m: usize) -> Judged
+    requires { ⌜ (readingOf Schema.Specimen 1 (now s) ≡ Reading.Accepted n) × (readingOf Schema.Description 2 (now d) ≡ Reading.Accepted m) ⌝ }
+    ensures { λ r. ⌜ (r .fits ≡ topFits (now (s .entry)) (now (d .entry))) × (r .table ≡ groupsIn (now (s .entry))) × (r .walk ≡ 0) ⌝ }
+{
+    let mut si = [0u16; 4096];
+    let mut di = [0u16; 4096];
+    let mut rows = [0u64; 2048];
+    let mut links = [0u16; 4096];
+    let mut owning = [0u8; 2048];
+    let mut demanding = [0u8; 2048];
+    judge_with(
+        s,
+        n,
+        d,
+        m,
+        2048,
         &mut si,
         &mut di,
         &mut rows,
@@ -167,5 +193,8 @@ pub(crate) fn judge_top(s: &[u8], n: usize, d: &[u8], m: usize) -> Judged
     if longer < 256 {
         return judge_some(s, n, d, m);
     }
-    judge_many(s, n, d, m)
+    if longer < 1024 {
+        return judge_many(s, n, d, m);
+    }
+    judge_all(s, n, d, m)
 }

@@ -155,7 +155,7 @@ pub(crate) fn fill_totals(
     marks: &mut [u8],
     adds: &mut u16,
 ) -> usize
-    requires { ⌜ (total ≡ length (entriesOf (now s))) × (total < most) × (most ≤ 2017) × (length (now rows) ≡ most) × (now links ≡ replicate (most + most) 0) × (now adds ≡ 0)
+    requires { ⌜ (total ≡ length (entriesOf (now s))) × (total < most) × (most ≤ 2048) × (length (now rows) ≡ most) × (now links ≡ replicate (most + most) 0) × (now adds ≡ 0)
         × Ordered (entriesOf (now s)) × (now marks ≡ replicate most 0) ⌝ }
     ensures { λ r. ⌜ Rows most (now (rows .exit)) (now (links .exit)) r × TotalsOf (entriesOf (now (s .entry))) total (now (rows .exit)) r
         × (now (adds .exit) ≡ groupsUpTo (entriesOf (now (s .entry))) total) × Marked anyEntry (entriesOf (now (s .entry))) total most (now (marks .exit)) ⌝ }

@@ -51,8 +51,18 @@ module _ (tells : Entry → Bool) (es : List Entry) where
     })
 
     -- by what was written
-    pub marks-next : {marks′ : List ℕ} → e .owner < most → marks′ ≡ cond (tells e) (set marks (e .owner) 1) marks → Marked tells es (n + 1) most marks′
+    pub marks-next : {marks′ : List ℕ} → e .owner < most → marks′ ≡ set marks (e .owner) (cond (tells e) 1 (getD marks (e .owner) 0)) → Marked tells es (n + 1) most marks′
     marks-next {marks′} h is =
+        let o = e .owner in
+        let old = getD marks o 0 in
         bool-cases (tells e)
-        (λ y. let same : marks′ ≡ set marks (e .owner) 1 = is ∙ rw y in marks-told y refl h same)
-        (λ y. let same : marks′ ≡ marks = is ∙ rw y in rw same (marks-silent y))
+        (λ y. let same : marks′ ≡ set marks o 1 = is ∙ rw y in marks-told y refl h same)
+        (λ y.
+        let M′ = marks-silent y in
+        let same : marks′ ≡ set marks o old = is ∙ rw y in
+        rw same (record {
+          size = length-set marks o old ∙ M .size;
+          mark = λ p l. eq-cases p o
+              (λ z. rw (z, getD-set-same marks o old 0 (omega (arith, M .size))) (M′ .mark o h))
+              (λ z. getD-set-other marks o p old 0 z ∙ M′ .mark p l);
+        }))

@@ -72,7 +72,7 @@ module _ {σ : Schema} {most : ℕ} {s : List ℕ} {total : ℕ} {t : List ℕ} 
 
 -- ---- the index
 
-pub index-starts : (most : ℕ) (c : ℕ → ℕ) {t : List ℕ} → 0 < most → most ≤ 2017 → t ≡ replicate (most + most) 0 → Indexed most c t 0
+pub index-starts : (most : ℕ) (c : ℕ → ℕ) {t : List ℕ} → 0 < most → most ≤ 2048 → t ≡ replicate (most + most) 0 → Indexed most c t 0
 index-starts most c {t} pos small e = record {
   sized = small;
   below = pos;

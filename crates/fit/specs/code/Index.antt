@@ -44,7 +44,7 @@ pub record Ordered (es : List Entry) : Type 0 where
 -- Chains of the numbers 1 to n, fewer than `most`: at b the last number of bucket b, and at `most` + k the one of the same bucket before
 -- number k.
 pub record Indexed (most : ℕ) (c : ℕ → ℕ) (t : List ℕ) (n : ℕ) : Type 0 where
-  pub sized : most ≤ 2017
+  pub sized : most ≤ 2048
   pub below : n < most
   pub size : length t ≡ most + most
   pub chains : Chains c (λ k. getD t (most + k) 0) (λ b. getD t b 0) most n
