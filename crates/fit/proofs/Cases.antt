@@ -21,6 +21,7 @@ use Rattle.blocks.specs.declared.Schema.{Schema}
 use Rattle.blocks.specs.declared.Schema.the-variants.{Description, Specimen}
 use Rattle.fit.proofs.FitByNumber.{fit-by-groups}
 use Rattle.fit.specs.Promise.{Shows}
+use Rattle.fit.specs.code.Bare.{quiet}
 use Rattle.fit.specs.code.Groups.{fitsPlace, groupsBy, hasProperty, meetsEntry}
 use Rattle.logic.proofs.Records.Counting.{everyIn}
 use Rattle.meaning.specs.FitExamples.{Case, cases}
@@ -85,5 +86,5 @@ all-show (b ∷ cs) e c m =
 
 -- every desk example is shown by its specimen
 pub cases-show : (c : Case) → List·Memᴰ c cases → Shows c
-unfolding cases everyIn first entryFaults rowsFrom singleOk itemsUpTo sum formOk nameOk numberOk ownerOk ownerOf nth depthOk depthOf chain allWhere hasProperty groupsBy meetsEntry
+unfolding cases everyIn first entryFaults rowsFrom singleOk itemsUpTo sum formOk nameOk numberOk ownerOk ownerOf nth depthOk depthOf chain allWhere hasProperty groupsBy quiet meetsEntry
 cases-show = all-show cases refl

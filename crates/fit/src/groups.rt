@@ -1,8 +1,11 @@
 // What the items of one group of a specimen have: properties, and items that they are linked to.
 ghost use mathlib.Core.Path.{_≡_};
+ghost use mathlib.Core.Bool.{_||_, not};
 ghost use Prim.Native.Nat.{_<_};
+ghost use lib.Dec.{eqb};
+ghost use lib.ListN.{getD, length};
 ghost use Rattle.blocks.specs.Entries.{entriesOf};
-ghost use Rattle.fit.specs.code.Groups.{hasProperty, meetsAtom};
+ghost use Rattle.fit.specs.code.Groups.{hasBare, hasProperty, meetsAtom};
 ghost use Rattle.blocks.specs.declared.Schema.{Schema};
 ghost use Rattle.fit.specs.code.Index.{Ready, anyOf, isOf};
 ghost use Rattle.fit.specs.code.Rows.{Known};
@@ -64,10 +67,37 @@ fn any_of(
 
 // Whether the items of group g have a property: whether an entry that g owns gives it.
 fn has_property(s: &[u8], index: &[u16], most: usize, total: usize, g: usize, p: Property) -> bool
-    requires { ⌜ Ready Schema.Specimen most (now s) total (now index) × (g < 2017) ⌝ }
+    requires { ⌜ Ready Schema.Specimen most (now s) total (now index) × (g < 2048) ⌝ }
     ensures { λ r. ⌜ r ≡ hasProperty (entriesOf (now (s .entry))) g (p .0) ⌝ }
 {
     any_of(s, index, most, total, hash(most, g, 1, p.0), g, 1, p.0)
+}
+
+// Whether group g has a group by a link that owns nothing.
+fn has_bare(s: &[u8], index: &[u16], most: usize, total: usize, g: usize, l: Link) -> bool
+    requires { ⌜ Ready Schema.Specimen most (now s) total (now index) × (g < 2048) × (1 < most) ⌝ }
+    ensures { λ r. ⌜ r ≡ hasBare (entriesOf (now (s .entry))) g (l .0) ⌝ }
+{
+    any_of(s, index, most, total, hash(most, g, 8, l.0), g, 7, l.0)
+}
+
+// Whether group g has a group by a link that owns nothing, and an item with nothing does not fit the place of entry e.
+pub(crate) fn bare_fails(
+    s: &[u8],
+    index: &[u16],
+    marks: &[u8],
+    n: Sizes,
+    g: usize,
+    l: Link,
+    e: usize,
+) -> bool
+    requires { ⌜ Ready Schema.Specimen (n .most) (now s) (n .specimen) (now index) × (g < 2048) × (e < length (now marks)) × (1 < n .most) ⌝ }
+    ensures { λ r. ⌜ r ≡ not (eqb (getD (now (marks .entry)) e 0) 0 || not (hasBare (entriesOf (now (s .entry))) g (l .0))) ⌝ }
+{
+    if marks[e] == 0 {
+        return false;
+    }
+    has_bare(s, index, n.most, n.specimen, g, l)
 }
 
 // Whether the items of group g meet an entry of a description that owns no place. Totals come from the table: nothing is added here.
@@ -81,7 +111,7 @@ pub(crate) fn meets_atom(
     e: Entry,
     adds: &mut u16,
 ) -> bool
-    requires { ⌜ Known (n .most) (now s) (n .specimen) (now si) (now rows) (now links) (n .rows) × (g < 2017) ⌝ }
+    requires { ⌜ Known (n .most) (now s) (n .specimen) (now si) (now rows) (now links) (n .rows) × (g < 2048) ⌝ }
     ensures { λ r. ⌜ (r ≡ meetsAtom (entriesOf (now (s .entry))) g e) × (now (adds .exit) ≡ now (adds .entry)) ⌝ }
 {
     let kind = e.kind;

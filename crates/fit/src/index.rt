@@ -5,19 +5,24 @@ ghost use mathlib.Core.Path.{_≡_};
 ghost use Prim.Native.Nat.{_+_, _%_, _≤_, _<_};
 ghost use lib.ListN.{length, getD, replicate, set};
 ghost use Rattle.blocks.specs.Entries.{entriesOf};
-ghost use Rattle.fit.specs.code.Index.{Ordered, Ready, bucketIn, chained, hashOf};
+ghost use lib.Dec.{eqb};
+ghost use Rattle.blocks.specs.declared.Schema.{Schema};
+ghost use Rattle.fit.specs.code.Bare.{Marked, anyEntry, demands};
+ghost use Rattle.fit.specs.code.Index.{Ordered, Ready, chained, codeOf, hashOf};
+use crate::bare::mark_demand;
 use base::wide;
-use blocks::Entry;
 use blocks::Link;
-use blocks::Schema;
 
-// What is left of a number by the number of buckets. Tables come in three sizes, and a division by a constant is sooner done.
+// What is left of a number by the number of buckets. Tables come in four sizes, and a division by a constant is sooner done: by a power of two it is none.
 fn reduced(x: usize, most: usize) -> usize
     requires { ⌜ 0 < most ⌝ }
     ensures { λ r. ⌜ (r ≡ x % most) × (r < most) ⌝ }
 {
-    if most == 2017 {
-        return x % 2017;
+    if most == 2048 {
+        return x % 2048;
+    }
+    if most == 1024 {
+        return x % 1024;
     }
     if most == 256 {
         return x % 256;
@@ -37,15 +42,16 @@ pub(crate) fn hash(most: usize, owner: usize, kind: u8, name: u16) -> usize
     reduced(owner + (31 * wide(name) + kind as usize), most)
 }
 
-// The bucket of an entry.
-fn bucket(e: Entry, schema: Schema, most: usize) -> usize
-    requires { ⌜ 0 < most ⌝ }
-    ensures { λ r. ⌜ r ≡ bucketIn schema most e ⌝ }
+// The kind by which an entry is found: groups that own nothing, whose mark is 0, stand apart, as if of kind 8.
+fn code(kind: u8, mark: u8) -> u8
+    ensures { λ r. ⌜ r ≡ codeOf kind (eqb mark 0) ⌝ }
 {
-    match schema {
-        Schema::Description => wide(e.owner),
-        Schema::Specimen => hash(most, wide(e.owner), e.kind, e.name),
+    if kind == 7 {
+        if mark == 0 {
+            return 8;
+        }
     }
+    kind
 }
 
 // The last number of bucket b, or 0.
@@ -58,7 +64,7 @@ pub(crate) fn last_of(index: &[u16], b: usize) -> usize
 
 // The last entry of the bucket where group g's groups by a link stand, or 0.
 pub(crate) fn last_group(index: &[u16], most: usize, g: usize, l: Link) -> usize
-    requires { ⌜ (0 < most) × (most ≤ length (now index)) × (g < 2017) ⌝ }
+    requires { ⌜ (0 < most) × (most ≤ length (now index)) × (g < 2048) ⌝ }
     ensures { λ r. ⌜ r ≡ getD (now (index .entry)) (hashOf most g 7 (l .0)) 0 ⌝ }
 {
     last_of(index, hash(most, g, 7, l.0))
@@ -90,26 +96,57 @@ fn set_number(index: &mut [u16], i: usize, x: u16)
 
 // Puts number n in front of the chain of bucket b.
 pub(crate) fn put(index: &mut [u16], most: usize, n: usize, b: usize)
-    requires { ⌜ (most ≤ 2017) × (length (now index) ≡ most + most) × (n < most) × (b < most) ⌝ }
+    requires { ⌜ (most ≤ 2048) × (length (now index) ≡ most + most) × (n < most) × (b < most) ⌝ }
     ensures { λ _. ⌜ now (index .exit) ≡ chained (now (index .entry)) most n b ⌝ }
 {
     set_number(index, most + n, number_at(index, b));
     set_number(index, b, n as u16);
 }
 
-// Fills the index in one pass over the entries.
-pub(crate) fn index_entries(s: &[u8], total: usize, schema: Schema, most: usize, index: &mut [u16])
-    requires { ⌜ (total ≡ length (entriesOf (now s))) × (total < most) × (most ≤ 2017) × Ordered (entriesOf (now s)) × (now index ≡ replicate (most + most) 0) ⌝ }
-    ensures { λ _. ⌜ Ready schema most (now (s .entry)) total (now (index .exit)) ⌝ }
+// The mark at an index.
+fn mark_at(marks: &[u8], i: usize) -> u8
+    requires { ⌜ i < length (now marks) ⌝ }
+    ensures { λ r. ⌜ r ≡ getD (now (marks .entry)) i 0 ⌝ }
+{
+    marks[i]
+}
+
+// The index of a specimen, in one pass over its entries. The marks say which groups own something.
+pub(crate) fn index_specimen(s: &[u8], total: usize, most: usize, marks: &[u8], index: &mut [u16])
+    requires { ⌜ (total ≡ length (entriesOf (now s))) × (total < most) × (most ≤ 2048) × Ordered (entriesOf (now s))
+        × Marked anyEntry (entriesOf (now s)) total most (now marks) × (now index ≡ replicate (most + most) 0) ⌝ }
+    ensures { λ _. ⌜ Ready Schema.Specimen most (now (s .entry)) total (now (index .exit)) ⌝ }
 {
     let mut n: usize = 1;
     while n <= total {
+        let e = blocks::nth_entry(s, total, n);
         put(
             index,
             most,
             n,
-            bucket(blocks::nth_entry(s, total, n), schema, most),
+            hash(most, wide(e.owner), code(e.kind, mark_at(marks, n)), e.name),
         );
+        n += 1;
+    }
+}
+
+// The index of a description, in one pass over its entries: each place's. The places that an item with nothing does not fit are marked.
+pub(crate) fn index_description(
+    d: &[u8],
+    total: usize,
+    most: usize,
+    index: &mut [u16],
+    marks: &mut [u8],
+)
+    requires { ⌜ (total ≡ length (entriesOf (now d))) × (total < most) × (most ≤ 2048) × Ordered (entriesOf (now d))
+        × (now index ≡ replicate (most + most) 0) × (now marks ≡ replicate most 0) ⌝ }
+    ensures { λ _. ⌜ Ready Schema.Description most (now (d .entry)) total (now (index .exit)) × Marked demands (entriesOf (now (d .entry))) total most (now (marks .exit)) ⌝ }
+{
+    let mut n: usize = 0;
+    while n < total {
+        let e = blocks::nth_entry(d, total, n + 1);
+        put(index, most, n + 1, wide(e.owner));
+        mark_demand(marks, e);
         n += 1;
     }
 }

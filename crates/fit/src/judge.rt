@@ -6,10 +6,12 @@ ghost use mathlib.Core.Path.{_≡_};
 ghost use Prim.Native.Nat.{_≤_, _<_};
 ghost use Rattle.blocks.specs.Entries.{entriesOf};
 ghost use Rattle.blocks.specs.declared.Schema.{Schema};
+ghost use Rattle.fit.specs.code.Bare.{Marked, demands};
 ghost use Rattle.fit.specs.code.Groups.{meetsEntry, fitsPlace};
 ghost use Rattle.fit.specs.code.Index.{Ready};
 ghost use Rattle.fit.specs.code.Rows.{Known};
 use crate::Sizes;
+use crate::groups::bare_fails;
 use crate::groups::is_group;
 use crate::groups::meets_atom;
 use crate::index::last_group;
@@ -24,13 +26,14 @@ pub(crate) fn fits_place(
     links: &[u16],
     d: &[u8],
     di: &[u16],
+    marks: &[u8],
     n: Sizes,
     g: usize,
     o: usize,
     left: usize,
     adds: &mut u16,
 ) -> bool
-    requires { ⌜ Known (n .most) (now s) (n .specimen) (now si) (now rows) (now links) (n .rows) × Ready Schema.Description (n .most) (now d) (n .description) (now di) × (g < 2017) × (o < n .most) × (left ≤ 33) ⌝ }
+    requires { ⌜ Known (n .most) (now s) (n .specimen) (now si) (now rows) (now links) (n .rows) × Ready Schema.Description (n .most) (now d) (n .description) (now di) × Marked demands (entriesOf (now d)) (n .description) (n .most) (now marks) × (g < 2048) × (o < n .most) × (left ≤ 33) × (1 < n .most) ⌝ }
     ensures { λ r. ⌜ (r ≡ fitsPlace left (entriesOf (now (s .entry))) (entriesOf (now (d .entry))) g o) × (now (adds .exit) ≡ now (adds .entry)) ⌝ }
 {
     let mut e = last_of(di, o);
@@ -38,7 +41,7 @@ pub(crate) fn fits_place(
         if e == 0 {
             break true;
         }
-        if !meets_entry(s, si, rows, links, d, di, n, g, e, left, adds) {
+        if !meets_entry(s, si, rows, links, d, di, marks, n, g, e, left, adds) {
             break false;
         }
         e = previous_of(di, n.most, e);
@@ -53,13 +56,14 @@ pub(crate) fn meets_entry(
     links: &[u16],
     d: &[u8],
     di: &[u16],
+    marks: &[u8],
     n: Sizes,
     g: usize,
     e: usize,
     left: usize,
     adds: &mut u16,
 ) -> bool
-    requires { ⌜ Known (n .most) (now s) (n .specimen) (now si) (now rows) (now links) (n .rows) × Ready Schema.Description (n .most) (now d) (n .description) (now di) × (g < 2017) × (e < n .most) × (left ≤ 33) ⌝ }
+    requires { ⌜ Known (n .most) (now s) (n .specimen) (now si) (now rows) (now links) (n .rows) × Ready Schema.Description (n .most) (now d) (n .description) (now di) × Marked demands (entriesOf (now d)) (n .description) (n .most) (now marks) × (g < 2048) × (e < n .most) × (left ≤ 33) × (1 < n .most) ⌝ }
     ensures { λ r. ⌜ (r ≡ meetsEntry left (entriesOf (now (s .entry))) (entriesOf (now (d .entry))) g e) × (now (adds .exit) ≡ now (adds .entry)) ⌝ }
 {
     if left == 0 {
@@ -71,13 +75,16 @@ pub(crate) fn meets_entry(
         return meets_atom(s, si, rows, links, n, g, entry, adds);
     }
     let link = entry.link();
+    if bare_fails(s, si, marks, n, g, link, e) {
+        return false;
+    }
     let mut h = last_group(si, n.most, g, link);
     loop {
         if h == 0 {
             break true;
         }
         if is_group(blocks::nth_entry(s, n.specimen, h), g, link) {
-            if !fits_place(s, si, rows, links, d, di, n, h, e, left - 1, adds) {
+            if !fits_place(s, si, rows, links, d, di, marks, n, h, e, left - 1, adds) {
                 break false;
             }
         }

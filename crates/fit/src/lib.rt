@@ -4,6 +4,7 @@
 // itself: Specimen and Description of `meaning`, and Record of `logic`. That the answer by groups, which the code works out, is Table 1's
 // is proved in proofs/.
 mod answer;
+mod bare;
 mod groups;
 mod index;
 mod judge;

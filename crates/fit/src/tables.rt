@@ -1,4 +1,4 @@
-// The tables that judging needs, in three sizes: what is short is judged with short tables, which are sooner cleared.
+// The tables that judging needs, in four sizes: what is short is judged with short tables, which are sooner cleared.
 ghost use mathlib.Core.Path.{_≡_};
 ghost use Prim.Native.Nat.{_+_, _≤_, _<_};
 ghost use lib.ListN.{length, replicate};
@@ -8,10 +8,10 @@ ghost use Rattle.blocks.specs.declared.Schema.{Schema};
 ghost use Rattle.fit.specs.Answer.{topFits};
 ghost use Rattle.fit.specs.Counted.{groupsIn};
 use crate::Sizes;
-use crate::index::index_entries;
+use crate::index::index_description;
+use crate::index::index_specimen;
 use crate::judge::fits_place;
 use crate::totals::fill_totals;
-use blocks::Schema;
 
 // Whether the top item fits, and how many additions the table of totals and the walk over entries took.
 pub(crate) struct Judged {
@@ -32,23 +32,38 @@ fn judge_with(
     di: &mut [u16],
     rows: &mut [u64],
     links: &mut [u16],
+    owning: &mut [u8],
+    demanding: &mut [u8],
 ) -> Judged
-    requires { ⌜ (readingOf Schema.Specimen 1 (now s) ≡ Reading.Accepted n) × (readingOf Schema.Description 2 (now d) ≡ Reading.Accepted m) × (n < most) × (m < most) × (most ≤ 2017)
-        × (now si ≡ replicate (most + most) 0) × (now di ≡ replicate (most + most) 0) × (length (now rows) ≡ most) × (now links ≡ replicate (most + most) 0) ⌝ }
+    requires { ⌜ (readingOf Schema.Specimen 1 (now s) ≡ Reading.Accepted n) × (readingOf Schema.Description 2 (now d) ≡ Reading.Accepted m) × (n < most) × (m < most) × (most ≤ 2048) × (1 < most)
+        × (now si ≡ replicate (most + most) 0) × (now di ≡ replicate (most + most) 0) × (length (now rows) ≡ most) × (now links ≡ replicate (most + most) 0) × (now owning ≡ replicate most 0) × (now demanding ≡ replicate most 0) ⌝ }
     ensures { λ r. ⌜ (r .fits ≡ topFits (now (s .entry)) (now (d .entry))) × (r .table ≡ groupsIn (now (s .entry))) × (r .walk ≡ 0) ⌝ }
 {
     let mut adds: u16 = 0;
-    let used = fill_totals(s, n, most, rows, links, &mut adds);
+    let used = fill_totals(s, n, most, rows, links, owning, &mut adds);
     let table = adds;
-    index_entries(s, n, Schema::Specimen, most, si);
-    index_entries(d, m, Schema::Description, most, di);
+    index_specimen(s, n, most, owning, si);
+    index_description(d, m, most, di, demanding);
     let sizes = Sizes {
         specimen: n,
         description: m,
         rows: used,
         most: most,
     };
-    let fits = fits_place(s, si, rows, links, d, di, sizes, 0, 0, 33, &mut adds);
+    let fits = fits_place(
+        s,
+        si,
+        rows,
+        links,
+        d,
+        di,
+        demanding,
+        sizes,
+        0,
+        0,
+        33,
+        &mut adds,
+    );
     Judged {
         fits: fits,
         table: table,
@@ -65,7 +80,21 @@ fn judge_few(s: &[u8], n: usize, d: &[u8], m: usize) -> Judged
     let mut di = [0u16; 128];
     let mut rows = [0u64; 64];
     let mut links = [0u16; 128];
-    judge_with(s, n, d, m, 64, &mut si, &mut di, &mut rows, &mut links)
+    let mut owning = [0u8; 64];
+    let mut demanding = [0u8; 64];
+    judge_with(
+        s,
+        n,
+        d,
+        m,
+        64,
+        &mut si,
+        &mut di,
+        &mut rows,
+        &mut links,
+        &mut owning,
+        &mut demanding,
+    )
 }
 
 // The same for at most 255.
@@ -77,19 +106,73 @@ fn judge_some(s: &[u8], n: usize, d: &[u8], m: usize) -> Judged
     let mut di = [0u16; 512];
     let mut rows = [0u64; 256];
     let mut links = [0u16; 512];
-    judge_with(s, n, d, m, 256, &mut si, &mut di, &mut rows, &mut links)
+    let mut owning = [0u8; 256];
+    let mut demanding = [0u8; 256];
+    judge_with(
+        s,
+        n,
+        d,
+        m,
+        256,
+        &mut si,
+        &mut di,
+        &mut rows,
+        &mut links,
+        &mut owning,
+        &mut demanding,
+    )
+}
+
+// The same for at most 1,023.
+fn judge_many(s: &[u8], n: usize, d: &[u8], m: usize) -> Judged
+    requires { ⌜ (readingOf Schema.Specimen 1 (now s) ≡ Reading.Accepted n) × (readingOf Schema.Description 2 (now d) ≡ Reading.Accepted m) × (n < 1024) × (m < 1024) ⌝ }
+    ensures { λ r. ⌜ (r .fits ≡ topFits (now (s .entry)) (now (d .entry))) × (r .table ≡ groupsIn (now (s .entry))) × (r .walk ≡ 0) ⌝ }
+{
+    let mut si = [0u16; 2048];
+    let mut di = [0u16; 2048];
+    let mut rows = [0u64; 1024];
+    let mut links = [0u16; 2048];
+    let mut owning = [0u8; 1024];
+    let mut demanding = [0u8; 1024];
+    judge_with(
+        s,
+        n,
+        d,
+        m,
+        1024,
+        &mut si,
+        &mut di,
+        &mut rows,
+        &mut links,
+        &mut owning,
+        &mut demanding,
+    )
 }
 
 // The same for any number.
-fn judge_many(s: &[u8], n: usize, d: &[u8], m: usize) -> Judged
+fn judge_all(s: &[u8], n: usize, d: &[u8], m: usize) -> Judged
     requires { ⌜ (readingOf Schema.Specimen 1 (now s) ≡ Reading.Accepted n) × (readingOf Schema.Description 2 (now d) ≡ Reading.Accepted m) ⌝ }
     ensures { λ r. ⌜ (r .fits ≡ topFits (now (s .entry)) (now (d .entry))) × (r .table ≡ groupsIn (now (s .entry))) × (r .walk ≡ 0) ⌝ }
 {
-    let mut si = [0u16; 4034];
-    let mut di = [0u16; 4034];
-    let mut rows = [0u64; 2017];
-    let mut links = [0u16; 4034];
-    judge_with(s, n, d, m, 2017, &mut si, &mut di, &mut rows, &mut links)
+    let mut si = [0u16; 4096];
+    let mut di = [0u16; 4096];
+    let mut rows = [0u64; 2048];
+    let mut links = [0u16; 4096];
+    let mut owning = [0u8; 2048];
+    let mut demanding = [0u8; 2048];
+    judge_with(
+        s,
+        n,
+        d,
+        m,
+        2048,
+        &mut si,
+        &mut di,
+        &mut rows,
+        &mut links,
+        &mut owning,
+        &mut demanding,
+    )
 }
 
 fn larger(a: usize, b: usize) -> usize
@@ -110,5 +193,8 @@ pub(crate) fn judge_top(s: &[u8], n: usize, d: &[u8], m: usize) -> Judged
     if longer < 256 {
         return judge_some(s, n, d, m);
     }
-    judge_many(s, n, d, m)
+    if longer < 1024 {
+        return judge_many(s, n, d, m);
+    }
+    judge_all(s, n, d, m)
 }

@@ -12,7 +12,10 @@ ghost use Rattle.blocks.specs.Entries.{entriesOf, nth};
 ghost use Rattle.blocks.specs.Single.{itemsUpTo};
 ghost use Rattle.blocks.specs.declared.Entry.{Entry};
 ghost use Rattle.fit.specs.Totals.{TotalsOf, groupsUpTo, itemsIn};
+ghost use Rattle.fit.specs.code.Bare.{Marked, anyEntry};
+ghost use Rattle.fit.specs.code.Index.{Ordered};
 ghost use Rattle.fit.specs.code.Rows.{Rows, Small, emptyRow, pairIn, pairOf, pairsOf};
+use crate::bare::mark;
 use crate::index::hash;
 use crate::index::last_of;
 use crate::index::previous_of;
@@ -141,31 +144,28 @@ fn enter(
     used + 1
 }
 
-// Works out the table of a specimen with so many entries, and returns its number of rows. Each group is added once.
+// Works out the table of a specimen with so many entries, and returns its number of rows. Each group is added once. Owners are marked, so
+// that groups that own nothing are known.
 pub(crate) fn fill_totals(
     s: &[u8],
     total: usize,
     most: usize,
     rows: &mut [u64],
     links: &mut [u16],
+    marks: &mut [u8],
     adds: &mut u16,
 ) -> usize
-    requires { ⌜ (total ≡ length (entriesOf (now s))) × (total < most) × (most ≤ 2017) × (length (now rows) ≡ most) × (now links ≡ replicate (most + most) 0) × (now adds ≡ 0) ⌝ }
+    requires { ⌜ (total ≡ length (entriesOf (now s))) × (total < most) × (most ≤ 2048) × (length (now rows) ≡ most) × (now links ≡ replicate (most + most) 0) × (now adds ≡ 0)
+        × Ordered (entriesOf (now s)) × (now marks ≡ replicate most 0) ⌝ }
     ensures { λ r. ⌜ Rows most (now (rows .exit)) (now (links .exit)) r × TotalsOf (entriesOf (now (s .entry))) total (now (rows .exit)) r
-        × (now (adds .exit) ≡ groupsUpTo (entriesOf (now (s .entry))) total) ⌝ }
+        × (now (adds .exit) ≡ groupsUpTo (entriesOf (now (s .entry))) total) × Marked anyEntry (entriesOf (now (s .entry))) total most (now (marks .exit)) ⌝ }
 {
     let mut used: usize = 0;
     let mut n: usize = 0;
     while n < total {
-        used = enter(
-            rows,
-            links,
-            most,
-            n,
-            used,
-            blocks::nth_entry(s, total, n + 1),
-            adds,
-        );
+        let e = blocks::nth_entry(s, total, n + 1);
+        mark(marks, wide(e.owner));
+        used = enter(rows, links, most, n, used, e, adds);
         n += 1;
     }
     used

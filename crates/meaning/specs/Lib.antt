@@ -1,6 +1,6 @@
 -- A description's entries as a tree of places.
 pub mod Description
--- The entries of one owner: tests of all of them, sums over them, and owners that stand earlier.
+-- The entries of one owner: tests of all of them, and owners that stand earlier.
 pub mod Owned
 -- A specimen as a record of items.
 pub mod Specimen

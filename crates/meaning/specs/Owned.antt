@@ -1,9 +1,9 @@
--- The entries of one owner: tests of all of them, sums over them, and owners that stand earlier.
+-- The entries of one owner: tests of all of them, and owners that stand earlier.
 -- Assumes nothing.
-use Prim.Native.Nat.{_+_, _<_, _≤_, suc, zero, ℕ}
+use Prim.Native.Nat.{_<_, _≤_, suc, zero, ℕ}
 use lib.Dec.{eqb}
 use lib.ListN.{length}
-use mathlib.Core.Bool.{Bool, _&&_, _||_, cond, not, true}
+use mathlib.Core.Bool.{Bool, _&&_, _||_, not, true}
 use mathlib.Core.List.{List}
 use mathlib.Core.Logic.{_≢_}
 use mathlib.Core.Path.{_≡_}
@@ -16,18 +16,9 @@ unfoldable pub allWhere : (ℕ → ℕ) → (ℕ → Bool) → ℕ → ℕ → B
 allWhere c p b zero = true
 allWhere c p b (suc n) = (not (eqb (c (suc n)) b) || p (suc n)) && allWhere c p b n
 
--- the sum of f over those numbers
-unfoldable pub sumWhere : (ℕ → ℕ) → (ℕ → ℕ) → ℕ → ℕ → ℕ
-sumWhere c f b zero = 0
-sumWhere c f b (suc n) = cond (eqb (c (suc n)) b) (f (suc n)) 0 + sumWhere c f b n
-
 -- each of the first n entries that o owns passes
 abbrev pub allOwned : (ℕ → Bool) → List Entry → ℕ → ℕ → Bool
 allOwned p es o n = allWhere (ownerOf es) p o n
-
--- the sum of f over those of the first n entries that o owns
-abbrev pub sumOwned : (ℕ → ℕ) → List Entry → ℕ → ℕ → ℕ
-sumOwned f es o n = sumWhere (ownerOf es) f o n
 
 -- each entry stands after its owner, which is the top or an 'every'
 pub record Owned (es : List Entry) : Type 0 where

@@ -179,12 +179,25 @@ pub fn with_last(last: Entry, entries: &[Entry]) -> Vec<Entry> {
     entries
 }
 
-/// The fit answer's worst case: 2,016 groups of one link, and an 'every' of that link that owns 1,007 at most of different links.
-pub fn worst_fit() -> (Vec<u8>, Vec<u8>) {
-    let groups = vec![entry(7, 0, 1, 0); 2016];
+/// An 'every' of link 1 that owns 1,007 at most of different links.
+fn every_at_most() -> Vec<u8> {
     let owned = (1..=1007).map(|link| entry(4, 1, link, 0));
     let every: Vec<Entry> = std::iter::once(entry(5, 0, 1, 0)).chain(owned).collect();
-    (encode(&groups), encode(&every))
+    encode(&every)
+}
+
+/// 2,016 groups of one link that own nothing, and an 'every' of that link that owns 1,007 at most of different links.
+pub fn one_link_place() -> (Vec<u8>, Vec<u8>) {
+    let groups = vec![entry(7, 0, 1, 0); 2016];
+    (encode(&groups), every_at_most())
+}
+
+/// The fit answer's worst case: the same for 1,008 groups of which each owns a property.
+pub fn worst_fit() -> (Vec<u8>, Vec<u8>) {
+    let groups = (0..1008).map(|_| entry(7, 0, 1, 0));
+    let owned = (1..=1008).map(|owner| entry(1, owner, 1, 0));
+    let specimen: Vec<Entry> = groups.chain(owned).collect();
+    (encode(&specimen), every_at_most())
 }
 
 /// 2,016 groups of one link, and 1,008 at least of it.

@@ -8,8 +8,8 @@ use std::hint::black_box;
 use std::time::Instant;
 
 use bench::inputs::{
-    entry, one_bucket, one_link_at_least, one_link_every, single_links, with_first, with_last,
-    worst_fit, Chance, Model, Shape,
+    entry, one_bucket, one_link_at_least, one_link_every, one_link_place, single_links, with_first,
+    with_last, worst_fit, Chance, Model, Shape,
 };
 use bench::plain;
 use reference::{encode, Entry};
@@ -261,6 +261,7 @@ fn one_link_rows() {
     let rows = [
         ("2,016 and 1,008", "at least", one_link_at_least()),
         ("2,000 and 1,008", "every", one_link_every()),
+        ("2,016 and 1,008", "one every", one_link_place()),
         ("2,016 and 1,008", "worst case", worst_fit()),
     ];
     for (sizes, situation, (specimen, description)) in rows {

@@ -2,19 +2,21 @@
 -- Assumes nothing.
 use Prim.Native.Nat.{_%_, _*_, _+_, _<_, _≤_, suc, zero, ℕ}
 use lib.Dec.{eqb}
-use lib.ListN.{length}
-use mathlib.Core.Bool.{Bool, _&&_, _||_, false, not, true}
+use lib.ListN.{getD, length}
+use mathlib.Core.Bool.{Bool, _&&_, _||_, cond, false, not, true}
 use mathlib.Core.List.{List}
-use mathlib.Core.Path.{_∙_, _≡_, ap, refl}
-use native.Mathlib.Nat.{mod-lt}
+use mathlib.Core.Logic.{_≢_}
+use mathlib.Core.Path.{_∙_, _≡_, ap, refl, sym}
+use native.Mathlib.Nat.{mod-eq-of-lt, mod-lt, mod-self, suc-mod}
 use native.Mathlib.Omega.{arith}
-use Rattle.base.proofs.Tests.{and-cases, and-left, and-right, bool-cases, both-ways, eq-eqb, eqb-eq}
+use Rattle.base.proofs.Tests.{and-cases, and-left, and-right, bool-cases, both-ways, eq-eqb, eqb-eq, lt-cases, ne-eqb}
 use Rattle.blocks.specs.Entries.{nth}
 use Rattle.blocks.specs.Owners.{ownerOf}
 use Rattle.blocks.specs.declared.Entry.{Entry}
 use Rattle.blocks.specs.declared.Schema.{Schema}
 use Rattle.blocks.specs.declared.Schema.the-variants.{Description, Specimen}
-use Rattle.fit.specs.code.Index.{Ordered, bucketIn, bucketOf, hashOf}
+use Rattle.fit.specs.code.Bare.{Marked, anyEntry, bare, quiet}
+use Rattle.fit.specs.code.Index.{Ordered, bucketOf, codeOf, hashOf}
 use Rattle.meaning.specs.Owned.{allWhere}
 
 -- ---- there are `most`
@@ -33,12 +35,62 @@ hash-is most o k n e f = f ∙ rw e
 
 pub bucket-below : (σ : Schema) (most : ℕ) (es : List Entry) (k : ℕ) → Ordered es → 1 ≤ k → k ≤ length es → length es < most → bucketOf σ most es k < most
 bucket-below Description most es k O lo hi few = omega (arith, O .earlier k lo hi)
-bucket-below Specimen most es k O lo hi few = hash-below most (ownerOf es k) (nth es k .kind) (nth es k .name) (omega arith)
+bucket-below Specimen most es k O lo hi few = hash-below most (ownerOf es k) (codeOf (nth es k .kind) (bare es k)) (nth es k .name) (omega arith)
 
--- the bucket of the entry that was read is that of entry k
-pub bucket-read : (σ : Schema) (most : ℕ) (es : List Entry) (k : ℕ) {e : Entry} {b : ℕ} → e ≡ nth es k → b ≡ bucketIn σ most e → b ≡ bucketOf σ most es k
+-- the owner of the entry that was read is that of entry k, and stands before it
+pub owner-below : (es : List Entry) (k : ℕ) → Ordered es → 1 ≤ k → k ≤ length es → {e : Entry} {o : ℕ} → e ≡ nth es k → o ≡ e .owner → (ownerOf es k ≡ o) × (o < k)
 unfolding ownerOf
-bucket-read σ most es k a h = h ∙ ap (bucketIn σ most) a
+owner-below es k O lo hi at own =
+    let is : ownerOf es k ≡ _ = sym (own ∙ ap (λ (x : Entry). x .owner) at) in (is, omega (arith, O .earlier k lo hi))
+
+-- ---- kinds by which entries are found
+
+pub code-other : (kind : ℕ) (b : Bool) → kind ≢ 7 → codeOf kind b ≡ kind
+unfolding codeOf
+code-other kind b z = rw (codeOf, ne-eqb z)
+
+pub code-full : (kind : ℕ) {b : Bool} → kind ≡ 7 → b ≡ false → codeOf kind b ≡ 7
+unfolding codeOf
+code-full kind q n = rw (codeOf, q, n)
+
+pub code-bare : (kind : ℕ) {b : Bool} → kind ≡ 7 → b ≡ true → codeOf kind b ≡ 8
+unfolding codeOf
+code-bare kind q y = rw (codeOf, q, y)
+
+mark-tells : (b : Bool) → eqb (cond b 0 1) 0 ≡ b
+mark-tells true = refl
+mark-tells false = refl
+
+-- a mark says whether one of the owner's entries tells
+pub marked-tells : {tells : Entry → Bool} {es : List Entry} {total most : ℕ} {marks : List ℕ} → Marked tells es total most marks → total ≡ length es
+    → (k : ℕ) → k < most → eqb (getD marks k 0) 0 ≡ quiet tells es k (length es)
+marked-tells {tells} {es} {total} M n k l =
+    ap (λ (x : ℕ). eqb x 0) (M .mark k l) ∙ mark-tells (quiet tells es k total) ∙ ap (quiet tells es k) n
+
+-- the bucket of the entry that was read, with the mark that says whether it owns something, is that of entry k
+pub bucket-specimen : {most total : ℕ} {marks : List ℕ} (es : List Entry) (k : ℕ) → Marked anyEntry es total most marks → total ≡ length es → k < most
+    → {e : Entry} {m o c b : ℕ} → e ≡ nth es k → m ≡ getD marks k 0 → o ≡ e .owner → c ≡ codeOf (e .kind) (eqb m 0) → b ≡ hashOf most o c (e .name)
+    → b ≡ bucketOf Specimen most es k
+unfolding ownerOf
+bucket-specimen {most} {total} {marks} es k M n l {e} at mark own code h =
+    h ∙ rw (own, code, mark, marked-tells M n k l, at)
+
+-- a number and the next have different buckets
+next-apart : (x m : ℕ) → 1 < m → suc x % m ≢ x % m
+next-apart x m h e =
+    let below : x % m < m = mod-lt x (omega arith) in
+    lt-cases (suc (x % m)) m
+    (λ l. omega (arith, suc-mod x m, mod-eq-of-lt l))
+    (λ l.
+    let is : suc (x % m) ≡ m = omega arith in
+    let zero′ : suc (x % m) % m ≡ 0 = rw is (mod-self m) in
+    omega (arith, suc-mod x m, zero′))
+
+-- groups that own nothing stand apart from the others of their owner and link
+pub hash-apart : (most o n : ℕ) → 1 < most → hashOf most o 8 n ≢ hashOf most o 7 n
+unfolding hashOf
+hash-apart most o n h e =
+    let next : o + (31 * n + 8) ≡ suc (o + (31 * n + 7)) = omega arith in next-apart (o + (31 * n + 7)) most h (rw next at e)
 
 -- ---- the entries of an owner that matter stand in one bucket
 
@@ -51,8 +103,9 @@ all-bucket c c′ p o b h (suc n) =
     let rest = all-bucket c c′ p o b h n in
     bool-cases (eqb (c′ (suc n)) b) (λ q. rw (q, rest)) (λ q. rw (q, h (suc n) q, rest))
 
--- an entry outside the bucket of an owner, a kind and a name is of another owner, or of another kind or name
-module _ {A : Type 0} (most : ℕ) (es : List Entry) (g kind name k : ℕ) (out : eqb (bucketOf Specimen most es k) (hashOf most g kind name) ≡ false) where
+-- an entry outside the bucket of an owner, a kind and a name, if it is found by that kind, is of another owner, or of another kind or name
+module _ {A : Type 0} (most : ℕ) (es : List Entry) (g kind code name k : ℕ) (out : eqb (bucketOf Specimen most es k) (hashOf most g code name) ≡ false)
+    (coded : nth es k .kind ≡ kind → codeOf (nth es k .kind) (bare es k) ≡ code) where
   pub elsewhere : (eqb (ownerOf es k) g ≡ false → A) → ((eqb (nth es k .kind) kind && eqb (nth es k .name) name) ≡ false → A) → A
   elsewhere =
       let own = eqb (ownerOf es k) g in
@@ -63,6 +116,6 @@ module _ {A : Type 0} (most : ℕ) (es : List Entry) (g kind name k : ℕ) (out 
       let o : ownerOf es k ≡ g = eqb-eq (and-left own is y) in
       let a : nth es k .kind ≡ kind = eqb-eq (and-left (eqb (nth es k .kind) kind) (eqb (nth es k .name) name) (and-right own is y)) in
       let b : nth es k .name ≡ name = eqb-eq (and-right (eqb (nth es k .kind) kind) (eqb (nth es k .name) name) (and-right own is y)) in
-      let e : bucketOf Specimen most es k ≡ hashOf most g kind name = rw (o, a, b) in
+      let e : bucketOf Specimen most es k ≡ hashOf most g code name = rw (o, coded a, b) in
       both-ways (eq-eqb e) out)
       (λ n. n))

@@ -12,7 +12,7 @@ use native.Mathlib.Numerals.{sub-one}
 use native.Mathlib.Omega.{arith}
 use Rattle.base.proofs.ChainLaws.{chains-more, chains-start, skip-goes, skip-starts}
 use Rattle.base.proofs.Lists.{zeros-read}
-use Rattle.base.proofs.Tests.{eq-eqb, or-one}
+use Rattle.base.proofs.Tests.{bool-cases, eq-eqb, eqb-eq, or-one}
 use Rattle.base.specs.Chain.{OnChain}
 use Rattle.blocks.specs.Entries.{entriesOf}
 use Rattle.blocks.specs.declared.Schema.{Schema}
@@ -38,6 +38,16 @@ module _ (c : ℕ → ℕ) where
   all-no p b zero z q y = absurd (z refl)
   all-no p b (suc k) z q y = rw (allWhere, y, eq-eqb q)
 
+  -- ---- the entries of the bucket alone count
+
+  pub where-ext : (p q : ℕ → Bool) (b n : ℕ) → ((k : ℕ) → c k ≡ b → p k ≡ q k) → allWhere c p b n ≡ allWhere c q b n
+  unfolding allWhere
+  where-ext p q b zero h = refl
+  where-ext p q b (suc n) h =
+      bool-cases (eqb (c (suc n)) b)
+      (λ e. rw (e, h (suc n) (eqb-eq e), where-ext p q b n h))
+      (λ e. rw (e, where-ext p q b n h))
+
   -- ---- the end of a walk
 
   pub all-ends : (p : ℕ → Bool) (b : ℕ) {k : ℕ} → k ≡ 0 → allWhere c p b k ≡ true
@@ -62,7 +72,7 @@ module _ {σ : Schema} {most : ℕ} {s : List ℕ} {total : ℕ} {t : List ℕ} 
 
 -- ---- the index
 
-pub index-starts : (most : ℕ) (c : ℕ → ℕ) {t : List ℕ} → 0 < most → most ≤ 2017 → t ≡ replicate (most + most) 0 → Indexed most c t 0
+pub index-starts : (most : ℕ) (c : ℕ → ℕ) {t : List ℕ} → 0 < most → most ≤ 2048 → t ≡ replicate (most + most) 0 → Indexed most c t 0
 index-starts most c {t} pos small e = record {
   sized = small;
   below = pos;

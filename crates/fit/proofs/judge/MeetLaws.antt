@@ -1,21 +1,22 @@
 -- Laws of meeting an entry, one for each way through the code.
 -- Assumes nothing.
-use Prim.Native.Nat.{_-_, suc, zero, ℕ}
+use Prim.Native.Nat.{_-_, _<_, suc, zero, ℕ}
 use lib.Dec.{eqb}
-use lib.ListN.{length}
-use mathlib.Core.Bool.{Bool, _||_, false, not, true}
+use lib.ListN.{getD, length}
+use mathlib.Core.Bool.{Bool, _&&_, _||_, false, not, true}
 use mathlib.Core.List.{List}
 use mathlib.Core.Logic.{_≢_}
 use mathlib.Core.Path.{_∙_, _≡_, ap, refl, sym}
 use native.Mathlib.Numerals.{sub-one}
-use Rattle.base.proofs.Tests.{ne-eqb, or-one}
+use Rattle.base.proofs.Tests.{bool-cases, ne-eqb, or-one}
 use Rattle.blocks.specs.Entries.{entriesOf, entryOf, nth}
 use Rattle.blocks.specs.Owners.{ownerOf}
 use Rattle.blocks.specs.declared.Entry.{Entry}
 use Rattle.blocks.specs.declared.Schema.the-variants.{Specimen}
-use Rattle.fit.proofs.groups.GroupLaws.{owned-else, owned-here}
-use Rattle.fit.proofs.index.BucketLaws.{all-bucket, elsewhere}
-use Rattle.fit.specs.code.Groups.{fitsPlace, groupsBy, isGroup, meetsAtom, meetsEntry}
+use Rattle.fit.proofs.groups.GroupLaws.{full-here, owned-else, owned-here}
+use Rattle.fit.proofs.index.BucketLaws.{all-bucket, code-full, elsewhere, marked-tells}
+use Rattle.fit.specs.code.Bare.{Marked, bare, bareFits, demands}
+use Rattle.fit.specs.code.Groups.{fitsPlace, groupsBy, hasBare, isGroup, meetsAtom, meetsEntry}
 use Rattle.fit.specs.code.Index.{Ready, bucketOf, hashOf, isOf}
 use Rattle.meaning.specs.Owned.{allOwned, allWhere}
 
@@ -29,12 +30,12 @@ unfolding meetsEntry meetsAtom
 meets-atoms zero s d g e z a k h = absurd (z refl)
 meets-atoms (suc left) s d g e z a k h = h ∙ rw (a, meetsAtom, meetsEntry, ne-eqb (λ q. k (ap (λ (y : Entry). y .kind) a ∙ q)))
 
--- group k, where it is one by link l, fits the place that entry e owns, followed down for so many levels
+-- group k, where it is one by link l and owns something, fits the place that entry e owns, followed down for so many levels
 abbrev groupFits : ℕ → List Entry → List Entry → ℕ → ℕ → ℕ → Bool
-groupFits left s d e l k = not (isGroup s l k) || fitsPlace left s d k e
+groupFits left s d e l k = not (isGroup s l k) || (bare s k || fitsPlace left s d k e)
 
 meets-groups : (left : ℕ) (s d : List Entry) (g e : ℕ) {x : Entry} {l : ℕ} → left ≢ 0 → x ≡ nth d e → x .kind ≡ 5 → l ≡ x .name
-    → meetsEntry left s d g e ≡ allOwned (groupFits (left - 1) s d e l) s g (length s)
+    → meetsEntry left s d g e ≡ ((bareFits d e || not (hasBare s g l)) && allOwned (groupFits (left - 1) s d e l) s g (length s))
 unfolding meetsEntry groupsBy
 meets-groups zero s d g e z a k n = absurd (z refl)
 meets-groups (suc left) s d g e z a k n =
@@ -46,12 +47,24 @@ meets-groups (suc left) s d g e z a k n =
 abbrev pub ownFits : ℕ → List Entry → List Entry → ℕ → ℕ → ℕ → ℕ → Bool
 ownFits left s d e g l k = not (eqb (ownerOf s k) g) || groupFits left s d e l k
 
-pub meets-bucket : (most left : ℕ) (s d : List Entry) (g e : ℕ) {x : Entry} {l : ℕ} → left ≢ 0 → x ≡ nth d e → x .kind ≡ 5 → l ≡ x .name
-    → meetsEntry left s d g e ≡ allWhere (bucketOf Specimen most s) (ownFits (left - 1) s d e g l) (hashOf most g 7 l) (length s)
-meets-bucket most left s d g e {x} {l} z a k n =
-    meets-groups left s d g e z a k n
-    ∙ all-bucket (ownerOf s) (bucketOf Specimen most s) (groupFits (left - 1) s d e l) g (hashOf most g 7 l)
-    (λ k out. elsewhere most s g 7 l k out (λ o. rw o) (λ m. rw m (or-one (not (eqb (ownerOf s k) g))))) (length s)
+-- whether the groups that own nothing fail, by the mark of the place
+pub bare-told : {m most : ℕ} {marks : List ℕ} (s d : List Entry) (g e l : ℕ) → Marked demands d m most marks → m ≡ length d → e < most → {r : Bool}
+    → r ≡ not (eqb (getD marks e 0) 0 || not (hasBare s g l)) → r ≡ not (bareFits d e || not (hasBare s g l))
+bare-told s d g e l M n h f = f ∙ rw (marked-tells M n e h)
+
+-- groups that own nothing are judged together
+module _ (left : ℕ) (s d : List Entry) (g e : ℕ) {x : Entry} {l : ℕ} (z : left ≢ 0) (a : x ≡ nth d e) (k : x .kind ≡ 5) (n : l ≡ x .name) where
+  pub meets-bare : (bareFits d e || not (hasBare s g l)) ≡ false → false ≡ meetsEntry left s d g e
+  meets-bare q = sym (meets-groups left s d g e z a k n ∙ rw q)
+
+  pub meets-bucket : (most : ℕ) → (bareFits d e || not (hasBare s g l)) ≡ true
+      → meetsEntry left s d g e ≡ allWhere (bucketOf Specimen most s) (ownFits (left - 1) s d e g l) (hashOf most g 7 l) (length s)
+  meets-bucket most q =
+      meets-groups left s d g e z a k n ∙ rw q
+      (all-bucket (ownerOf s) (bucketOf Specimen most s) (groupFits (left - 1) s d e l) g (hashOf most g 7 l)
+      (λ k out. bool-cases (bare s k)
+      (λ y. rw (y, or-one (not (isGroup s l k)), or-one (not (eqb (ownerOf s k) g))))
+      (λ y. elsewhere most s g 7 7 l k out (λ q. code-full _ q y) (λ o. rw o) (λ m. rw m (or-one (not (eqb (ownerOf s k) g)))))) (length s))
 
 -- what entry k was read to be decides
 module _ {most : ℕ} {s : List ℕ} {total : ℕ} {t : List ℕ} (R : Ready Specimen most s total t) (left : ℕ) (d : List Entry) (e g l k : ℕ) {x : Entry} {r : Bool}
@@ -59,5 +72,7 @@ module _ {most : ℕ} {s : List ℕ} {total : ℕ} {t : List ℕ} (R : Ready Spe
   pub other-passes : r ≡ false → ownFits left (entriesOf s) d e g l k ≡ true
   other-passes q = owned-else R g 7 l k a b q (λ o. rw o) (λ m. rw m (or-one (not (eqb (ownerOf (entriesOf s) k) g))))
 
-  pub group-decides : {f : Bool} → r ≡ true → f ≡ fitsPlace left (entriesOf s) d k e → ownFits left (entriesOf s) d e g l k ≡ f
-  group-decides q h = let y = owned-here R g 7 l k a b q in rw (y .0, y .1) (sym h)
+  pub group-decides : {f : Bool} → bucketOf Specimen most (entriesOf s) k ≡ hashOf most g 7 l → 1 < most → r ≡ true → f ≡ fitsPlace left (entriesOf s) d k e
+      → ownFits left (entriesOf s) d e g l k ≡ f
+  group-decides at more q h =
+      let y = owned-here R g 7 l k a b q in rw (y .0, y .1, full-here most (entriesOf s) g l k more (y .0) (y .1) at) (sym h)

@@ -9,6 +9,7 @@ use lib.ListN.{length}
 use Rattle.blocks.specs.Entries.{nth}
 use Rattle.blocks.specs.Single.{itemsUpTo}
 use Rattle.blocks.specs.declared.Entry.{Entry}
+use Rattle.fit.specs.code.Bare.{bare, bareFits}
 use Rattle.meaning.specs.Owned.{allOwned}
 
 -- entry k gives property p; it is a group by link l
@@ -30,8 +31,13 @@ totalBy s g l = itemsUpTo s g l (length s)
 unfoldable pub groupsBy : (ℕ → Bool) → List Entry → ℕ → ℕ → Bool
 groupsBy p s g l = allOwned (λ k. not (isGroup s l k) || p k) s g (length s)
 
+-- one of them owns nothing
+abbrev pub hasBare : List Entry → ℕ → ℕ → Bool
+hasBare s g l = not (groupsBy (λ h. not (bare s h)) s g l)
+
 -- The items of group g of specimen s meet entry e of description d, which may be followed down for `left` levels more. No accepted
--- description is followed down to the last of them; where doubt were left, the answer would be no.
+-- description is followed down to the last of them; where doubt were left, the answer would be no. Of an 'every', the groups that own
+-- nothing are judged together, by whether an item with nothing fits the place.
 unfoldable pub meetsEntry : ℕ → List Entry → List Entry → ℕ → ℕ → Bool
 meetsEntry zero s d g e = false
 meetsEntry (suc left) s d g e =
@@ -39,7 +45,8 @@ meetsEntry (suc left) s d g e =
     (cond (eqb (nth d e .kind) 2) (not (hasProperty s g (nth d e .name)))
     (cond (eqb (nth d e .kind) 3) (leb (nth d e .number) (totalBy s g (nth d e .name)))
     (cond (eqb (nth d e .kind) 4) (leb (totalBy s g (nth d e .name)) (nth d e .number))
-    (cond (eqb (nth d e .kind) 5) (groupsBy (λ h. allOwned (meetsEntry left s d h) d e (length d)) s g (nth d e .name)) false))))
+    (cond (eqb (nth d e .kind) 5)
+    ((bareFits d e || not (hasBare s g (nth d e .name))) && groupsBy (λ h. bare s h || allOwned (meetsEntry left s d h) d e (length d)) s g (nth d e .name)) false))))
 
 -- the items of group g fit the place that entry o of d owns
 abbrev pub fitsPlace : ℕ → List Entry → List Entry → ℕ → ℕ → Bool

@@ -2,7 +2,7 @@
 -- promise names it.
 -- Assumes nothing.
 use mathlib.Core.Path.{_≡_}
-use mathlib.Core.Bool.{Bool, _&&_, _||_, not}
+use mathlib.Core.Bool.{Bool, _&&_, _||_, cond, not}
 use mathlib.Core.List.{List}
 use Prim.Native.Nat.{ℕ, _+_, _*_, _%_, _≤_, _<_}
 use lib.Dec.{eqb}
@@ -13,6 +13,7 @@ use Rattle.blocks.specs.declared.Schema.{Schema}
 use Rattle.blocks.specs.declared.Schema.the-variants.{Description, Specimen}
 use Rattle.blocks.specs.Entries.{entriesOf, nth}
 use Rattle.blocks.specs.Owners.{ownerOf}
+use Rattle.fit.specs.code.Bare.{bare}
 use Rattle.meaning.specs.Owned.{allWhere}
 
 -- an entry of this owner, kind and name
@@ -28,12 +29,13 @@ abbrev pub bucketBy : Schema → ℕ → ℕ → ℕ → ℕ → ℕ
 bucketBy Description most o k n = o
 bucketBy Specimen most o k n = hashOf most o k n
 
--- the bucket of an entry, and that of entry k
-abbrev pub bucketIn : Schema → ℕ → Entry → ℕ
-bucketIn σ most e = bucketBy σ most (e .owner) (e .kind) (e .name)
+-- the kind by which an entry is found: groups that own nothing stand apart from the others, as if of kind 8
+unfoldable pub codeOf : ℕ → Bool → ℕ
+codeOf kind nothing = cond (eqb kind 7 && nothing) 8 kind
 
+-- the bucket of entry k
 abbrev pub bucketOf : Schema → ℕ → List Entry → ℕ → ℕ
-bucketOf σ most es k = bucketBy σ most (ownerOf es k) (nth es k .kind) (nth es k .name)
+bucketOf σ most es k = bucketBy σ most (ownerOf es k) (codeOf (nth es k .kind) (bare es k)) (nth es k .name)
 
 -- each of the entries stands after its owner
 pub record Ordered (es : List Entry) : Type 0 where
@@ -42,7 +44,7 @@ pub record Ordered (es : List Entry) : Type 0 where
 -- Chains of the numbers 1 to n, fewer than `most`: at b the last number of bucket b, and at `most` + k the one of the same bucket before
 -- number k.
 pub record Indexed (most : ℕ) (c : ℕ → ℕ) (t : List ℕ) (n : ℕ) : Type 0 where
-  pub sized : most ≤ 2017
+  pub sized : most ≤ 2048
   pub below : n < most
   pub size : length t ≡ most + most
   pub chains : Chains c (λ k. getD t (most + k) 0) (λ b. getD t b 0) most n

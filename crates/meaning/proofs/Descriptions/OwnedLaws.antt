@@ -1,9 +1,9 @@
--- The entries of one owner, by number: what allOwned and sumOwned say, and the same by the list of entries.
+-- The entries of one owner, by number: what allOwned says, and the same by the list of entries.
 -- Assumes nothing.
-use Prim.Native.Nat.{_+_, _≤_, suc, zero, ℕ}
+use Prim.Native.Nat.{_≤_, suc, zero, ℕ}
 use lib.Dec.{eqb}
 use lib.ListN.{getD, length}
-use mathlib.Core.Bool.{Bool, _||_, cond, not, true}
+use mathlib.Core.Bool.{Bool, _||_, not, true}
 use mathlib.Core.List.{List, [], _∷_}
 use mathlib.Core.Path.{_∙_, _≡_, refl, sym}
 use native.Mathlib.Numerals.{one-add}
@@ -12,9 +12,9 @@ use Rattle.base.proofs.Tests.{and-both, and-left, and-right, eq-cases, eq-eqb, 
 use Rattle.blocks.specs.Entries.{nth, zeroEntry}
 use Rattle.blocks.specs.Owners.{ownerOf}
 use Rattle.blocks.specs.declared.Entry.{Entry}
-use Rattle.logic.proofs.Records.Counting.{every-ext, every-from, everyFrom, sumIn}
+use Rattle.logic.proofs.Records.Counting.{every-ext, every-from, everyFrom}
 use Rattle.logic.specs.Record.{every}
-use Rattle.meaning.specs.Owned.{allOwned, allWhere, sumOwned, sumWhere}
+use Rattle.meaning.specs.Owned.{allOwned, allWhere}
 
 -- ---- by number
 
@@ -66,17 +66,3 @@ owned-from p es o =
     owned-places p es o (length es)
     ∙ every-ext _ _ (length es) (λ i h. rw one-add)
     ∙ every-from (λ k e. not (eqb (e .owner) o) || p k e) zeroEntry 1 es
-
--- a sum over the entries of o, counted from the front
-sum-front : (f : Entry → ℕ) (e : Entry) (es : List Entry) (o n : ℕ) → sumOwned (λ k. f (nth (e ∷ es) k)) (e ∷ es) o (suc n)
-    ≡ cond (eqb (e .owner) o) (f e) 0 + sumOwned (λ k. f (nth es k)) es o n
-unfolding sumWhere ownerOf nth
-sum-front f e es o zero = refl
-sum-front f e es o (suc n) = omega (arith, sum-front f e es o n)
-
--- a sum over all entries of o, by the list
-pub sum-from : (f : Entry → ℕ) (es : List Entry) (o : ℕ)
-    → sumOwned (λ k. f (nth es k)) es o (length es) ≡ sumIn (λ e. cond (eqb (e .owner) o) (f e) 0) es
-unfolding sumIn
-sum-from f [] o = unfold sumWhere in refl
-sum-from f (e ∷ es) o = sum-front f e es o (length es) ∙ rw (sum-from f es o)

@@ -4,7 +4,10 @@ mod excluding;
 
 use std::fmt::Debug;
 
-use bench::inputs::{bucket, entry, one_bucket, single_links, worst_fit, Chance, Model, Shape};
+use bench::inputs::{
+    bucket, entry, one_bucket, one_link_at_least, one_link_every, one_link_place, single_links,
+    worst_fit, Chance, Model, Shape,
+};
 use bench::plain;
 use reference::{encode, Entry};
 
@@ -501,8 +504,11 @@ fn inputs_of_the_benchmark() {
         assert!(group.kind == 7 && group.name >= 32_768);
         assert_eq!(bucket(group.owner.into(), group.name.into()), 0);
     }
-    let (groups, every) = worst_fit();
+    let (groups, every) = one_link_place();
     let shipped = include_bytes!("../../../../crates/fits/stdin");
     assert!([&groups[..], &every[..]].concat() == shipped);
-    assert_eq!(same_fit(&groups, &every), Some(true));
+    let cases = [one_link_at_least(), one_link_every(), worst_fit()];
+    for (groups, description) in cases.iter().chain([&(groups, every)]) {
+        assert_eq!(same_fit(groups, description), Some(true));
+    }
 }

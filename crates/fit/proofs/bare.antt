@@ -1,0 +1,4 @@
+-- Laws of the code in src/bare.rt.
+
+-- Marks of owners, entry by entry.
+pub mod MarkLaws
