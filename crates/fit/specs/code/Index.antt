@@ -16,6 +16,10 @@ use Rattle.blocks.specs.Owners.{ownerOf}
 use Rattle.fit.specs.code.Bare.{bare}
 use Rattle.meaning.specs.Owned.{allWhere}
 
+-- the index of the bytes of the entry after one: a block has 63 entries, from its byte 4 on
+unfoldable pub nextPos : ℕ → ℕ
+nextPos at = cond (eqb (at % 512) 500) (at + 16) (at + 8)
+
 -- an entry of this owner, kind and name
 abbrev pub isOf : Entry → ℕ → ℕ → ℕ → Bool
 isOf e g kind name = eqb (e .owner) g && (eqb (e .kind) kind && eqb (e .name) name)
