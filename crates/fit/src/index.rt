@@ -2,7 +2,7 @@
 // of a bucket and not all of them. The entries of an input are indexed so. A description's bucket is a place, since a place is gone over
 // whole. A specimen's entries are looked for by owner, kind and name.
 ghost use mathlib.Core.Path.{_≡_};
-ghost use Prim.Native.Nat.{_+_, _%_, _≤_, _<_};
+ghost use Prim.Native.Nat.{_+_, _≤_, _<_};
 ghost use lib.ListN.{length, getD, replicate, set};
 ghost use Rattle.blocks.specs.Entries.{entriesOf};
 ghost use lib.Dec.{eqb};
@@ -16,33 +16,13 @@ use crate::entries::next_pos;
 use base::wide;
 use blocks::Link;
 
-// What is left of a number by the number of buckets. Tables come in four sizes, and a division by a constant is sooner done: by a power of two it is none.
-fn reduced(x: usize, most: usize) -> usize
-    requires { ⌜ 0 < most ⌝ }
-    ensures { λ r. ⌜ (r ≡ x % most) × (r < most) ⌝ }
-{
-    if most == 2048 {
-        return x % 2048;
-    }
-    if most == 1024 {
-        return x % 1024;
-    }
-    if most == 256 {
-        return x % 256;
-    }
-    if most == 64 {
-        return x % 64;
-    }
-    x % most
-}
-
-// The bucket, of `most`, of an owner, a kind and a name. Of one kind and name, different owners have different buckets: so all groups together
+// The bucket, of `most`, of an owner, a kind and a name. Sizes are powers of two, so that it takes no division. Of one kind and name, different owners have different buckets: so all groups together
 // look at each entry of a specimen at most once for an entry of a description, whatever names were chosen.
 pub(crate) fn hash(most: usize, owner: usize, kind: u8, name: u16) -> usize
     requires { ⌜ (0 < most) × (owner < 65536) ⌝ }
     ensures { λ r. ⌜ (r ≡ hashOf most owner kind name) × (r < most) ⌝ }
 {
-    reduced(owner + (31 * wide(name) + kind as usize), most)
+    (owner + (31 * wide(name) + kind as usize)) & (most - 1)
 }
 
 // The kind by which an entry is found: groups that own nothing, whose mark is 0, stand apart, as if of kind 8.
