@@ -8,9 +8,10 @@ use mathlib.Core.Path.{_∙_, _≡_, sym}
 use native.Mathlib.Omega.{arith}
 use Rattle.blocks.proofs.Refusing.Legal.{owner-earlier}
 use Rattle.blocks.proofs.RoundTrip.Accepting.{none-of-accepted, sound-of-accepted}
-use Rattle.blocks.proofs.RoundTrip.Faithful.{entries-limit}
+use Rattle.blocks.proofs.RoundTrip.Faithful.{entries-limit, entries-whole}
 use Rattle.blocks.specs.Entries.{entriesOf, limitOf}
 use Rattle.blocks.specs.Reading.{readingOf}
+use Rattle.blocks.specs.code.Blockwise.{Whole}
 use Rattle.blocks.specs.declared.Reading.{Reading}
 use Rattle.blocks.specs.declared.Reading.the-variants as reading
 use Rattle.blocks.specs.declared.Schema.{Schema}
@@ -32,11 +33,11 @@ limit-most Specimen = omega arith
 
 -- an accepted input has the number of entries that was answered, at most 2,016, each after its owner
 pub accepted-facts : (σ : Schema) (i : ℕ) (s : List ℕ) {n : ℕ} → readingOf σ i s ≡ reading.Accepted n
-    → (n ≡ length (entriesOf s)) × (n ≤ 2016) × Ordered (entriesOf s)
+    → (n ≡ length (entriesOf s)) × (n ≤ 2016) × Ordered (entriesOf s) × Whole s n
 accepted-facts σ i s e =
     let count = none-of-accepted σ i s e .1 in
     let sound = sound-of-accepted σ i s e in
-    (count, omega (arith, entries-limit (sound .blocks), limit-most σ), record { earlier = λ k lo hi. owner-earlier (sound .entries) k lo hi })
+    (count, omega (arith, entries-limit (sound .blocks), limit-most σ), record { earlier = λ k lo hi. owner-earlier (sound .entries) k lo hi }, rw count (entries-whole (sound .blocks)))
 
 -- the answer by groups and numbers is Table 1's
 pub top-judged : (s d : List ℕ) {m : ℕ} {r : Bool} → readingOf Description 2 d ≡ reading.Accepted m

@@ -1,7 +1,7 @@
 // What the items of one group of a specimen have: properties, and items that they are linked to.
 ghost use mathlib.Core.Path.{_≡_};
 ghost use mathlib.Core.Bool.{_||_, not};
-ghost use Prim.Native.Nat.{_<_};
+ghost use Prim.Native.Nat.{_%_, _-_, _<_};
 ghost use lib.Dec.{eqb};
 ghost use lib.ListN.{getD, length};
 ghost use Rattle.blocks.specs.Entries.{entriesOf};
@@ -75,7 +75,7 @@ fn has_property(s: &[u8], index: &[u16], most: usize, total: usize, g: usize, p:
 
 // Whether group g has a group by a link that owns nothing.
 fn has_bare(s: &[u8], index: &[u16], most: usize, total: usize, g: usize, l: Link) -> bool
-    requires { ⌜ Ready Schema.Specimen most (now s) total (now index) × (g < 2048) × (1 < most) ⌝ }
+    requires { ⌜ Ready Schema.Specimen most (now s) total (now index) × (g < 2048) × ((most - 1) % 2 ≡ 1) ⌝ }
     ensures { λ r. ⌜ r ≡ hasBare (entriesOf (now (s .entry))) g (l .0) ⌝ }
 {
     any_of(s, index, most, total, hash(most, g, 8, l.0), g, 7, l.0)
@@ -91,7 +91,7 @@ pub(crate) fn bare_fails(
     l: Link,
     e: usize,
 ) -> bool
-    requires { ⌜ Ready Schema.Specimen (n .most) (now s) (n .specimen) (now index) × (g < 2048) × (e < length (now marks)) × (1 < n .most) ⌝ }
+    requires { ⌜ Ready Schema.Specimen (n .most) (now s) (n .specimen) (now index) × (g < 2048) × (e < length (now marks)) × ((n .most - 1) % 2 ≡ 1) ⌝ }
     ensures { λ r. ⌜ r ≡ not (eqb (getD (now (marks .entry)) e 0) 0 || not (hasBare (entriesOf (now (s .entry))) g (l .0))) ⌝ }
 {
     if marks[e] == 0 {

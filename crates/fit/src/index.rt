@@ -2,44 +2,27 @@
 // of a bucket and not all of them. The entries of an input are indexed so. A description's bucket is a place, since a place is gone over
 // whole. A specimen's entries are looked for by owner, kind and name.
 ghost use mathlib.Core.Path.{_≡_};
-ghost use Prim.Native.Nat.{_+_, _%_, _≤_, _<_};
+ghost use Prim.Native.Nat.{_+_, _≤_, _<_};
 ghost use lib.ListN.{length, getD, replicate, set};
 ghost use Rattle.blocks.specs.Entries.{entriesOf};
 ghost use lib.Dec.{eqb};
+ghost use Rattle.blocks.specs.code.Blockwise.{Whole};
 ghost use Rattle.blocks.specs.declared.Schema.{Schema};
 ghost use Rattle.fit.specs.code.Bare.{Marked, anyEntry, demands};
 ghost use Rattle.fit.specs.code.Index.{Ordered, Ready, chained, codeOf, hashOf};
 use crate::bare::mark_demand;
+use crate::entries::entry_from;
+use crate::entries::next_pos;
 use base::wide;
 use blocks::Link;
 
-// What is left of a number by the number of buckets. Tables come in four sizes, and a division by a constant is sooner done: by a power of two it is none.
-fn reduced(x: usize, most: usize) -> usize
-    requires { ⌜ 0 < most ⌝ }
-    ensures { λ r. ⌜ (r ≡ x % most) × (r < most) ⌝ }
-{
-    if most == 2048 {
-        return x % 2048;
-    }
-    if most == 1024 {
-        return x % 1024;
-    }
-    if most == 256 {
-        return x % 256;
-    }
-    if most == 64 {
-        return x % 64;
-    }
-    x % most
-}
-
-// The bucket, of `most`, of an owner, a kind and a name. Of one kind and name, different owners have different buckets: so all groups together
+// The bucket, of `most`, of an owner, a kind and a name. Sizes are powers of two, so that it takes no division. Of one kind and name, different owners have different buckets: so all groups together
 // look at each entry of a specimen at most once for an entry of a description, whatever names were chosen.
 pub(crate) fn hash(most: usize, owner: usize, kind: u8, name: u16) -> usize
     requires { ⌜ (0 < most) × (owner < 65536) ⌝ }
     ensures { λ r. ⌜ (r ≡ hashOf most owner kind name) × (r < most) ⌝ }
 {
-    reduced(owner + (31 * wide(name) + kind as usize), most)
+    (owner + (31 * wide(name) + kind as usize)) & (most - 1)
 }
 
 // The kind by which an entry is found: groups that own nothing, whose mark is 0, stand apart, as if of kind 8.
@@ -113,20 +96,22 @@ fn mark_at(marks: &[u8], i: usize) -> u8
 
 // The index of a specimen, in one pass over its entries. The marks say which groups own something.
 pub(crate) fn index_specimen(s: &[u8], total: usize, most: usize, marks: &[u8], index: &mut [u16])
-    requires { ⌜ (total ≡ length (entriesOf (now s))) × (total < most) × (most ≤ 2048) × Ordered (entriesOf (now s))
+    requires { ⌜ (total ≡ length (entriesOf (now s))) × (total < most) × (most ≤ 2048) × Ordered (entriesOf (now s)) × Whole (now s) total
         × Marked anyEntry (entriesOf (now s)) total most (now marks) × (now index ≡ replicate (most + most) 0) ⌝ }
     ensures { λ _. ⌜ Ready Schema.Specimen most (now (s .entry)) total (now (index .exit)) ⌝ }
 {
-    let mut n: usize = 1;
-    while n <= total {
-        let e = blocks::nth_entry(s, total, n);
+    let mut n: usize = 0;
+    let mut at: usize = 4;
+    while n < total {
+        let e = entry_from(s, at);
+        at = next_pos(at);
+        n += 1;
         put(
             index,
             most,
             n,
             hash(most, wide(e.owner), code(e.kind, mark_at(marks, n)), e.name),
         );
-        n += 1;
     }
 }
 
@@ -138,13 +123,15 @@ pub(crate) fn index_description(
     index: &mut [u16],
     marks: &mut [u8],
 )
-    requires { ⌜ (total ≡ length (entriesOf (now d))) × (total < most) × (most ≤ 2048) × Ordered (entriesOf (now d))
+    requires { ⌜ (total ≡ length (entriesOf (now d))) × (total < most) × (most ≤ 2048) × Ordered (entriesOf (now d)) × Whole (now d) total
         × (now index ≡ replicate (most + most) 0) × (now marks ≡ replicate most 0) ⌝ }
     ensures { λ _. ⌜ Ready Schema.Description most (now (d .entry)) total (now (index .exit)) × Marked demands (entriesOf (now (d .entry))) total most (now (marks .exit)) ⌝ }
 {
     let mut n: usize = 0;
+    let mut at: usize = 4;
     while n < total {
-        let e = blocks::nth_entry(d, total, n + 1);
+        let e = entry_from(d, at);
+        at = next_pos(at);
         put(index, most, n + 1, wide(e.owner));
         mark_demand(marks, e);
         n += 1;

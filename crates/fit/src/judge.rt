@@ -3,7 +3,7 @@
 // specimen at most once. So the time grows at most with the product of the two inputs' numbers of entries, 2,016 · 1,008, at some
 // nanoseconds each, and is far less where groups are few or have places of their own. A level of depth takes two frames of the stack.
 ghost use mathlib.Core.Path.{_≡_};
-ghost use Prim.Native.Nat.{_≤_, _<_};
+ghost use Prim.Native.Nat.{_%_, _-_, _≤_, _<_};
 ghost use Rattle.blocks.specs.Entries.{entriesOf};
 ghost use Rattle.blocks.specs.declared.Schema.{Schema};
 ghost use Rattle.fit.specs.code.Bare.{Marked, demands};
@@ -33,7 +33,7 @@ pub(crate) fn fits_place(
     left: usize,
     adds: &mut u16,
 ) -> bool
-    requires { ⌜ Known (n .most) (now s) (n .specimen) (now si) (now rows) (now links) (n .rows) × Ready Schema.Description (n .most) (now d) (n .description) (now di) × Marked demands (entriesOf (now d)) (n .description) (n .most) (now marks) × (g < 2048) × (o < n .most) × (left ≤ 33) × (1 < n .most) ⌝ }
+    requires { ⌜ Known (n .most) (now s) (n .specimen) (now si) (now rows) (now links) (n .rows) × Ready Schema.Description (n .most) (now d) (n .description) (now di) × Marked demands (entriesOf (now d)) (n .description) (n .most) (now marks) × (g < 2048) × (o < n .most) × (left ≤ 33) × ((n .most - 1) % 2 ≡ 1) ⌝ }
     ensures { λ r. ⌜ (r ≡ fitsPlace left (entriesOf (now (s .entry))) (entriesOf (now (d .entry))) g o) × (now (adds .exit) ≡ now (adds .entry)) ⌝ }
 {
     let mut e = last_of(di, o);
@@ -63,7 +63,7 @@ pub(crate) fn meets_entry(
     left: usize,
     adds: &mut u16,
 ) -> bool
-    requires { ⌜ Known (n .most) (now s) (n .specimen) (now si) (now rows) (now links) (n .rows) × Ready Schema.Description (n .most) (now d) (n .description) (now di) × Marked demands (entriesOf (now d)) (n .description) (n .most) (now marks) × (g < 2048) × (e < n .most) × (left ≤ 33) × (1 < n .most) ⌝ }
+    requires { ⌜ Known (n .most) (now s) (n .specimen) (now si) (now rows) (now links) (n .rows) × Ready Schema.Description (n .most) (now d) (n .description) (now di) × Marked demands (entriesOf (now d)) (n .description) (n .most) (now marks) × (g < 2048) × (e < n .most) × (left ≤ 33) × ((n .most - 1) % 2 ≡ 1) ⌝ }
     ensures { λ r. ⌜ (r ≡ meetsEntry left (entriesOf (now (s .entry))) (entriesOf (now (d .entry))) g e) × (now (adds .exit) ≡ now (adds .entry)) ⌝ }
 {
     if left == 0 {

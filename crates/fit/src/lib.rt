@@ -5,6 +5,7 @@
 // is proved in proofs/.
 mod answer;
 mod bare;
+mod entries;
 mod groups;
 mod index;
 mod judge;

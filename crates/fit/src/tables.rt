@@ -1,6 +1,6 @@
 // The tables that judging needs, in four sizes: what is short is judged with short tables, which are sooner cleared.
 ghost use mathlib.Core.Path.{_≡_};
-ghost use Prim.Native.Nat.{_+_, _≤_, _<_};
+ghost use Prim.Native.Nat.{_+_, _%_, _-_, _≤_, _<_};
 ghost use lib.ListN.{length, replicate};
 ghost use Rattle.blocks.specs.Reading.{readingOf};
 ghost use Rattle.blocks.specs.declared.Reading.{Reading};
@@ -35,7 +35,7 @@ fn judge_with(
     owning: &mut [u8],
     demanding: &mut [u8],
 ) -> Judged
-    requires { ⌜ (readingOf Schema.Specimen 1 (now s) ≡ Reading.Accepted n) × (readingOf Schema.Description 2 (now d) ≡ Reading.Accepted m) × (n < most) × (m < most) × (most ≤ 2048) × (1 < most)
+    requires { ⌜ (readingOf Schema.Specimen 1 (now s) ≡ Reading.Accepted n) × (readingOf Schema.Description 2 (now d) ≡ Reading.Accepted m) × (n < most) × (m < most) × (most ≤ 2048) × ((most - 1) % 2 ≡ 1)
         × (now si ≡ replicate (most + most) 0) × (now di ≡ replicate (most + most) 0) × (length (now rows) ≡ most) × (now links ≡ replicate (most + most) 0) × (now owning ≡ replicate most 0) × (now demanding ≡ replicate most 0) ⌝ }
     ensures { λ r. ⌜ (r .fits ≡ topFits (now (s .entry)) (now (d .entry))) × (r .table ≡ groupsIn (now (s .entry))) × (r .walk ≡ 0) ⌝ }
 {

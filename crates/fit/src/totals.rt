@@ -10,12 +10,15 @@ ghost use Rattle.base.specs.Chain.{lastWhere};
 ghost use Rattle.base.specs.Range.{bit};
 ghost use Rattle.blocks.specs.Entries.{entriesOf, nth};
 ghost use Rattle.blocks.specs.Single.{itemsUpTo};
+ghost use Rattle.blocks.specs.code.Blockwise.{Whole};
 ghost use Rattle.blocks.specs.declared.Entry.{Entry};
 ghost use Rattle.fit.specs.Totals.{TotalsOf, groupsUpTo, itemsIn};
 ghost use Rattle.fit.specs.code.Bare.{Marked, anyEntry};
 ghost use Rattle.fit.specs.code.Index.{Ordered};
 ghost use Rattle.fit.specs.code.Rows.{Rows, Small, emptyRow, pairIn, pairOf, pairsOf};
 use crate::bare::mark;
+use crate::entries::entry_from;
+use crate::entries::next_pos;
 use crate::index::hash;
 use crate::index::last_of;
 use crate::index::previous_of;
@@ -156,14 +159,16 @@ pub(crate) fn fill_totals(
     adds: &mut u16,
 ) -> usize
     requires { ⌜ (total ≡ length (entriesOf (now s))) × (total < most) × (most ≤ 2048) × (length (now rows) ≡ most) × (now links ≡ replicate (most + most) 0) × (now adds ≡ 0)
-        × Ordered (entriesOf (now s)) × (now marks ≡ replicate most 0) ⌝ }
+        × Ordered (entriesOf (now s)) × (now marks ≡ replicate most 0) × Whole (now s) total ⌝ }
     ensures { λ r. ⌜ Rows most (now (rows .exit)) (now (links .exit)) r × TotalsOf (entriesOf (now (s .entry))) total (now (rows .exit)) r
         × (now (adds .exit) ≡ groupsUpTo (entriesOf (now (s .entry))) total) × Marked anyEntry (entriesOf (now (s .entry))) total most (now (marks .exit)) ⌝ }
 {
     let mut used: usize = 0;
     let mut n: usize = 0;
+    let mut at: usize = 4;
     while n < total {
-        let e = blocks::nth_entry(s, total, n + 1);
+        let e = entry_from(s, at);
+        at = next_pos(at);
         mark(marks, wide(e.owner));
         used = enter(rows, links, most, n, used, e, adds);
         n += 1;

@@ -1,6 +1,6 @@
 -- Laws of what the items of a group have, one for each step of a walk over the entries of a bucket.
 -- Assumes nothing.
-use Prim.Native.Nat.{_<_, ℕ}
+use Prim.Native.Nat.{_<_, ℕ, _-_, _%_}
 use lib.Dec.{eqb}
 use lib.ListN.{length}
 use mathlib.Core.Bool.{Bool, _&&_, _||_, false, not, true}
@@ -71,7 +71,7 @@ property-bucket most es g p is h =
 -- ---- groups that own nothing
 
 -- group k of the bucket of those that own nothing does, and of the bucket of the others does not
-module _ (most : ℕ) (es : List Entry) (g l k : ℕ) (more : 1 < most) (own : eqb (ownerOf es k) g ≡ true)
+module _ (most : ℕ) (es : List Entry) (g l k : ℕ) (more : (most - 1) % 2 ≡ 1) (own : eqb (ownerOf es k) g ≡ true)
     (is : (eqb (nth es k .kind) 7 && eqb (nth es k .name) l) ≡ true) where
   at-code : {code : ℕ} → codeOf (nth es k .kind) (bare es k) ≡ code → bucketOf Specimen most es k ≡ hashOf most g code l
   at-code e =
@@ -90,7 +90,7 @@ module _ (most : ℕ) (es : List Entry) (g l k : ℕ) (more : 1 < most) (own : e
   bare-here e =
       bool-cases (bare es k) (λ y. y) (λ n. absurd (hash-apart most g l more (sym e ∙ at-code (code-full _ kind-is n))))
 
-pub bare-bucket : (most : ℕ) (es : List Entry) (g l : ℕ) {b : ℕ} {r : Bool} → 1 < most → b ≡ hashOf most g 8 l → r ≡ anyOf most es b g 7 l → r ≡ hasBare es g l
+pub bare-bucket : (most : ℕ) (es : List Entry) (g l : ℕ) {b : ℕ} {r : Bool} → (most - 1) % 2 ≡ 1 → b ≡ hashOf most g 8 l → r ≡ anyOf most es b g 7 l → r ≡ hasBare es g l
 unfolding groupsBy anyOf
 bare-bucket most es g l more is h =
     h ∙ rw (is, anyOf, groupsBy)

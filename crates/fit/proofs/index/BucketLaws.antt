@@ -1,15 +1,15 @@
 -- Buckets of entries: which there are, and where the entries of one owner, kind and name stand.
 -- Assumes nothing.
-use Prim.Native.Nat.{_%_, _*_, _+_, _<_, _≤_, suc, zero, ℕ}
+use Prim.Native.Nat.{_%_, _*_, _+_, _<_, _≤_, suc, zero, ℕ, _-_}
+use lib.Bits.{and-le-r, and-step, bitAnd}
 use lib.Dec.{eqb}
 use lib.ListN.{getD, length}
 use mathlib.Core.Bool.{Bool, _&&_, _||_, cond, false, not, true}
 use mathlib.Core.List.{List}
 use mathlib.Core.Logic.{_≢_}
 use mathlib.Core.Path.{_∙_, _≡_, ap, refl, sym}
-use native.Mathlib.Nat.{mod-eq-of-lt, mod-lt, mod-self, suc-mod}
 use native.Mathlib.Omega.{arith}
-use Rattle.base.proofs.Tests.{and-cases, and-left, and-right, bool-cases, both-ways, eq-eqb, eqb-eq, lt-cases, ne-eqb}
+use Rattle.base.proofs.Tests.{and-cases, and-left, and-right, bool-cases, both-ways, eq-eqb, eqb-eq, ne-eqb}
 use Rattle.blocks.specs.Entries.{nth}
 use Rattle.blocks.specs.Owners.{ownerOf}
 use Rattle.blocks.specs.declared.Entry.{Entry}
@@ -23,15 +23,11 @@ use Rattle.meaning.specs.Owned.{allWhere}
 
 pub hash-below : (most o k n : ℕ) → 0 < most → hashOf most o k n < most
 unfolding hashOf
-hash-below most o k n pos = mod-lt (o + (31 * n + k)) pos
+hash-below most o k n pos = omega (arith, and-le-r (o + (31 * n + k)) (most - 1))
 
--- by the size of the table, or by a number that is the size
-pub reduced-is : (x most k : ℕ) → most ≡ k → 0 < most → (x % k ≡ x % most) × (x % k < most)
-reduced-is x most k s pos = rw (← s) (refl, mod-lt x pos)
-
-pub hash-is : (most o k n : ℕ) {m r : ℕ} → m ≡ n → r ≡ (o + (31 * m + k)) % most → r ≡ hashOf most o k n
+pub hash-is : (most o k n : ℕ) {m r : ℕ} → 0 < most → m ≡ n → r ≡ bitAnd (o + (31 * m + k)) (most - 1) → (r ≡ hashOf most o k n) × (r < most)
 unfolding hashOf
-hash-is most o k n e f = f ∙ rw e
+hash-is most o k n {m} pos e f = (f ∙ rw e, omega (arith, f, and-le-r (o + (31 * m + k)) (most - 1)))
 
 pub bucket-below : (σ : Schema) (most : ℕ) (es : List Entry) (k : ℕ) → Ordered es → 1 ≤ k → k ≤ length es → length es < most → bucketOf σ most es k < most
 bucket-below Description most es k O lo hi few = omega (arith, O .earlier k lo hi)
@@ -75,22 +71,15 @@ unfolding ownerOf
 bucket-specimen {most} {total} {marks} es k M n l {e} at mark own code h =
     h ∙ rw (own, code, mark, marked-tells M n k l, at)
 
--- a number and the next have different buckets
-next-apart : (x m : ℕ) → 1 < m → suc x % m ≢ x % m
-next-apart x m h e =
-    let below : x % m < m = mod-lt x (omega arith) in
-    lt-cases (suc (x % m)) m
-    (λ l. omega (arith, suc-mod x m, mod-eq-of-lt l))
-    (λ l.
-    let is : suc (x % m) ≡ m = omega arith in
-    let zero′ : suc (x % m) % m ≡ 0 = rw is (mod-self m) in
-    omega (arith, suc-mod x m, zero′))
+-- a number and the next differ in their lowest bit
+next-apart : (x b : ℕ) → b % 2 ≡ 1 → bitAnd (suc x) b ≢ bitAnd x b
+next-apart x b odd e = omega (arith, and-step (suc x) b, and-step x b)
 
 -- groups that own nothing stand apart from the others of their owner and link
-pub hash-apart : (most o n : ℕ) → 1 < most → hashOf most o 8 n ≢ hashOf most o 7 n
+pub hash-apart : (most o n : ℕ) → (most - 1) % 2 ≡ 1 → hashOf most o 8 n ≢ hashOf most o 7 n
 unfolding hashOf
 hash-apart most o n h e =
-    let next : o + (31 * n + 8) ≡ suc (o + (31 * n + 7)) = omega arith in next-apart (o + (31 * n + 7)) most h (rw next at e)
+    let next : o + (31 * n + 8) ≡ suc (o + (31 * n + 7)) = omega arith in next-apart (o + (31 * n + 7)) (most - 1) h (rw next at e)
 
 -- ---- the entries of an owner that matter stand in one bucket
 

@@ -1,6 +1,6 @@
 -- Laws of meeting an entry, one for each way through the code.
 -- Assumes nothing.
-use Prim.Native.Nat.{_-_, _<_, suc, zero, ℕ}
+use Prim.Native.Nat.{_-_, _<_, suc, zero, ℕ, _%_}
 use lib.Dec.{eqb}
 use lib.ListN.{getD, length}
 use mathlib.Core.Bool.{Bool, _&&_, _||_, false, not, true}
@@ -72,7 +72,7 @@ module _ {most : ℕ} {s : List ℕ} {total : ℕ} {t : List ℕ} (R : Ready Spe
   pub other-passes : r ≡ false → ownFits left (entriesOf s) d e g l k ≡ true
   other-passes q = owned-else R g 7 l k a b q (λ o. rw o) (λ m. rw m (or-one (not (eqb (ownerOf (entriesOf s) k) g))))
 
-  pub group-decides : {f : Bool} → bucketOf Specimen most (entriesOf s) k ≡ hashOf most g 7 l → 1 < most → r ≡ true → f ≡ fitsPlace left (entriesOf s) d k e
+  pub group-decides : {f : Bool} → bucketOf Specimen most (entriesOf s) k ≡ hashOf most g 7 l → (most - 1) % 2 ≡ 1 → r ≡ true → f ≡ fitsPlace left (entriesOf s) d k e
       → ownFits left (entriesOf s) d e g l k ≡ f
   group-decides at more q h =
       let y = owned-here R g 7 l k a b q in rw (y .0, y .1, full-here most (entriesOf s) g l k more (y .0) (y .1) at) (sym h)

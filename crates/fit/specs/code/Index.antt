@@ -4,7 +4,8 @@
 use mathlib.Core.Path.{_≡_}
 use mathlib.Core.Bool.{Bool, _&&_, _||_, cond, not}
 use mathlib.Core.List.{List}
-use Prim.Native.Nat.{ℕ, _+_, _*_, _%_, _≤_, _<_}
+use Prim.Native.Nat.{ℕ, _+_, _*_, _%_, _≤_, _<_, _-_}
+use lib.Bits.{bitAnd}
 use lib.Dec.{eqb}
 use lib.ListN.{length, getD, set}
 use Rattle.base.specs.Chain.{Chains}
@@ -16,13 +17,18 @@ use Rattle.blocks.specs.Owners.{ownerOf}
 use Rattle.fit.specs.code.Bare.{bare}
 use Rattle.meaning.specs.Owned.{allWhere}
 
+-- the index of the bytes of the entry after one: a block has 63 entries, from its byte 4 on
+unfoldable pub nextPos : ℕ → ℕ
+nextPos at = cond (eqb (at % 512) 500) (at + 16) (at + 8)
+
 -- an entry of this owner, kind and name
 abbrev pub isOf : Entry → ℕ → ℕ → ℕ → Bool
 isOf e g kind name = eqb (e .owner) g && (eqb (e .kind) kind && eqb (e .name) name)
 
--- the bucket, of `most`, of an owner, a kind and a name: of one kind and name, different owners below `most` have different buckets
+-- the bucket, of `most`, of an owner, a kind and a name: where `most` is a power of two, different owners below it have different buckets for one kind
+-- and name
 unfoldable pub hashOf : ℕ → ℕ → ℕ → ℕ → ℕ
-hashOf most o k n = (o + (31 * n + k)) % most
+hashOf most o k n = bitAnd (o + (31 * n + k)) (most - 1)
 
 -- the bucket of an entry with this owner, kind and name: in a description its owner alone
 abbrev pub bucketBy : Schema → ℕ → ℕ → ℕ → ℕ → ℕ

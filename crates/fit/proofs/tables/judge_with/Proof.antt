@@ -11,18 +11,18 @@ use Rattle.fit.proofs.tables.judge_with.Tie as tie
 fill-totals-requires : tie.Need-fill-totals-requires
 fill-totals-requires c κs =
     let a = c .before .before .before .before .before .before .before .before .before .before .before .before in
-    let f = accepted-facts _ _ _ (a .pre .0) in (f .0, a .pre .2, a .pre .4, a .pre .8, a .pre .9, refl, f .2, a .pre .10)
+    let f = accepted-facts _ _ _ (a .pre .0) in (f .0, a .pre .2, a .pre .4, a .pre .8, a .pre .9, refl, f .2, a .pre .10, f .3)
 
 index-specimen-requires : tie.Need-index-specimen-requires
 index-specimen-requires c κs =
     let t = c .before .before .before .before .before .before .before .before in
     let a = t .before .before .before .before .before .before .before .before .before .before .before .before .before in
-    let f = accepted-facts _ _ _ (a .pre .0) in (f .0, a .pre .2, a .pre .4, f .2, t .fill-totals .ensures .3, a .pre .6)
+    let f = accepted-facts _ _ _ (a .pre .0) in (f .0, a .pre .2, a .pre .4, f .2, f .3, t .fill-totals .ensures .3, a .pre .6)
 
 index-description-requires : tie.Need-index-description-requires
 index-description-requires c κs =
     let a = c .before .before .before .before .before .before .before .before .before .before .before .before .before .before .before .before .before .before .before .before .before .before .before .before .before .before in
-    let f = accepted-facts _ _ _ (a .pre .1) in (f .0, a .pre .3, a .pre .4, f .2, a .pre .7, a .pre .11)
+    let f = accepted-facts _ _ _ (a .pre .1) in (f .0, a .pre .3, a .pre .4, f .2, f .3, a .pre .7, a .pre .11)
 
 fits-place-requires : tie.Need-fits-place-requires
 fits-place-requires c κs =
