@@ -1,8 +1,8 @@
 //! The plain Rust gives the same answers and output bytes as the reference, and so does the proved library.
 
 use bench::inputs::{
-    entry, one_link_at_least, one_link_every, one_link_place, single_links, worst_fit, Chance, Model,
-    Shape,
+    entry, one_link_at_least, one_link_every, one_link_place, single_links, worst_fit, Chance,
+    Model, Shape,
 };
 use bench::plain;
 use reference::{encode, Entry};
