@@ -1,6 +1,16 @@
 -- Numbers of entries that are moved, and tables of new numbers.
 pub mod Numbers
+-- Owners that are allowed, entry by entry, and what unfolding does with one entry.
+pub mod OwnerSteps
+-- Owners that are allowed, by number and entry by entry: the same.
+pub mod OwnersByNumber
+-- What is made of the descriptions of a dictionary in turn.
+pub mod InTurn
 -- Trees of rows that stand in a row, and of rows that were moved.
 pub mod JoinedTrees
+-- The tree of an unfolded description: the trees of the contents, put in at the places of their names.
+pub mod UnfoldTree
+-- "Unfolding writes a plain description of the same meaning".
+pub mod UnfoldMeans
 -- Unfolding by examples.
 pub mod UnfoldExamples

@@ -2,3 +2,5 @@
 pub mod Unfold
 -- What a description with names means, with no unfolding in sight.
 pub mod NamedMeaning
+-- What the promises on named descriptions speak of.
+pub mod Promise

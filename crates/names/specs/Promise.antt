@@ -1,0 +1,30 @@
+-- What the promises on named descriptions speak of.
+-- Assumes nothing.
+use Prim.Native.Nat.{_≤_, suc, ℕ}
+use lib.ListN.{length}
+use mathlib.Core.Bool.{true}
+use mathlib.Core.List.{List, [], _∷_}
+use mathlib.Core.Path.{_≡_}
+use Rattle.blocks.specs.Owners.{ownerOk}
+use Rattle.blocks.specs.declared.Entry.{Entry}
+use Rattle.blocks.specs.declared.Schema.the-variants.{Description}
+use Rattle.logic.specs.Record.{Record, fits}
+use Rattle.meaning.specs.Description.{placeOf}
+use Rattle.names.specs.NamedMeaning.{fitsNamed}
+use Rattle.names.specs.Unfold.{unfoldedBy}
+
+-- each entry is owned by the top or by an earlier 'every': so by no name
+abbrev pub OwnersOk : List Entry → Type 0
+OwnersOk es = (n : ℕ) → 1 ≤ n → n ≤ length es → ownerOk Description es n ≡ true
+
+-- each description of a dictionary is as P says, where k descriptions stand before them
+abbrev pub EachAfter : (ℕ → List Entry → Type 0) → ℕ → List (List Entry) → Type 0
+EachAfter P k [] = Unit {0}
+EachAfter P k (d ∷ ds) = P k d × EachAfter P (suc k) ds
+
+abbrev pub Each : (ℕ → List Entry → Type 0) → List (List Entry) → Type 0
+Each P K = EachAfter P 0 K
+
+-- "Unfolding writes a plain description of the same meaning": the same items fit, in every record
+abbrev pub SameMeaning : List (List Entry) → List Entry → Type 0
+SameMeaning K es = (c : Record) (x : ℕ) → fits c (placeOf (unfoldedBy K es) 0) x ≡ fitsNamed c K es x
