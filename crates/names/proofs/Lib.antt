@@ -12,5 +12,9 @@ pub mod JoinedTrees
 pub mod UnfoldTree
 -- "Unfolding writes a plain description of the same meaning".
 pub mod UnfoldMeans
+-- The number of entries of an unfolded description.
+pub mod UnfoldSize
+-- What holds of each entry of a list, and of each entry of an unfolded one. A description without names unfolds to itself.
+pub mod EachEntry
 -- Unfolding by examples.
 pub mod UnfoldExamples

@@ -2,5 +2,7 @@
 pub mod Unfold
 -- What a description with names means, with no unfolding in sight.
 pub mod NamedMeaning
+-- How many entries a description with names has once unfolded, and how deep they stand: worked out without unfolding it.
+pub mod Measures
 -- What the promises on named descriptions speak of.
 pub mod Promise

@@ -2,16 +2,21 @@
 -- Assumes nothing.
 use Prim.Native.Nat.{_≤_, suc, ℕ}
 use lib.ListN.{length}
-use mathlib.Core.Bool.{true}
+use mathlib.Core.Bool.{false, true}
 use mathlib.Core.List.{List, [], _∷_}
 use mathlib.Core.Path.{_≡_}
+use Rattle.blocks.specs.Entries.{nth}
 use Rattle.blocks.specs.Owners.{ownerOk}
 use Rattle.blocks.specs.declared.Entry.{Entry}
 use Rattle.blocks.specs.declared.Schema.the-variants.{Description}
 use Rattle.logic.specs.Record.{Record, fits}
 use Rattle.meaning.specs.Description.{placeOf}
 use Rattle.names.specs.NamedMeaning.{fitsNamed}
-use Rattle.names.specs.Unfold.{unfoldedBy}
+use Rattle.names.specs.Unfold.{isNamed, unfoldedBy}
+
+-- no entry is a name
+abbrev pub Plain : List Entry → Type 0
+Plain es = (n : ℕ) → 1 ≤ n → n ≤ length es → isNamed (nth es n) ≡ false
 
 -- each entry is owned by the top or by an earlier 'every': so by no name
 abbrev pub OwnersOk : List Entry → Type 0
