@@ -16,5 +16,11 @@ pub mod UnfoldMeans
 pub mod UnfoldSize
 -- What holds of each entry of a list, and of each entry of an unfolded one. A description without names unfolds to itself.
 pub mod EachEntry
+-- The owners of an unfolded description are allowed.
+pub mod UnfoldOwners
+-- Levels put in at a depth, and the levels of moved entries.
+pub mod LevelSteps
+-- The levels of an unfolded description.
+pub mod UnfoldLevels
 -- Unfolding by examples.
 pub mod UnfoldExamples

@@ -31,6 +31,11 @@ pub shifted-apart : (m o i j : ℕ) → i ≤ m → eqb i o ≡ false → eqb i 
 shifted-apart m o i zero l z = z
 shifted-apart m o i (suc j) l z = omega tests
 
+-- which number is moved to a later one
+pub shifted-is : (m o j k : ℕ) → o ≤ m → 1 ≤ k → eqb (shifted m o j) (m + k) ≡ eqb j k
+shifted-is m o zero k l h = let a : eqb o (m + k) ≡ false = omega tests in let b : eqb 0 k ≡ false = omega tests in a ∙ sym b
+shifted-is m o (suc j) k l h = iff-eq (λ e. let q : m + suc j ≡ m + k = eqb-eq e in omega tests) (λ e. let q : suc j ≡ k = eqb-eq e in omega tests)
+
 -- ---- owners
 
 -- `own` tells which numbers may own; entry k may too if it is an 'every'
