@@ -22,5 +22,9 @@ pub mod UnfoldOwners
 pub mod LevelSteps
 -- The levels of an unfolded description.
 pub mod UnfoldLevels
+-- The levels of a list, and the depths of its entries.
+pub mod LevelsDepth
+-- An unfolded description is legal, if its levels allow it.
+pub mod UnfoldLegal
 -- Unfolding by examples.
 pub mod UnfoldExamples

@@ -4,5 +4,7 @@ pub mod Unfold
 pub mod NamedMeaning
 -- How many entries a description with names has once unfolded, and how deep they stand: worked out without unfolding it.
 pub mod Measures
+-- The table of kinds, for descriptions with names.
+pub mod NamedForm
 -- What the promises on named descriptions speak of.
 pub mod Promise

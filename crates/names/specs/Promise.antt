@@ -6,11 +6,13 @@ use mathlib.Core.Bool.{false, true}
 use mathlib.Core.List.{List, [], _∷_}
 use mathlib.Core.Path.{_≡_}
 use Rattle.blocks.specs.Entries.{nth}
-use Rattle.blocks.specs.Owners.{ownerOk}
+use Rattle.blocks.specs.Owners.{depthOk, ownerOk}
 use Rattle.blocks.specs.declared.Entry.{Entry}
 use Rattle.blocks.specs.declared.Schema.the-variants.{Description}
 use Rattle.logic.specs.Record.{Record, fits}
 use Rattle.meaning.specs.Description.{placeOf}
+use Rattle.names.specs.Measures.{levelsNamed, levelsNth, sizeNamed, sizeNth}
+use Rattle.names.specs.NamedForm.{nameGiven, namedFormOk}
 use Rattle.names.specs.NamedMeaning.{fitsNamed}
 use Rattle.names.specs.Unfold.{isNamed, unfoldedBy}
 
@@ -33,3 +35,21 @@ Each P K = EachAfter P 0 K
 -- "Unfolding writes a plain description of the same meaning": the same items fit, in every record
 abbrev pub SameMeaning : List (List Entry) → List Entry → Type 0
 SameMeaning K es = (c : Record) (x : ℕ) → fits c (placeOf (unfoldedBy K es) 0) x ≡ fitsNamed c K es x
+
+-- each entry has an allowed form, a name that may be given if it is a name, an allowed owner and an allowed depth
+pub record LegalNamed (most : ℕ) (es : List Entry) : Type 0 where
+  pub form : (n : ℕ) → 1 ≤ n → n ≤ length es → namedFormOk (nth es n) ≡ true
+  pub name : (n : ℕ) → 1 ≤ n → n ≤ length es → nameGiven most (nth es n) ≡ true
+  pub owner : OwnersOk es
+  pub depth : (n : ℕ) → 1 ≤ n → n ≤ length es → depthOk es n ≡ true
+
+-- 14 does not apply: "of more than 1,008 entries or depth over 32 once unfolded"
+pub record Within (K : List (List Entry)) (es : List Entry) : Type 0 where
+  pub size : sizeNamed K es ≤ 1008
+  pub levels : levelsNamed K es ≤ 33
+
+-- "A dictionary description may name only earlier ones", and 14 applies to none
+pub record LegalDictionary (K : List (List Entry)) : Type 0 where
+  pub each : Each LegalNamed K
+  pub size : (n : ℕ) → sizeNth K n ≤ 1008
+  pub levels : (n : ℕ) → levelsNth K n ≤ 33

@@ -1,0 +1,119 @@
+-- An unfolded description is legal, if its levels allow it.
+-- Assumes nothing.
+use Prim.Native.Nat.{_≤_, suc, zero, ℕ}
+use lib.Dec.{leb}
+use lib.ListN.{length}
+use mathlib.Core.Bool.{false, true}
+use mathlib.Core.List.{List, [], _∷_}
+use mathlib.Core.Path.{_∙_, _≡_, ap, fun-ext, refl, sym}
+use native.Mathlib.Omega.{arith}
+use Rattle.base.proofs.Tests.{leb-le, tests}
+use Rattle.blocks.proofs.Refusing.Legal.{form-kind}
+use Rattle.blocks.specs.Entries.{formOk, nth}
+use Rattle.blocks.specs.Owners.{depthOf, depthOk}
+use Rattle.blocks.specs.Promise.{Legal}
+use Rattle.blocks.specs.declared.Entry.{Entry}
+use Rattle.blocks.specs.declared.Schema.the-variants.{Description}
+use Rattle.names.proofs.EachEntry.{EachEntry, each-of-numbers, numbers-of-each, unfold-each}
+use Rattle.names.proofs.InTurn.{in-turn}
+use Rattle.names.proofs.LevelsDepth.{depth-within, levels-within}
+use Rattle.names.proofs.OwnersByNumber.{owners-of-numbers}
+use Rattle.names.proofs.UnfoldLevels.{unfold-levels}
+use Rattle.names.proofs.UnfoldOwners.{unfold-owners-ok}
+use Rattle.names.specs.Measures.{levelsBy, levelsFrom, levelsNamed, levelsNth, levelsOf}
+use Rattle.names.specs.NamedForm.{namedFormOk}
+use Rattle.names.specs.Promise.{Each, EachAfter, LegalDictionary, LegalNamed, OwnersOk, Plain, Within}
+use Rattle.names.specs.Unfold.{contents, isNamed, unfolded, unfoldedBy}
+
+-- an entry has a form that plain descriptions allow
+abbrev Formed : Entry → Type 0
+Formed e = formOk Description e ≡ true
+
+-- a list of entries of allowed forms, with allowed owners, and l levels
+record Built (es : List Entry) (l : ℕ) : Type 0 where
+  form : EachEntry Formed es
+  owner : OwnersOk es
+  levels : levelsOf es ≡ l
+
+-- it is legal if there are no more than 33
+built-legal : (es : List Entry) (l : ℕ) → Built es l → l ≤ 33 → Legal Description es
+unfolding depthOk
+built-legal es l B h = record {
+  form = numbers-of-each Formed es (B .form);
+  owner = B .owner;
+  depth = λ n lo hi. let d = depth-within es (B .owner) 33 (omega (arith, B .levels)) n lo hi in omega tests;
+}
+
+-- nothing is built of nothing
+built-none : Built [] 0
+unfolding levelsFrom
+built-none = record { form = tt; owner = λ n lo hi. absurd (omega arith); levels = refl }
+
+-- an entry that is no name
+form-plain : (e : Entry) → namedFormOk e ≡ true → isNamed e ≡ false → Formed e
+unfolding namedFormOk
+form-plain e h q = rw q at h
+
+-- a description unfolded by what is built
+built-unfolded : (T : ℕ → List Entry) (L : ℕ → ℕ) (es : List Entry) → ((n : ℕ) → Built (T n) (L n))
+    → ((n : ℕ) → 1 ≤ n → n ≤ length es → namedFormOk (nth es n) ≡ true) → OwnersOk es → Built (unfolded T es) (levelsBy L es)
+unfolding formOk
+built-unfolded T L es B form own =
+    record {
+      form = unfold-each Formed (λ o e h. h) T (λ n. B n .form) es (λ n lo hi q. form-plain (nth es n) (form n lo hi) q);
+      owner = unfold-owners-ok T (λ n. B n .owner) es own;
+      levels = unfold-levels (λ n. 1) T (λ n. owners-of-numbers (T n) (B n .owner)) es (owners-of-numbers es own)
+          ∙ ap (λ (f : ℕ → ℕ). levelsBy f es) (fun-ext (λ n. B n .levels));
+    }
+
+-- ---- contents of any origin
+
+-- a description with names that stand for legal contents is legal, once unfolded, if it has no more than 33 levels then
+pub unfold-legal-by : (T : ℕ → List Entry) → ((n : ℕ) → Legal Description (T n)) → (most : ℕ) (es : List Entry) → LegalNamed most es
+    → levelsBy (λ n. levelsOf (T n)) es ≤ 33 → Legal Description (unfolded T es)
+unfold-legal-by T legal most es N h =
+    built-legal (unfolded T es) (levelsBy (λ n. levelsOf (T n)) es)
+    (built-unfolded T (λ n. levelsOf (T n)) es
+    (λ n. record { form = each-of-numbers Formed (T n) (legal n .form); owner = legal n .owner; levels = refl }) (N .form) (N .owner))
+    h
+
+-- ---- the contents of a dictionary
+
+contents-built : (K : List (List Entry)) → Each LegalNamed K → (n : ℕ) → Built (contents K n) (levelsNth K n)
+unfolding contents levelsNth
+contents-built K each =
+    in-turn Built LegalNamed unfolded levelsBy (λ k T L d N B. built-unfolded T L d B (N .form) (N .owner)) 0 (λ n. []) (λ n. 0) K each (λ n. built-none)
+
+named-built : (K : List (List Entry)) → Each LegalNamed K → (most : ℕ) (es : List Entry) → LegalNamed most es → Built (unfoldedBy K es) (levelsNamed K es)
+unfolding unfoldedBy levelsNamed
+named-built K each most es N = built-unfolded (contents K) (levelsNth K) es (contents-built K each) (N .form) (N .owner)
+
+-- the contents of each description of a dictionary are a legal description
+pub contents-legal : (K : List (List Entry)) → LegalDictionary K → (n : ℕ) → Legal Description (contents K n)
+contents-legal K D n = built-legal (contents K n) (levelsNth K n) (contents-built K (D .each) n) (D .levels n)
+
+-- and so is an accepted description, once unfolded
+pub unfold-legal : (K : List (List Entry)) → LegalDictionary K → (most : ℕ) (es : List Entry) → LegalNamed most es → Within K es
+    → Legal Description (unfoldedBy K es)
+unfold-legal K D most es N W = built-legal (unfoldedBy K es) (levelsNamed K es) (named-built K (D .each) most es N) (W .levels)
+
+-- ---- 14 by the levels that are worked out, and by the unfolded description
+
+pub named-levels : (K : List (List Entry)) → Each LegalNamed K → (most : ℕ) (es : List Entry) → LegalNamed most es
+    → levelsOf (unfoldedBy K es) ≡ levelsNamed K es
+named-levels K each most es N = named-built K each most es N .levels
+
+-- depths of at most 32 are levels of at most 33
+pub named-depths : (K : List (List Entry)) → Each LegalNamed K → (most : ℕ) (es : List Entry) → LegalNamed most es
+    → ((n : ℕ) → 1 ≤ n → n ≤ length (unfoldedBy K es) → depthOk (unfoldedBy K es) n ≡ true) → levelsNamed K es ≤ 33
+unfolding depthOk
+named-depths K each most es N h =
+    let B = named-built K each most es N in
+    let l = levels-within (unfoldedBy K es) (B .owner) 33 (λ n lo hi. let d : depthOf (unfoldedBy K es) n ≤ 32 = leb-le (h n lo hi) in omega arith) in
+    omega (arith, B .levels)
+
+-- ---- no names are left
+
+-- a legal description has no names
+pub legal-plain : (es : List Entry) → Legal Description es → Plain es
+legal-plain es L n lo hi = let k = form-kind (nth es n) (L .form n lo hi) in omega (tests, k .1)
