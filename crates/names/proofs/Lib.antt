@@ -26,5 +26,9 @@ pub mod UnfoldLevels
 pub mod LevelsDepth
 -- An unfolded description is legal, if its levels allow it.
 pub mod UnfoldLegal
+-- Unfolding goes by the numbers of owners only: entries in a row, entries that are written later, and entries that stood later.
+pub mod MovedUnfolding
+-- Replacing some names first, and those that are left after that, is replacing all at once.
+pub mod UnfoldTwice
 -- Unfolding by examples.
 pub mod UnfoldExamples
