@@ -30,5 +30,8 @@ pub mod UnfoldLegal
 pub mod MovedUnfolding
 -- Replacing some names first, and those that are left after that, is replacing all at once.
 pub mod UnfoldTwice
+-- The contents of a description are the description as it stands, unfolded by all contents; and replacing names by what stands for the same
+-- changes nothing.
+pub mod ContentsUnfold
 -- Unfolding by examples.
 pub mod UnfoldExamples

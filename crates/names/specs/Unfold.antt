@@ -53,7 +53,11 @@ unfoldable pub inTurn : {A : Type 0} → ((ℕ → A) → List Entry → A) → 
 inTurn f made k [] = made
 inTurn f made k (d ∷ ds) = inTurn f (noted made k (f made d)) (suc k) ds
 
--- the contents of the n-th description of a dictionary, without names; none for 0 and past the end
+-- the n-th description of a dictionary, as it stands; none for 0 and past the end
+unfoldable pub described : List (List Entry) → ℕ → List Entry
+described K = inTurn (λ made d. d) (λ n. []) 1 K
+
+-- its contents: without names, each replaced by the contents of an earlier description
 unfoldable pub contents : List (List Entry) → ℕ → List Entry
 contents K = inTurn unfolded (λ n. []) 1 K
 
