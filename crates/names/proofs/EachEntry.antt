@@ -3,7 +3,7 @@
 use Prim.Native.Nat.{_+_, _<_, _≤_, suc, zero, ℕ}
 use lib.Dec.{eqb}
 use lib.ListN.{getD, length}
-use mathlib.Core.Bool.{cond, false}
+use mathlib.Core.Bool.{cond, false, true}
 use mathlib.Core.List.{List, [], _++_, _∷_, map}
 use mathlib.Core.Path.{_∙_, _≡_, refl, sym}
 use native.Mathlib.Omega.{arith}
@@ -46,22 +46,25 @@ module _ (P : Entry → Type 0) where
     each-moved m o [] ys h g = g
     each-moved m o (e ∷ xs) ys h g = (any _ e (h .0), each-moved m o xs ys (h .1) g)
 
-    unfold-each-from : (T : ℕ → List Entry) → ((n : ℕ) → EachEntry (T n)) → (ν : ℕ → ℕ) (k m : ℕ) (es : List Entry)
-        → ((i : ℕ) → i < length es → isNamed (getD es i zeroEntry) ≡ false → P (getD es i zeroEntry)) → EachEntry (unfoldFrom T ν k m es)
+    -- what is asked of an entry that is to be unfolded: of the contents if it is a name, else of itself
+    abbrev pub Unfolds : (ℕ → List Entry) → Entry → Type 0
+    Unfolds T e = (isNamed e ≡ true → EachEntry (T (e .name))) × (isNamed e ≡ false → P e)
+
+    unfold-each-from : (T : ℕ → List Entry) (ν : ℕ → ℕ) (k m : ℕ) (es : List Entry)
+        → ((i : ℕ) → i < length es → Unfolds T (getD es i zeroEntry)) → EachEntry (unfoldFrom T ν k m es)
     unfolding unfoldFrom
-    unfold-each-from T t ν k m [] h = tt
-    unfold-each-from T t ν k m (e ∷ es) h =
+    unfold-each-from T ν k m [] h = tt
+    unfold-each-from T ν k m (e ∷ es) h =
         bool-cases (isNamed e)
         (λ q. rw (unfold-name T ν k m e es q)
-        (each-moved m (ν (e .owner)) (T (e .name)) (unfoldFrom T ν (suc k) (m + length (T (e .name))) es) (t (e .name))
-        (unfold-each-from T t ν (suc k) (m + length (T (e .name))) es (λ i l. h (suc i) (omega arith)))))
+        (each-moved m (ν (e .owner)) (T (e .name)) (unfoldFrom T ν (suc k) (m + length (T (e .name))) es) (h 0 (omega arith) .0 q)
+        (unfold-each-from T ν (suc k) (m + length (T (e .name))) es (λ i l. h (suc i) (omega arith)))))
         (λ q. rw (unfold-entry T ν k m e es q)
-        (any _ e (h 0 (omega arith) q), unfold-each-from T t (noted ν k (suc m)) (suc k) (suc m) es (λ i l. h (suc i) (omega arith))))
+        (any _ e (h 0 (omega arith) .1 q), unfold-each-from T (noted ν k (suc m)) (suc k) (suc m) es (λ i l. h (suc i) (omega arith))))
 
-    pub unfold-each : (T : ℕ → List Entry) → ((n : ℕ) → EachEntry (T n)) → (es : List Entry)
-        → ((n : ℕ) → 1 ≤ n → n ≤ length es → isNamed (nth es n) ≡ false → P (nth es n)) → EachEntry (unfolded T es)
+    pub unfold-each : (T : ℕ → List Entry) (es : List Entry) → ((n : ℕ) → 1 ≤ n → n ≤ length es → Unfolds T (nth es n)) → EachEntry (unfolded T es)
     unfolding unfolded nth
-    unfold-each T t es h = unfold-each-from T t (λ j. j) 1 0 es (λ i l. h (suc i) (omega arith) (omega arith))
+    unfold-each T es h = unfold-each-from T (λ j. j) 1 0 es (λ i l. h (suc i) (omega arith) (omega arith))
 
 -- ---- no names
 

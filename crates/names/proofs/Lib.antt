@@ -30,8 +30,10 @@ pub mod UnfoldLegal
 pub mod MovedUnfolding
 -- Replacing some names first, and those that are left after that, is replacing all at once.
 pub mod UnfoldTwice
--- The contents of a description are the description as it stands, unfolded by all contents; and replacing names by what stands for the same
--- changes nothing.
+-- What is made of the descriptions of a dictionary in turn is made of each by all the values: it names only earlier ones.
+pub mod ByAllValues
+-- The contents of a description are the description as it stands, unfolded by all contents; and names replaced by what stands for the same
+-- change nothing.
 pub mod ContentsUnfold
 -- Unfolding by examples.
 pub mod UnfoldExamples

@@ -60,7 +60,7 @@ built-unfolded : (T : ℕ → List Entry) (L : ℕ → ℕ) (es : List Entry) �
 unfolding formOk
 built-unfolded T L es B form own =
     record {
-      form = unfold-each Formed (λ o e h. h) T (λ n. B n .form) es (λ n lo hi q. form-plain (nth es n) (form n lo hi) q);
+      form = unfold-each Formed (λ o e h. h) T es (λ n lo hi. (λ q. B (nth es n .name) .form, form-plain (nth es n) (form n lo hi)));
       owner = unfold-owners-ok T (λ n. B n .owner) es own;
       levels = unfold-levels (λ n. 1) T (λ n. owners-of-numbers (T n) (B n .owner)) es (owners-of-numbers es own)
           ∙ ap (λ (f : ℕ → ℕ). levelsBy f es) (fun-ext (λ n. B n .levels));

@@ -8,3 +8,5 @@ pub mod Measures
 pub mod NamedForm
 -- What the promises on named descriptions speak of.
 pub mod Promise
+-- Mirrors of the code to come: no promise to the customer cites these.
+pub mod code
