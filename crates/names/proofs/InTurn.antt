@@ -24,3 +24,8 @@ module _ {A B : Type 0} (R : A → B → Type 0) where
   in-turn P f g step k s t (d ∷ ds) e h =
       in-turn P f g step (suc k) (noted s (suc k) (f s d)) (noted t (suc k) (g t d)) ds (e .1)
       (noted-both s t (suc k) (f s d) (g t d) h (step k s t d (e .0) h))
+
+-- where nothing is asked of the descriptions
+pub each-any : (k : ℕ) (K : List (List Entry)) → EachAfter (λ k d. Unit {0}) k K
+each-any k [] = tt
+each-any k (d ∷ K) = (tt, each-any (suc k) K)

@@ -35,5 +35,9 @@ pub mod ByAllValues
 -- The contents of a description are the description as it stands, unfolded by all contents; and names replaced by what stands for the same
 -- change nothing.
 pub mod ContentsUnfold
+-- Ranks of descriptions: 0 exactly for those that stand for nothing, and names have lower ranks than what they stand in.
+pub mod Ranks
+-- Unfolding in passes, the names of the greatest rank first, is unfolding; and no pass needs more room than what is unfolded.
+pub mod PassStages
 -- Unfolding by examples.
 pub mod UnfoldExamples

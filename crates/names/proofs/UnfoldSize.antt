@@ -8,10 +8,9 @@ use mathlib.Core.Path.{_∙_, _≡_, ap, fun-ext, refl}
 use native.Mathlib.Omega.{arith}
 use Rattle.base.proofs.Tests.{bool-cases}
 use Rattle.blocks.specs.declared.Entry.{Entry}
-use Rattle.names.proofs.InTurn.{in-turn}
+use Rattle.names.proofs.InTurn.{each-any, in-turn}
 use Rattle.names.proofs.OwnerSteps.{unfold-entry, unfold-name}
 use Rattle.names.specs.Measures.{sizeBy, sizeNamed, sizeNth}
-use Rattle.names.specs.Promise.{EachAfter}
 use Rattle.names.specs.Unfold.{contents, isNamed, noted, relocate, unfoldFrom, unfolded, unfoldedBy}
 
 -- unfolded by contents, it has their sizes in the places of the names
@@ -32,11 +31,6 @@ size-from T ν k m (e ∷ es) =
 pub unfold-size : (T : ℕ → List Entry) (es : List Entry) → length (unfolded T es) ≡ sizeBy (λ n. length (T n)) es
 unfolding unfolded
 unfold-size T es = size-from T (λ j. j) 1 0 es
-
--- any list is all of some dictionary's descriptions
-each-any : (k : ℕ) (K : List (List Entry)) → EachAfter (λ k d. Unit {0}) k K
-each-any k [] = tt
-each-any k (d ∷ K) = (tt, each-any (suc k) K)
 
 -- the contents of a dictionary
 pub contents-size : (K : List (List Entry)) (n : ℕ) → length (contents K n) ≡ sizeNth K n

@@ -44,9 +44,12 @@ emptied K n = cond (eqb (rankNth K n) 0) [] (nameAgain n)
 unfoldable pub opened : List (List Entry) → ℕ → ℕ → List Entry
 opened K r n = cond (eqb (rankNth K n) r) (unfolded (emptied K) (described K n)) (nameAgain n)
 
--- where unfolding stands before the pass of rank r: the names that are left have ranks from 1 to r, and the entries stand for `whole`
+-- an entry that is no name, or a name of a rank from 1 to r
+abbrev pub Left : List (List Entry) → ℕ → Entry → Type 0
+Left K r e = isNamed e ≡ true → (1 ≤ rankNth K (e .name)) × (rankNth K (e .name) ≤ r)
+
+-- where unfolding stands before the pass of rank r: the entries stand for `whole`, and the names that are left have ranks from 1 to r
 pub record Stage (K : List (List Entry)) (whole : List Entry) (r : ℕ) (es : List Entry) : Type 0 where
   pub owner : OwnersOk es
-  pub low : (n : ℕ) → 1 ≤ n → n ≤ length es → isNamed (nth es n) ≡ true → 1 ≤ rankNth K (nth es n .name)
-  pub high : (n : ℕ) → 1 ≤ n → n ≤ length es → isNamed (nth es n) ≡ true → rankNth K (nth es n .name) ≤ r
+  pub left : (n : ℕ) → 1 ≤ n → n ≤ length es → Left K r (nth es n)
   pub same : unfoldedBy K es ≡ whole
