@@ -1,10 +1,6 @@
 -- Unfolding by examples.
 -- Assumes nothing.
-use Prim.Native.Nat.{_+_, suc, zero, ℕ}
-use lib.Dec.{eqb}
-use lib.ListN.{length}
-use mathlib.Core.Bool.{cond}
-use mathlib.Core.List.{List, [], _++_, _∷_, map}
+use mathlib.Core.List.{List, [], _∷_}
 use mathlib.Core.Path.{_≡_, refl}
 use Rattle.blocks.specs.Entries.{entry}
 use Rattle.blocks.specs.declared.Entry.{Entry}

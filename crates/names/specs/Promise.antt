@@ -7,6 +7,7 @@ use mathlib.Core.List.{List, [], _∷_}
 use mathlib.Core.Path.{_≡_}
 use Rattle.blocks.specs.Entries.{nth}
 use Rattle.blocks.specs.Owners.{depthOk, ownerOk}
+use Rattle.blocks.specs.Promise.{Legal}
 use Rattle.blocks.specs.declared.Entry.{Entry}
 use Rattle.blocks.specs.declared.Schema.the-variants.{Description}
 use Rattle.logic.specs.Record.{Record, fits}
@@ -53,3 +54,21 @@ pub record LegalDictionary (K : List (List Entry)) : Type 0 where
   pub each : Each LegalNamed K
   pub size : (n : ℕ) → sizeNth K n ≤ 1008
   pub levels : (n : ℕ) → levelsNth K n ≤ 33
+
+-- "A description is now accepted if 13 and 14 don't apply to it either and the call's dictionary isn't refused": by its entries
+pub record AcceptedNamed (K : List (List Entry)) (es : List Entry) : Type 0 where
+  pub dictionary : LegalDictionary K
+  pub legal : LegalNamed (length K) es
+  pub within : Within K es
+
+-- 14 by the unfolded description
+pub record WithinOnceUnfolded (K : List (List Entry)) (es : List Entry) : Type 0 where
+  pub size : length (unfoldedBy K es) ≤ 1008
+  pub depth : (n : ℕ) → 1 ≤ n → n ≤ length (unfoldedBy K es) → depthOk (unfoldedBy K es) n ≡ true
+
+-- "Unfolding writes a plain description of the same meaning": one that no rule refuses, which fits in 16 blocks
+pub record UnfoldsPlainly (K : List (List Entry)) (es : List Entry) : Type 0 where
+  pub legal : Legal Description (unfoldedBy K es)
+  pub plain : Plain (unfoldedBy K es)
+  pub size : length (unfoldedBy K es) ≤ 1008
+  pub means : SameMeaning K es

@@ -1,6 +1,6 @@
 -- Unfolding in passes, the names of the greatest rank first.
 -- Assumes nothing.
-use Prim.Native.Nat.{_≤_, max, zero, ℕ}
+use Prim.Native.Nat.{_≤_, max, ℕ}
 use lib.Dec.{eqb}
 use lib.ListN.{length}
 use mathlib.Core.Bool.{cond, true}

@@ -11,7 +11,7 @@ use native.Mathlib.Nat.{add-suc, add-zero}
 use native.Mathlib.Omega.{arith}
 use Rattle.base.proofs.Tests.{bool-cases, tests}
 use Rattle.logic.specs.Tree.{Row, Tree, end, leaf, leafRow, node, nodeRow, rowOwner, tree}
-use Rattle.names.proofs.Numbers.{shifted-apart, shifted-later, shifted-same}
+use Rattle.names.proofs.Entries.Numbers.{shifted-apart, shifted-later, shifted-same}
 use Rattle.names.specs.Unfold.{shifted}
 
 module _ {A B : Type 0} where

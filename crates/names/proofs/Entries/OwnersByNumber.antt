@@ -1,20 +1,19 @@
 -- Owners that are allowed, by number and entry by entry: the same.
 -- Assumes nothing.
-use Prim.Native.Nat.{_+_, _<_, _≤_, suc, zero, ℕ}
+use Prim.Native.Nat.{_+_, _<_, _≤_, suc, ℕ}
 use lib.Dec.{eqb, ltb}
 use lib.ListN.{getD, length}
 use mathlib.Core.Bool.{Bool, _&&_, _||_, false, true}
 use mathlib.Core.List.{List, [], _∷_}
-use mathlib.Core.Path.{_∙_, _≡_, ap, refl, sym}
-use native.Mathlib.Nat.{add-zero}
+use mathlib.Core.Path.{_∙_, _≡_, ap, sym}
 use native.Mathlib.Omega.{arith}
 use Rattle.base.proofs.Tests.{bool-cases, eq-cases, eq-eqb, ne-eqb, tests}
 use Rattle.blocks.specs.Entries.{nth, zeroEntry}
 use Rattle.blocks.specs.Owners.{ownerOf, ownerOk}
 use Rattle.blocks.specs.declared.Entry.{Entry}
 use Rattle.blocks.specs.declared.Schema.the-variants.{Description}
-use Rattle.names.proofs.Numbers.{owning, topOwns}
-use Rattle.names.proofs.OwnerSteps.{Owners}
+use Rattle.names.proofs.Entries.Numbers.{owning, topOwns}
+use Rattle.names.proofs.Entries.OwnerSteps.{Owners}
 use Rattle.names.specs.Promise.{OwnersOk}
 
 -- ---- the rest of a list

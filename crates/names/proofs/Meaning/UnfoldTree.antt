@@ -1,21 +1,21 @@
 -- The tree of an unfolded description: the trees of the contents, put in at the places of their names.
 -- Assumes nothing.
-use Prim.Native.Nat.{_+_, _≤_, suc, zero, ℕ}
+use Prim.Native.Nat.{_+_, _≤_, suc, ℕ}
 use lib.Dec.{eqb}
 use lib.ListN.{length, length-map}
 use mathlib.Core.Bool.{Bool, cond, false, true}
-use mathlib.Core.List.{List, [], _++_, _∷_, map, map-append}
+use mathlib.Core.List.{List, [], _∷_, map, map-append}
 use mathlib.Core.Logic.{_⊎_, inl, inr}
-use mathlib.Core.Path.{_∙_, _≡_, ap, refl}
+use mathlib.Core.Path.{_∙_, _≡_, refl}
 use native.Mathlib.Omega.{arith}
 use Rattle.base.proofs.Tests.{bool-cases, eq-cases, eq-eqb, eqb-eq, eqb-self, ne-eqb, tests}
 use Rattle.blocks.specs.declared.Entry.{Entry}
 use Rattle.logic.specs.Place.{Atom, Place}
 use Rattle.logic.specs.Tree.{Row, Tree, end, leaf, leafRow, node, nodeRow, tree}
 use Rattle.meaning.specs.Description.{atomOf, placeOf, rowOf}
-use Rattle.names.proofs.JoinedTrees.{Avoids, join, moveRow, moved-apart, moved-avoids, tree-append, tree-moved}
-use Rattle.names.proofs.Numbers.{Numbering, numbering-entry, numbering-name, numbering-top, owning, owning-before, owning-none, owning-other, same-owner, topOwns}
-use Rattle.names.proofs.OwnerSteps.{Owners, name-owns-none, unfold-entry, unfold-name}
+use Rattle.names.proofs.Entries.Numbers.{Numbering, numbering-entry, numbering-name, numbering-top, owning, owning-before, owning-none, owning-other, same-owner, topOwns}
+use Rattle.names.proofs.Entries.OwnerSteps.{Owners, name-owns-none, unfold-entry, unfold-name}
+use Rattle.names.proofs.Meaning.JoinedTrees.{Avoids, join, moveRow, moved-apart, moved-avoids, tree-append, tree-moved}
 use Rattle.names.specs.NamedMeaning.{namedPlace, namedRow}
 use Rattle.names.specs.Unfold.{isNamed, noted, ownedBy, relocate, unfoldFrom, unfolded}
 

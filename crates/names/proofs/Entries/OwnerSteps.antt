@@ -3,12 +3,12 @@
 use Prim.Native.Nat.{_+_, suc, ℕ}
 use lib.Dec.{eqb}
 use lib.ListN.{length}
-use mathlib.Core.Bool.{Bool, cond, false, true}
+use mathlib.Core.Bool.{Bool, false, true}
 use mathlib.Core.List.{List, [], _++_, _∷_, map}
 use mathlib.Core.Path.{_≡_}
-use Rattle.base.proofs.Tests.{eqb-eq, tests}
+use Rattle.base.proofs.Tests.{tests}
 use Rattle.blocks.specs.declared.Entry.{Entry}
-use Rattle.names.proofs.Numbers.{owning}
+use Rattle.names.proofs.Entries.Numbers.{owning}
 use Rattle.names.specs.Unfold.{isNamed, noted, ownedBy, relocate, unfoldFrom}
 
 -- each entry is owned by what may own before it, where the entries count from k

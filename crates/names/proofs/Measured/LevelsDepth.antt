@@ -1,18 +1,18 @@
 -- The levels of a list, and the depths of its entries.
 -- Assumes nothing.
-use Prim.Native.Nat.{_+_, _<_, _≤_, max, suc, zero, ℕ}
+use Prim.Native.Nat.{_+_, _<_, _≤_, suc, ℕ}
 use lib.Dec.{eqb, ltb}
 use lib.ListN.{length}
 use mathlib.Core.Bool.{Bool, _&&_, cond, false, true}
 use mathlib.Core.List.{List, [], _∷_}
-use mathlib.Core.Path.{_∙_, _≡_, ap, refl, sym}
+use mathlib.Core.Path.{_∙_, _≡_, ap, sym}
 use native.Mathlib.Omega.{arith}
-use Rattle.base.proofs.Tests.{and-left, bool-cases, eq-cases, eq-eqb, ltb-lt, ne-eqb, or-cases, tests}
+use Rattle.base.proofs.Tests.{and-left, eq-cases, eq-eqb, ltb-lt, ne-eqb, or-cases, tests}
 use Rattle.blocks.proofs.Refusing.LevelLaws.{depth-top, depth-under}
 use Rattle.blocks.specs.Entries.{nth}
 use Rattle.blocks.specs.Owners.{depthOf, ownerOf, ownerOk}
 use Rattle.blocks.specs.declared.Entry.{Entry}
-use Rattle.names.proofs.OwnersByNumber.{Stands, stands-first, stands-rest, stands-whole}
+use Rattle.names.proofs.Entries.OwnersByNumber.{Stands, stands-first, stands-rest, stands-whole}
 use Rattle.names.specs.Measures.{levelsFrom, levelsOf, under}
 use Rattle.names.specs.Promise.{OwnersOk}
 use Rattle.names.specs.Unfold.{isNamed, noted}

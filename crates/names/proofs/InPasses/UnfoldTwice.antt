@@ -1,18 +1,18 @@
 -- Replacing some names first, and those that are left after that, is replacing all at once.
 -- Assumes nothing.
-use Prim.Native.Nat.{_+_, _≤_, suc, zero, ℕ}
+use Prim.Native.Nat.{_+_, _≤_, suc, ℕ}
 use lib.Dec.{eqb}
 use lib.ListN.{length, length-map}
-use mathlib.Core.Bool.{Bool, cond, false, true}
-use mathlib.Core.List.{List, [], _++_, _∷_, map}
-use mathlib.Core.Path.{_∙_, _≡_, ap, refl, sym}
+use mathlib.Core.Bool.{Bool, false}
+use mathlib.Core.List.{List, [], _∷_, map}
+use mathlib.Core.Path.{_∙_, _≡_, ap, refl}
 use native.Mathlib.Omega.{arith}
 use Rattle.base.proofs.Tests.{bool-cases, eq-cases, eq-eqb, eqb-eq, eqb-self, ne-eqb, tests}
 use Rattle.blocks.specs.declared.Entry.{Entry}
-use Rattle.names.proofs.MovedUnfolding.{after, after-same, unfold-append, unfold-ext, unfold-in, unfold-out}
-use Rattle.names.proofs.Numbers.{Numbering, numbering-entry, numbering-name, numbering-top, owning, owning-none, owning-other, topOwns}
-use Rattle.names.proofs.OwnerSteps.{Owners, name-owns-none, unfold-entry, unfold-name}
-use Rattle.names.proofs.OwnersByNumber.{owners-of-numbers}
+use Rattle.names.proofs.Entries.Numbers.{Numbering, numbering-entry, numbering-name, numbering-top, owning, owning-none, owning-other, topOwns}
+use Rattle.names.proofs.Entries.OwnerSteps.{Owners, name-owns-none, unfold-entry, unfold-name}
+use Rattle.names.proofs.Entries.OwnersByNumber.{owners-of-numbers}
+use Rattle.names.proofs.InPasses.MovedUnfolding.{after, after-same, unfold-append, unfold-ext, unfold-in, unfold-out}
 use Rattle.names.specs.Promise.{OwnersOk}
 use Rattle.names.specs.Unfold.{isNamed, noted, ownedBy, relocate, shifted, unfoldFrom, unfolded}
 

@@ -1,18 +1,18 @@
 -- The owners of an unfolded description are allowed.
 -- Assumes nothing.
-use Prim.Native.Nat.{_+_, _<_, _≤_, suc, zero, ℕ}
+use Prim.Native.Nat.{_+_, _<_, _≤_, suc, ℕ}
 use lib.Dec.{eqb}
 use lib.ListN.{length}
-use mathlib.Core.Bool.{Bool, _&&_, _||_, cond, false, true}
+use mathlib.Core.Bool.{Bool, _&&_, false, true}
 use mathlib.Core.List.{List, [], _++_, _∷_, map}
-use mathlib.Core.Path.{_≡_, refl}
-use native.Mathlib.Nat.{add-suc, add-zero}
+use mathlib.Core.Path.{_≡_}
+use native.Mathlib.Nat.{add-zero}
 use native.Mathlib.Omega.{arith}
 use Rattle.base.proofs.Tests.{and-left, and-right, bool-cases, eqb-eq, eqb-self, or-cases, tests}
 use Rattle.blocks.specs.declared.Entry.{Entry}
-use Rattle.names.proofs.Numbers.{owning, owning-before, owning-none, shifted-later, topOwns}
-use Rattle.names.proofs.OwnerSteps.{Owners, name-owns-none, unfold-entry, unfold-name}
-use Rattle.names.proofs.OwnersByNumber.{numbers-of-owners, owners-of-numbers}
+use Rattle.names.proofs.Entries.Numbers.{owning, owning-before, owning-none, shifted-later, topOwns}
+use Rattle.names.proofs.Entries.OwnerSteps.{Owners, name-owns-none, unfold-entry, unfold-name}
+use Rattle.names.proofs.Entries.OwnersByNumber.{numbers-of-owners, owners-of-numbers}
 use Rattle.names.specs.Promise.{OwnersOk}
 use Rattle.names.specs.Unfold.{isNamed, noted, ownedBy, relocate, shifted, unfoldFrom, unfolded}
 

@@ -2,14 +2,12 @@
 -- Assumes nothing.
 use Prim.Native.Nat.{_+_, suc, ℕ}
 use lib.ListN.{length, length-append, length-map}
-use mathlib.Core.Bool.{cond}
 use mathlib.Core.List.{List, [], _∷_, map}
 use mathlib.Core.Path.{_∙_, _≡_, ap, fun-ext, refl}
 use native.Mathlib.Omega.{arith}
 use Rattle.base.proofs.Tests.{bool-cases}
 use Rattle.blocks.specs.declared.Entry.{Entry}
-use Rattle.names.proofs.InTurn.{each-any, in-turn}
-use Rattle.names.proofs.OwnerSteps.{unfold-entry, unfold-name}
+use Rattle.names.proofs.Dictionary.InTurn.{each-any, in-turn}
 use Rattle.names.specs.Measures.{sizeBy, sizeNamed, sizeNth}
 use Rattle.names.specs.Unfold.{contents, isNamed, noted, relocate, unfoldFrom, unfolded, unfoldedBy}
 

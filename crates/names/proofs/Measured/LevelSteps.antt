@@ -5,13 +5,13 @@ use lib.Dec.{eqb}
 use lib.ListN.{length}
 use mathlib.Core.Bool.{Bool, cond, false, true}
 use mathlib.Core.List.{List, [], _++_, _∷_, map}
-use mathlib.Core.Path.{_∙_, _≡_, ap, refl, sym}
-use native.Mathlib.Nat.{add-suc, add-zero}
+use mathlib.Core.Path.{_∙_, _≡_, refl}
+use native.Mathlib.Nat.{add-zero}
 use native.Mathlib.Omega.{arith}
-use Rattle.base.proofs.Tests.{bool-cases, eq-cases, eq-eqb, eqb-self, lt-cases, ne-eqb, tests}
+use Rattle.base.proofs.Tests.{eq-cases, eqb-self, lt-cases, ne-eqb, tests}
 use Rattle.blocks.specs.declared.Entry.{Entry}
-use Rattle.names.proofs.Numbers.{owning, owning-other, shifted-is, shifted-later}
-use Rattle.names.proofs.OwnerSteps.{Owners}
+use Rattle.names.proofs.Entries.Numbers.{owning, owning-other, shifted-is, shifted-later}
+use Rattle.names.proofs.Entries.OwnerSteps.{Owners}
 use Rattle.names.specs.Measures.{levelsFrom, under}
 use Rattle.names.specs.Unfold.{isNamed, noted, relocate, shifted}
 

@@ -1,11 +1,10 @@
 -- An unfolded description is legal, if its levels allow it.
 -- Assumes nothing.
-use Prim.Native.Nat.{_≤_, suc, zero, ℕ}
-use lib.Dec.{leb}
+use Prim.Native.Nat.{_≤_, ℕ}
 use lib.ListN.{length}
 use mathlib.Core.Bool.{false, true}
-use mathlib.Core.List.{List, [], _∷_}
-use mathlib.Core.Path.{_∙_, _≡_, ap, fun-ext, refl, sym}
+use mathlib.Core.List.{List, []}
+use mathlib.Core.Path.{_∙_, _≡_, ap, fun-ext, refl}
 use native.Mathlib.Omega.{arith}
 use Rattle.base.proofs.Tests.{leb-le, tests}
 use Rattle.blocks.proofs.Refusing.Legal.{form-kind}
@@ -14,15 +13,15 @@ use Rattle.blocks.specs.Owners.{depthOf, depthOk}
 use Rattle.blocks.specs.Promise.{Legal}
 use Rattle.blocks.specs.declared.Entry.{Entry}
 use Rattle.blocks.specs.declared.Schema.the-variants.{Description}
-use Rattle.names.proofs.EachEntry.{EachEntry, each-of-numbers, numbers-of-each, unfold-each}
-use Rattle.names.proofs.InTurn.{in-turn}
-use Rattle.names.proofs.LevelsDepth.{depth-within, levels-within}
-use Rattle.names.proofs.OwnersByNumber.{owners-of-numbers}
-use Rattle.names.proofs.UnfoldLevels.{unfold-levels}
-use Rattle.names.proofs.UnfoldOwners.{unfold-owners-ok}
+use Rattle.names.proofs.Dictionary.InTurn.{in-turn}
+use Rattle.names.proofs.Entries.EachEntry.{EachEntry, each-of-numbers, numbers-of-each, unfold-each}
+use Rattle.names.proofs.Entries.OwnersByNumber.{owners-of-numbers}
+use Rattle.names.proofs.Legality.UnfoldOwners.{unfold-owners-ok}
+use Rattle.names.proofs.Measured.LevelsDepth.{depth-within, levels-within}
+use Rattle.names.proofs.Measured.UnfoldLevels.{unfold-levels}
 use Rattle.names.specs.Measures.{levelsBy, levelsFrom, levelsNamed, levelsNth, levelsOf}
 use Rattle.names.specs.NamedForm.{namedFormOk}
-use Rattle.names.specs.Promise.{Each, EachAfter, LegalDictionary, LegalNamed, OwnersOk, Plain, Within}
+use Rattle.names.specs.Promise.{Each, LegalDictionary, LegalNamed, OwnersOk, Plain, Within}
 use Rattle.names.specs.Unfold.{contents, isNamed, unfolded, unfoldedBy}
 
 -- an entry has a form that plain descriptions allow
@@ -103,7 +102,12 @@ pub named-levels : (K : List (List Entry)) → Each LegalNamed K → (most : ℕ
     → levelsOf (unfoldedBy K es) ≡ levelsNamed K es
 named-levels K each most es N = named-built K each most es N .levels
 
--- depths of at most 32 are levels of at most 33
+-- levels of at most 33 are depths of at most 32
+pub named-within : (K : List (List Entry)) → Each LegalNamed K → (most : ℕ) (es : List Entry) → LegalNamed most es → levelsNamed K es ≤ 33
+    → (n : ℕ) → 1 ≤ n → n ≤ length (unfoldedBy K es) → depthOk (unfoldedBy K es) n ≡ true
+named-within K each most es N h = built-legal (unfoldedBy K es) (levelsNamed K es) (named-built K each most es N) h .depth
+
+-- and the other way round
 pub named-depths : (K : List (List Entry)) → Each LegalNamed K → (most : ℕ) (es : List Entry) → LegalNamed most es
     → ((n : ℕ) → 1 ≤ n → n ≤ length (unfoldedBy K es) → depthOk (unfoldedBy K es) n ≡ true) → levelsNamed K es ≤ 33
 unfolding depthOk

@@ -5,14 +5,14 @@ use lib.Dec.{eqb}
 use lib.ListN.{length, length-append, length-map}
 use mathlib.Core.Bool.{Bool, cond, false, true}
 use mathlib.Core.List.{List, [], _++_, _∷_, append-assoc, map, map-append}
-use mathlib.Core.Path.{_∙_, _≡_, ap, fun-ext, refl, sym}
+use mathlib.Core.Path.{_∙_, _≡_, fun-ext, refl, sym}
 use native.Mathlib.Nat.{add-assoc, add-suc, add-zero}
 use native.Mathlib.Omega.{arith}
 use Rattle.base.proofs.Tests.{bool-cases, eq-cases, eq-eqb, ne-eqb, tests}
 use Rattle.blocks.specs.declared.Entry.{Entry}
-use Rattle.names.proofs.Numbers.{owning, owning-none, owning-other, shifted-is, shifted-later}
-use Rattle.names.proofs.OwnerSteps.{Owners, name-owns-none, unfold-entry, unfold-name}
-use Rattle.names.specs.Unfold.{isNamed, noted, ownedBy, relocate, shifted, unfoldFrom}
+use Rattle.names.proofs.Entries.Numbers.{owning, owning-none, owning-other, shifted-is, shifted-later}
+use Rattle.names.proofs.Entries.OwnerSteps.{Owners, name-owns-none}
+use Rattle.names.specs.Unfold.{isNamed, noted, relocate, shifted, unfoldFrom}
 
 -- ---- entries moved twice
 

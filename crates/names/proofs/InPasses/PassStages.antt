@@ -1,24 +1,26 @@
 -- Unfolding in passes, the names of the greatest rank first, is unfolding; and no pass needs more room than what is unfolded.
 -- Assumes nothing.
-use Prim.Native.Nat.{_+_, _<_, _≤_, suc, zero, ℕ}
+use Prim.Native.Nat.{_<_, _≤_, suc, ℕ}
 use lib.Dec.{eqb}
 use lib.ListN.{length}
-use mathlib.Core.Bool.{cond, false, true}
+use mathlib.Core.Bool.{true}
 use mathlib.Core.List.{List, [], _∷_}
-use mathlib.Core.Path.{_∙_, _≡_, ap, refl, sym}
+use mathlib.Core.Path.{_∙_, _≡_, ap, sym}
 use native.Mathlib.Omega.{arith}
-use Rattle.base.proofs.Tests.{bool-cases, both-ways, eq-eqb, eqb-eq, eqb-ne, tests}
+use Rattle.base.proofs.Tests.{bool-cases, both-ways, tests}
 use Rattle.blocks.specs.Entries.{nth}
 use Rattle.blocks.specs.declared.Entry.{Entry}
-use Rattle.names.proofs.ContentsUnfold.{again-owners, contents-unfold, described-owners, unfold-again, unfold-pass}
-use Rattle.names.proofs.EachEntry.{EachEntry, each-of-numbers, numbers-of-each, unfold-each, unfold-plain}
-use Rattle.names.proofs.Ranks.{rank-described, rank-empty, rank-lower, rank-some}
-use Rattle.names.proofs.UnfoldOwners.{unfold-owners-ok}
-use Rattle.names.proofs.UnfoldSize.{named-size}
+use Rattle.names.proofs.Dictionary.ContentsUnfold.{contents-unfold, described-owners}
+use Rattle.names.proofs.Entries.EachEntry.{EachEntry, each-of-numbers, numbers-of-each, unfold-each}
+use Rattle.names.proofs.Entries.UnfoldPlain.{unfold-plain}
+use Rattle.names.proofs.InPasses.Ranks.{rank-described, rank-empty, rank-lower, rank-some}
+use Rattle.names.proofs.InPasses.Replaced.{again-owners, unfold-again, unfold-pass}
+use Rattle.names.proofs.Legality.UnfoldOwners.{unfold-owners-ok}
+use Rattle.names.proofs.Measured.UnfoldSize.{named-size}
 use Rattle.names.specs.Measures.{sizeBy, sizeNamed, sizeNth}
 use Rattle.names.specs.Promise.{Each, LegalNamed, OwnersOk}
 use Rattle.names.specs.Unfold.{contents, described, isNamed, unfoldFrom, unfolded, unfoldedBy}
-use Rattle.names.specs.code.Passes.{Left, Stage, StandsFor, emptied, nameAgain, opened, rankBy, rankNth}
+use Rattle.names.specs.code.Passes.{Left, Stage, StandsFor, emptied, opened, rankBy, rankNth}
 
 module _ (K : List (List Entry)) where
   -- ---- names that stand for nothing

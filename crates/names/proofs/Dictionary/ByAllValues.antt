@@ -5,10 +5,9 @@ use lib.Dec.{eqb, leb, ltb}
 use mathlib.Core.Bool.{_&&_, false, true}
 use mathlib.Core.List.{List, [], _∷_}
 use mathlib.Core.Path.{_∙_, _≡_}
-use native.Mathlib.Omega.{arith}
 use Rattle.base.proofs.Tests.{and-left, and-right, bool-cases, leb-le, tests}
 use Rattle.blocks.specs.declared.Entry.{Entry}
-use Rattle.names.proofs.EachEntry.{EachEntry, each-of-numbers}
+use Rattle.names.proofs.Entries.EachEntry.{EachEntry, each-of-numbers}
 use Rattle.names.specs.NamedForm.{nameGiven}
 use Rattle.names.specs.Promise.{Each, EachAfter, LegalNamed}
 use Rattle.names.specs.Unfold.{described, inTurn, isNamed, noted}

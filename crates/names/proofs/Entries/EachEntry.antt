@@ -1,17 +1,15 @@
--- What holds of each entry of a list, and of each entry of an unfolded one. A description without names unfolds to itself.
+-- What holds of each entry of a list, and of each entry of an unfolded one.
 -- Assumes nothing.
 use Prim.Native.Nat.{_+_, _<_, _≤_, suc, zero, ℕ}
-use lib.Dec.{eqb}
 use lib.ListN.{getD, length}
-use mathlib.Core.Bool.{cond, false, true}
+use mathlib.Core.Bool.{false, true}
 use mathlib.Core.List.{List, [], _++_, _∷_, map}
-use mathlib.Core.Path.{_∙_, _≡_, refl, sym}
+use mathlib.Core.Path.{_≡_}
 use native.Mathlib.Omega.{arith}
-use Rattle.base.proofs.Tests.{bool-cases, both-ways, eq-cases, eq-eqb, ne-eqb}
+use Rattle.base.proofs.Tests.{bool-cases}
 use Rattle.blocks.specs.Entries.{nth, zeroEntry}
 use Rattle.blocks.specs.declared.Entry.{Entry}
-use Rattle.names.proofs.OwnerSteps.{unfold-entry, unfold-name}
-use Rattle.names.specs.Promise.{Plain}
+use Rattle.names.proofs.Entries.OwnerSteps.{unfold-entry, unfold-name}
 use Rattle.names.specs.Unfold.{isNamed, noted, ownedBy, relocate, unfoldFrom, unfolded}
 
 module _ (P : Entry → Type 0) where
@@ -65,19 +63,3 @@ module _ (P : Entry → Type 0) where
     pub unfold-each : (T : ℕ → List Entry) (es : List Entry) → ((n : ℕ) → 1 ≤ n → n ≤ length es → Unfolds T (nth es n)) → EachEntry (unfolded T es)
     unfolding unfolded nth
     unfold-each T es h = unfold-each-from T (λ j. j) 1 0 es (λ i l. h (suc i) (omega arith) (omega arith))
-
--- ---- no names
-
-plain-from : (T : ℕ → List Entry) (ν : ℕ → ℕ) (m : ℕ) (es : List Entry) → ((j : ℕ) → ν j ≡ j) → EachEntry (λ e. isNamed e ≡ false) es
-    → unfoldFrom T ν (suc m) m es ≡ es
-unfolding unfoldFrom
-plain-from T ν m [] same h = refl
-plain-from T ν m (e ∷ es) same h =
-    let ih = plain-from T (noted ν (suc m) (suc m)) (suc m) es
-    (λ j. eq-cases j (suc m) (λ q. rw (eq-eqb q) (sym q)) (λ q. rw (ne-eqb q) (same j))) (h .1) in
-    unfold-entry T ν (suc m) m e es (h .0) ∙ rw (ih, same (e .owner))
-
--- a description without names unfolds to itself
-pub unfold-plain : (T : ℕ → List Entry) (es : List Entry) → Plain es → unfolded T es ≡ es
-unfolding unfolded
-unfold-plain T es h = plain-from T (λ j. j) 0 es (λ j. refl) (each-of-numbers (λ e. isNamed e ≡ false) es h)

@@ -3,16 +3,16 @@
 use Prim.Native.Nat.{_+_, _<_, _≤_, max, suc, zero, ℕ}
 use lib.Dec.{eqb}
 use lib.ListN.{length}
-use mathlib.Core.Bool.{_&&_, cond, false, true}
+use mathlib.Core.Bool.{_&&_, false, true}
 use mathlib.Core.List.{List, [], _∷_}
 use mathlib.Core.Path.{_∙_, _≡_, refl, sym}
 use native.Mathlib.Omega.{arith}
-use Rattle.base.proofs.Tests.{and-both, and-left, and-right, bool-cases, eq-eqb, eqb-eq, iff-eq, tests}
+use Rattle.base.proofs.Tests.{and-both, and-left, and-right, bool-cases, eqb-eq, iff-eq, tests}
 use Rattle.blocks.specs.declared.Entry.{Entry}
-use Rattle.names.proofs.ByAllValues.{ByGiven, Given, given-name, in-turn-all}
-use Rattle.names.proofs.EachEntry.{EachEntry}
-use Rattle.names.proofs.InTurn.{each-any, in-turn}
-use Rattle.names.proofs.UnfoldSize.{contents-size}
+use Rattle.names.proofs.Dictionary.ByAllValues.{ByGiven, given-name, in-turn-all}
+use Rattle.names.proofs.Dictionary.InTurn.{each-any, in-turn}
+use Rattle.names.proofs.Entries.EachEntry.{EachEntry}
+use Rattle.names.proofs.Measured.UnfoldSize.{contents-size}
 use Rattle.names.specs.Measures.{sizeBy, sizeNth, under}
 use Rattle.names.specs.Promise.{Each, LegalNamed}
 use Rattle.names.specs.Unfold.{contents, described, isNamed}

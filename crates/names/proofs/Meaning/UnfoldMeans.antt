@@ -1,7 +1,7 @@
 -- "Unfolding writes a plain description of the same meaning".
 -- Assumes nothing.
-use Prim.Native.Nat.{suc, ℕ}
-use mathlib.Core.Bool.{Bool, _&&_, and-assoc, cond, true}
+use Prim.Native.Nat.{ℕ}
+use mathlib.Core.Bool.{Bool, _&&_, and-assoc, true}
 use mathlib.Core.List.{List, []}
 use mathlib.Core.Path.{_∙_, _≡_, ap, fun-ext, refl, sym}
 use Rattle.base.proofs.Tests.{bool-cases}
@@ -9,11 +9,11 @@ use Rattle.blocks.specs.declared.Entry.{Entry}
 use Rattle.logic.specs.Place.{Place}
 use Rattle.logic.specs.Record.{Record, eachLinked, fits, meets}
 use Rattle.logic.specs.Tree.{Tree, end, leaf, node, tree}
-use Rattle.meaning.specs.Description.{atomOf, placeOf}
-use Rattle.names.proofs.InTurn.{in-turn}
-use Rattle.names.proofs.JoinedTrees.{join}
-use Rattle.names.proofs.OwnersByNumber.{owners-of-numbers}
-use Rattle.names.proofs.UnfoldTree.{graft, unfold-tree}
+use Rattle.meaning.specs.Description.{placeOf}
+use Rattle.names.proofs.Dictionary.InTurn.{in-turn}
+use Rattle.names.proofs.Entries.OwnersByNumber.{owners-of-numbers}
+use Rattle.names.proofs.Meaning.JoinedTrees.{join}
+use Rattle.names.proofs.Meaning.UnfoldTree.{graft, unfold-tree}
 use Rattle.names.specs.NamedMeaning.{fitsBy, fitsNamed, fitsNth, fitsPlace, namedPlace}
 use Rattle.names.specs.Promise.{Each, OwnersOk, SameMeaning}
 use Rattle.names.specs.Unfold.{contents, isNamed, unfolded, unfoldedBy}

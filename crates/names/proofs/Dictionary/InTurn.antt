@@ -1,8 +1,7 @@
 -- What is made of the descriptions of a dictionary in turn.
 -- Assumes nothing.
-use Prim.Native.Nat.{suc, zero, ℕ}
+use Prim.Native.Nat.{suc, ℕ}
 use lib.Dec.{eqb}
-use mathlib.Core.Bool.{cond}
 use mathlib.Core.List.{List, [], _∷_}
 use Rattle.base.proofs.Tests.{bool-cases}
 use Rattle.blocks.specs.declared.Entry.{Entry}

@@ -1,0 +1,10 @@
+-- How many entries an unfolded description has, and how deep they stand.
+
+-- The number of entries of an unfolded description.
+pub mod UnfoldSize
+-- Levels put in at a depth, and the levels of moved entries.
+pub mod LevelSteps
+-- The levels of an unfolded description.
+pub mod UnfoldLevels
+-- The levels of a list, and the depths of its entries.
+pub mod LevelsDepth
