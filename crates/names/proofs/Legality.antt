@@ -4,3 +4,5 @@
 pub mod UnfoldOwners
 -- An unfolded description is legal, if its levels allow it.
 pub mod UnfoldLegal
+-- Descriptions without names, among descriptions with names: what is legal for the ones and for the others.
+pub mod NoNames

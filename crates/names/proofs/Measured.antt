@@ -8,3 +8,5 @@ pub mod LevelSteps
 pub mod UnfoldLevels
 -- The levels of a list, and the depths of its entries.
 pub mod LevelsDepth
+-- How large the sizes that are worked out can become before they are looked at.
+pub mod MeasureBounds
