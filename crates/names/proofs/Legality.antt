@@ -2,7 +2,7 @@
 
 -- The owners of an unfolded description are allowed.
 pub mod UnfoldOwners
--- An unfolded description is legal, if its levels allow it.
+-- An unfolded description is legal; and 14 by sizes and levels that are worked out without unfolding is 14 by what is unfolded.
 pub mod UnfoldLegal
 -- Descriptions without names, among descriptions with names: what is legal for the ones and for the others.
 pub mod NoNames

@@ -3,12 +3,12 @@
 use Prim.Native.Nat.{suc, ℕ}
 use lib.ListN.{length}
 use mathlib.Core.List.{List, [], _∷_}
-use native.Mathlib.Omega.{arith}
 use Rattle.blocks.specs.declared.Entry.{Entry}
-use Rattle.names.proofs.Legality.UnfoldLegal.{legal-plain, named-depths, named-within, unfold-legal}
+use Rattle.names.proofs.Legality.UnfoldLegal.{contents-within, legal-plain, named-within, unfold-legal}
 use Rattle.names.proofs.Meaning.UnfoldMeans.{unfold-means}
-use Rattle.names.proofs.Measured.UnfoldSize.{named-size}
-use Rattle.names.specs.Promise.{AcceptedNamed, Each, EachAfter, LegalNamed, OwnersOk, UnfoldsPlainly, Within, WithinOnceUnfolded}
+use Rattle.names.specs.Measures.{levelsNamed, levelsNth, sizeNamed, sizeNth}
+use Rattle.names.specs.Promise.{AcceptedNamed, Each, EachAfter, LegalNamed, OwnersOk, UnfoldsPlainly, Within}
+use Rattle.names.specs.Unfold.{unfoldedBy}
 
 -- the owners of a dictionary's descriptions are allowed
 each-owners : (k : ℕ) (K : List (List Entry)) → EachAfter LegalNamed k K → EachAfter (λ k d. OwnersOk d) k K
@@ -18,19 +18,24 @@ each-owners k (d ∷ K) h = (h .0 .owner, each-owners (suc k) K (h .1))
 -- "Unfolding writes a plain description of the same meaning"
 pub unfolds-plainly : (K : List (List Entry)) (es : List Entry) → AcceptedNamed K es → UnfoldsPlainly K es
 unfolds-plainly K es A =
-    let legal = unfold-legal K (A .dictionary) (length K) es (A .legal) (A .within) in
+    let legal = unfold-legal K es A in
     record {
       legal = legal;
-      plain = legal-plain _ legal;
-      size = omega (arith, named-size K es, A .within .size);
+      plain = legal-plain (unfoldedBy K es) legal;
       means = unfold-means K es (each-owners 0 K (A .dictionary .each)) (A .legal .owner);
     }
 
--- 14 goes by sizes and levels that are worked out without unfolding
-pub within-exactly : (K : List (List Entry)) → Each LegalNamed K → (most : ℕ) (es : List Entry) → LegalNamed most es
-    → (Within K es → WithinOnceUnfolded K es) × (WithinOnceUnfolded K es → Within K es)
-within-exactly K each most es N =
-    let size = named-size K es in (
-      λ W. record { size = omega (arith, W .size); depth = named-within K each most es N (W .levels) },
-      λ U. record { size = omega (arith, U .size); levels = named-depths K each most es N (U .depth) },
-    )
+-- a dictionary and a description are accepted exactly by their entries and by what is worked out of them: nothing has to be unfolded
+pub accepted-within : (K : List (List Entry)) (es : List Entry) → Each LegalNamed K → ((n : ℕ) → Within (sizeNth K n) (levelsNth K n))
+    → LegalNamed (length K) es → Within (sizeNamed K es) (levelsNamed K es) → AcceptedNamed K es
+accepted-within K es each all N W = record {
+  dictionary = record { each = each; small = λ n. contents-within K each n .0 (all n) };
+  legal = N;
+  small = named-within K each (length K) es N .0 W;
+}
+
+pub within-accepted : (K : List (List Entry)) (es : List Entry) → AcceptedNamed K es
+    → ((n : ℕ) → Within (sizeNth K n) (levelsNth K n)) × Within (sizeNamed K es) (levelsNamed K es)
+within-accepted K es A =
+    let each = A .dictionary .each in
+    (λ n. contents-within K each n .1 (A .dictionary .small n), named-within K each (length K) es (A .legal) .1 (A .small))

@@ -12,10 +12,9 @@ use Rattle.blocks.specs.declared.Entry.{Entry}
 use Rattle.blocks.specs.declared.Schema.the-variants.{Description}
 use Rattle.logic.specs.Record.{Record, fits}
 use Rattle.meaning.specs.Description.{placeOf}
-use Rattle.names.specs.Measures.{levelsNamed, levelsNth, sizeNamed, sizeNth}
 use Rattle.names.specs.NamedForm.{nameGiven, namedFormOk}
 use Rattle.names.specs.NamedMeaning.{fitsNamed}
-use Rattle.names.specs.Unfold.{isNamed, unfoldedBy}
+use Rattle.names.specs.Unfold.{contents, isNamed, unfoldedBy}
 
 -- no entry is a name
 abbrev pub Plain : List Entry → Type 0
@@ -44,31 +43,29 @@ pub record LegalNamed (most : ℕ) (es : List Entry) : Type 0 where
   pub owner : OwnersOk es
   pub depth : (n : ℕ) → 1 ≤ n → n ≤ length es → depthOk es n ≡ true
 
--- 14 does not apply: "of more than 1,008 entries or depth over 32 once unfolded"
-pub record Within (K : List (List Entry)) (es : List Entry) : Type 0 where
-  pub size : sizeNamed K es ≤ 1008
-  pub levels : levelsNamed K es ≤ 33
+-- 14 does not apply, where es are the entries "once unfolded": at most 1,008, and none of "depth over 32"
+pub record SmallEnough (es : List Entry) : Type 0 where
+  pub size : length es ≤ 1008
+  pub depth : (n : ℕ) → 1 ≤ n → n ≤ length es → depthOk es n ≡ true
 
--- "A dictionary description may name only earlier ones", and 14 applies to none
+-- "A dictionary description may name only earlier ones", and 14 applies to none, named or not
 pub record LegalDictionary (K : List (List Entry)) : Type 0 where
   pub each : Each LegalNamed K
-  pub size : (n : ℕ) → sizeNth K n ≤ 1008
-  pub levels : (n : ℕ) → levelsNth K n ≤ 33
+  pub small : (n : ℕ) → SmallEnough (contents K n)
 
 -- "A description is now accepted if 13 and 14 don't apply to it either and the call's dictionary isn't refused": by its entries
 pub record AcceptedNamed (K : List (List Entry)) (es : List Entry) : Type 0 where
   pub dictionary : LegalDictionary K
   pub legal : LegalNamed (length K) es
-  pub within : Within K es
+  pub small : SmallEnough (unfoldedBy K es)
 
--- 14 by the unfolded description
-pub record WithinOnceUnfolded (K : List (List Entry)) (es : List Entry) : Type 0 where
-  pub size : length (unfoldedBy K es) ≤ 1008
-  pub depth : (n : ℕ) → 1 ≤ n → n ≤ length (unfoldedBy K es) → depthOk (unfoldedBy K es) n ≡ true
+-- 14 by a size and levels that are worked out without unfolding
+pub record Within (size levels : ℕ) : Type 0 where
+  pub few : size ≤ 1008
+  pub shallow : levels ≤ 33
 
--- "Unfolding writes a plain description of the same meaning": one that no rule refuses, which fits in 16 blocks
+-- "Unfolding writes a plain description of the same meaning": one that no rule refuses
 pub record UnfoldsPlainly (K : List (List Entry)) (es : List Entry) : Type 0 where
   pub legal : Legal Description (unfoldedBy K es)
   pub plain : Plain (unfoldedBy K es)
-  pub size : length (unfoldedBy K es) ≤ 1008
   pub means : SameMeaning K es

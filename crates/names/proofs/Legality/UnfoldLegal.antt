@@ -1,4 +1,4 @@
--- An unfolded description is legal, if its levels allow it.
+-- An unfolded description is legal; and 14 by sizes and levels that are worked out without unfolding is 14 by what is unfolded.
 -- Assumes nothing.
 use Prim.Native.Nat.{_≤_, ℕ}
 use lib.ListN.{length}
@@ -19,9 +19,10 @@ use Rattle.names.proofs.Entries.OwnersByNumber.{owners-of-numbers}
 use Rattle.names.proofs.Legality.UnfoldOwners.{unfold-owners-ok}
 use Rattle.names.proofs.Measured.LevelsDepth.{depth-within, levels-within}
 use Rattle.names.proofs.Measured.UnfoldLevels.{unfold-levels}
-use Rattle.names.specs.Measures.{levelsBy, levelsFrom, levelsNamed, levelsNth, levelsOf}
+use Rattle.names.proofs.Measured.UnfoldSize.{contents-size, named-size}
+use Rattle.names.specs.Measures.{levelsBy, levelsFrom, levelsNamed, levelsNth, levelsOf, sizeNamed, sizeNth}
 use Rattle.names.specs.NamedForm.{namedFormOk}
-use Rattle.names.specs.Promise.{Each, LegalDictionary, LegalNamed, OwnersOk, Plain, Within}
+use Rattle.names.specs.Promise.{AcceptedNamed, Each, LegalDictionary, LegalNamed, OwnersOk, Plain, SmallEnough, Within}
 use Rattle.names.specs.Unfold.{contents, isNamed, unfolded, unfoldedBy}
 
 -- an entry has a form that plain descriptions allow
@@ -42,6 +43,19 @@ built-legal es l B h = record {
   owner = B .owner;
   depth = λ n lo hi. let d = depth-within es (B .owner) 33 (omega (arith, B .levels)) n lo hi in omega tests;
 }
+
+small-legal : (es : List Entry) (l : ℕ) → Built es l → SmallEnough es → Legal Description es
+small-legal es l B S = record { form = numbers-of-each Formed es (B .form); owner = B .owner; depth = S .depth }
+
+-- its depths are at most 32 exactly if there are at most 33 levels
+within-small : (es : List Entry) (m l : ℕ) → length es ≡ m → Built es l → (Within m l → SmallEnough es) × (SmallEnough es → Within m l)
+unfolding depthOk
+within-small es m l size B = (
+  λ W. record { size = omega (arith, W .few); depth = built-legal es l B (W .shallow) .depth },
+  λ S.
+      let deep = levels-within es (B .owner) 33 (λ n lo hi. let d : depthOf es n ≤ 32 = leb-le (S .depth n lo hi) in omega arith) in
+      record { few = omega (arith, S .size); shallow = omega (arith, B .levels) },
+)
 
 -- nothing is built of nothing
 built-none : Built [] 0
@@ -89,32 +103,24 @@ named-built K each most es N = built-unfolded (contents K) (levelsNth K) es (con
 
 -- the contents of each description of a dictionary are a legal description
 pub contents-legal : (K : List (List Entry)) → LegalDictionary K → (n : ℕ) → Legal Description (contents K n)
-contents-legal K D n = built-legal (contents K n) (levelsNth K n) (contents-built K (D .each) n) (D .levels n)
+contents-legal K D n = small-legal (contents K n) (levelsNth K n) (contents-built K (D .each) n) (D .small n)
 
 -- and so is an accepted description, once unfolded
-pub unfold-legal : (K : List (List Entry)) → LegalDictionary K → (most : ℕ) (es : List Entry) → LegalNamed most es → Within K es
-    → Legal Description (unfoldedBy K es)
-unfold-legal K D most es N W = built-legal (unfoldedBy K es) (levelsNamed K es) (named-built K (D .each) most es N) (W .levels)
+pub unfold-legal : (K : List (List Entry)) (es : List Entry) → AcceptedNamed K es → Legal Description (unfoldedBy K es)
+unfold-legal K es A = small-legal (unfoldedBy K es) (levelsNamed K es) (named-built K (A .dictionary .each) (length K) es (A .legal)) (A .small)
 
--- ---- 14 by the levels that are worked out, and by the unfolded description
+-- ---- 14 by sizes and levels that are worked out without unfolding
 
-pub named-levels : (K : List (List Entry)) → Each LegalNamed K → (most : ℕ) (es : List Entry) → LegalNamed most es
-    → levelsOf (unfoldedBy K es) ≡ levelsNamed K es
-named-levels K each most es N = named-built K each most es N .levels
+-- of the contents of a dictionary
+pub contents-within : (K : List (List Entry)) → Each LegalNamed K → (n : ℕ)
+    → (Within (sizeNth K n) (levelsNth K n) → SmallEnough (contents K n)) × (SmallEnough (contents K n) → Within (sizeNth K n) (levelsNth K n))
+contents-within K each n = within-small (contents K n) (sizeNth K n) (levelsNth K n) (contents-size K n) (contents-built K each n)
 
--- levels of at most 33 are depths of at most 32
-pub named-within : (K : List (List Entry)) → Each LegalNamed K → (most : ℕ) (es : List Entry) → LegalNamed most es → levelsNamed K es ≤ 33
-    → (n : ℕ) → 1 ≤ n → n ≤ length (unfoldedBy K es) → depthOk (unfoldedBy K es) n ≡ true
-named-within K each most es N h = built-legal (unfoldedBy K es) (levelsNamed K es) (named-built K each most es N) h .depth
-
--- and the other way round
-pub named-depths : (K : List (List Entry)) → Each LegalNamed K → (most : ℕ) (es : List Entry) → LegalNamed most es
-    → ((n : ℕ) → 1 ≤ n → n ≤ length (unfoldedBy K es) → depthOk (unfoldedBy K es) n ≡ true) → levelsNamed K es ≤ 33
-unfolding depthOk
-named-depths K each most es N h =
-    let B = named-built K each most es N in
-    let l = levels-within (unfoldedBy K es) (B .owner) 33 (λ n lo hi. let d : depthOf (unfoldedBy K es) n ≤ 32 = leb-le (h n lo hi) in omega arith) in
-    omega (arith, B .levels)
+-- of a description
+pub named-within : (K : List (List Entry)) → Each LegalNamed K → (most : ℕ) (es : List Entry) → LegalNamed most es
+    → (Within (sizeNamed K es) (levelsNamed K es) → SmallEnough (unfoldedBy K es)) × (SmallEnough (unfoldedBy K es) → Within (sizeNamed K es) (levelsNamed K es))
+named-within K each most es N =
+    within-small (unfoldedBy K es) (sizeNamed K es) (levelsNamed K es) (named-size K es) (named-built K each most es N)
 
 -- ---- no names are left
 
