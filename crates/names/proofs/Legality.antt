@@ -6,3 +6,5 @@ pub mod UnfoldOwners
 pub mod UnfoldLegal
 -- Descriptions without names, among descriptions with names: what is legal for the ones and for the others.
 pub mod NoNames
+-- The fields of an unfolded description's entries fit their bytes, if those of what it is made from do.
+pub mod UnfoldBounded

@@ -3,7 +3,16 @@
 use Prim.Native.Nat.{suc, ℕ}
 use lib.ListN.{length}
 use mathlib.Core.List.{List, [], _∷_}
+use mathlib.Core.Path.{_≡_}
+use native.Mathlib.Omega.{arith}
+use Rattle.blocks.proofs.RoundTrip.Accepting.{encoded-accepted}
+use Rattle.blocks.proofs.RoundTrip.Decoding.{decode-encode}
+use Rattle.blocks.specs.Encoding.{encode}
+use Rattle.blocks.specs.Entries.{entriesOf}
+use Rattle.blocks.specs.Reading.{readingOf}
 use Rattle.blocks.specs.declared.Entry.{Entry}
+use Rattle.blocks.specs.declared.Reading.the-variants.{Accepted}
+use Rattle.blocks.specs.declared.Schema.the-variants.{Description}
 use Rattle.names.proofs.Legality.UnfoldLegal.{contents-within, legal-plain, named-within, unfold-legal}
 use Rattle.names.proofs.Meaning.UnfoldMeans.{unfold-means}
 use Rattle.names.specs.Measures.{levelsNamed, levelsNth, sizeNamed, sizeNth}
@@ -24,6 +33,12 @@ unfolds-plainly K es A =
       plain = legal-plain (unfoldedBy K es) legal;
       means = unfold-means K es (each-owners 0 K (A .dictionary .each)) (A .legal .owner);
     }
+
+-- its blocks are accepted, and have these entries
+pub unfolded-accepted : (K : List (List Entry)) (es : List Entry) → AcceptedNamed K es → (i : ℕ)
+    → (readingOf Description i (encode (unfoldedBy K es)) ≡ Accepted (length (unfoldedBy K es))) × (entriesOf (encode (unfoldedBy K es)) ≡ unfoldedBy K es)
+unfolded-accepted K es A i =
+    (encoded-accepted Description i (unfoldedBy K es) (unfold-legal K es A) tt (omega (arith, A .small .size)), decode-encode (unfoldedBy K es))
 
 -- a dictionary and a description are accepted exactly by their entries and by what is worked out of them: nothing has to be unfolded
 pub accepted-within : (K : List (List Entry)) (es : List Entry) → Each LegalNamed K → ((n : ℕ) → Within (sizeNth K n) (levelsNth K n))
