@@ -1,0 +1,10 @@
+-- An unfolded description is legal.
+
+-- The owners of an unfolded description are allowed.
+pub mod UnfoldOwners
+-- An unfolded description is legal; and 14 by sizes and levels that are worked out without unfolding is 14 by what is unfolded.
+pub mod UnfoldLegal
+-- Descriptions without names, among descriptions with names: what is legal for the ones and for the others.
+pub mod NoNames
+-- The fields of an unfolded description's entries fit their bytes, if those of what it is made from do.
+pub mod UnfoldBounded
