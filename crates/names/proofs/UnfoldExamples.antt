@@ -1,9 +1,9 @@
 -- Unfolding by examples.
 -- Assumes nothing.
+use lib.Dec.{eqb, ltb}
 use mathlib.Core.Bool.{cond, false, true}
 use mathlib.Core.List.{List, [], _∷_}
 use mathlib.Core.Path.{_≡_, refl}
-use lib.Dec.{eqb, ltb}
 use Rattle.blocks.specs.Entries.{entry}
 use Rattle.blocks.specs.declared.Entry.{Entry}
 use Rattle.logic.specs.Place.{kindOf}

@@ -20,6 +20,10 @@ use Rattle.names.specs.Unfold.{contents, isNamed, unfoldedBy}
 abbrev pub Plain : List Entry → Type 0
 Plain es = (n : ℕ) → 1 ≤ n → n ≤ length es → isNamed (nth es n) ≡ false
 
+-- each entry has a form that descriptions with names allow
+abbrev pub FormsOk : List Entry → Type 0
+FormsOk es = (n : ℕ) → 1 ≤ n → n ≤ length es → namedFormOk (nth es n) ≡ true
+
 -- each entry is owned by the top or by an earlier 'every': so by no name
 abbrev pub OwnersOk : List Entry → Type 0
 OwnersOk es = (n : ℕ) → 1 ≤ n → n ≤ length es → ownerOk Description es n ≡ true
@@ -38,7 +42,7 @@ SameMeaning K es = (c : Record) (x : ℕ) → fits c (placeOf (unfoldedBy K es) 
 
 -- each entry has an allowed form, a name that may be given if it is a name, an allowed owner and an allowed depth
 pub record LegalNamed (most : ℕ) (es : List Entry) : Type 0 where
-  pub form : (n : ℕ) → 1 ≤ n → n ≤ length es → namedFormOk (nth es n) ≡ true
+  pub form : FormsOk es
   pub name : (n : ℕ) → 1 ≤ n → n ≤ length es → nameGiven most (nth es n) ≡ true
   pub owner : OwnersOk es
   pub depth : (n : ℕ) → 1 ≤ n → n ≤ length es → depthOk es n ≡ true

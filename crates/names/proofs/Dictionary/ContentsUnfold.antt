@@ -9,7 +9,7 @@ use Rattle.base.proofs.Tests.{bool-cases}
 use Rattle.blocks.specs.declared.Entry.{Entry}
 use Rattle.names.proofs.Dictionary.ByAllValues.{Given, given-name, in-turn-all}
 use Rattle.names.proofs.Dictionary.InTurn.{in-turn}
-use Rattle.names.specs.Promise.{Each, LegalNamed, OwnersOk}
+use Rattle.names.specs.Promise.{Each, FormsOk, LegalNamed, OwnersOk}
 use Rattle.names.specs.Unfold.{contents, described, isNamed, noted, unfoldFrom, unfolded, unfoldedBy}
 
 -- contents that agree up to k unfold such entries alike
@@ -29,7 +29,13 @@ pub contents-unfold : (K : List (List Entry)) → Each LegalNamed K → (n : ℕ
 unfolding contents unfoldedBy unfolded unfoldFrom
 contents-unfold K each = in-turn-all unfolded (λ S T k agree d g. given-same S T k agree (λ j. j) 1 0 d g) [] refl K each
 
--- the owners of each description as it stands are allowed
+-- the forms and owners of each description as it stands are allowed
+pub described-forms : (K : List (List Entry)) → Each LegalNamed K → (n : ℕ) → FormsOk (described K n)
+unfolding described
+described-forms K each =
+    in-turn (λ (d d′ : List Entry). FormsOk d) LegalNamed (λ made d. d) (λ made d. d) (λ k s t d N h. N .form) 0 (λ n. []) (λ n. []) K each
+    (λ n i lo hi. absurd (omega arith))
+
 pub described-owners : (K : List (List Entry)) → Each LegalNamed K → (n : ℕ) → OwnersOk (described K n)
 unfolding described
 described-owners K each =

@@ -6,7 +6,7 @@ use lib.ListN.{length, length-append, length-map}
 use mathlib.Core.Bool.{Bool, cond, false, true}
 use mathlib.Core.List.{List, [], _++_, _∷_, append-assoc, map, map-append}
 use mathlib.Core.Path.{_∙_, _≡_, fun-ext, refl, sym}
-use native.Mathlib.Nat.{add-assoc, add-suc, add-zero}
+use native.Mathlib.Nat.{add-assoc, add-suc}
 use native.Mathlib.Omega.{arith}
 use Rattle.base.proofs.Tests.{bool-cases, eq-cases, eq-eqb, ne-eqb, tests}
 use Rattle.blocks.specs.declared.Entry.{Entry}
@@ -65,7 +65,10 @@ module _ (T : ℕ → List Entry) where
   pub unfold-append : (ν : ℕ → ℕ) (k m : ℕ) (es fs : List Entry)
       → unfoldFrom T ν k m (es ++ fs) ≡ unfoldFrom T ν k m es ++ unfoldFrom T (after ν k m es) (k + length es) (m + length (unfoldFrom T ν k m es)) fs
   unfolding unfoldFrom after
-  unfold-append ν k m [] fs = rw (add-zero, add-zero)
+  unfold-append ν k m [] fs =
+      let a : k + 0 ≡ k = omega arith in
+      let b : m + 0 ≡ m = omega arith in
+      rw (a, b)
   unfold-append ν k m (e ∷ es) fs =
       let size : k + suc (length es) ≡ suc k + length es = omega arith in
       bool-cases (isNamed e)

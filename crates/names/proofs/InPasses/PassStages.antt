@@ -1,6 +1,6 @@
 -- Unfolding in passes, the names of the greatest rank first, is unfolding; and no pass needs more room than what is unfolded.
 -- Assumes nothing.
-use Prim.Native.Nat.{_<_, _≤_, suc, ℕ}
+use Prim.Native.Nat.{_<_, _≤_, suc, zero, ℕ}
 use lib.Dec.{eqb}
 use lib.ListN.{length}
 use mathlib.Core.Bool.{true}
@@ -10,17 +10,17 @@ use native.Mathlib.Omega.{arith}
 use Rattle.base.proofs.Tests.{bool-cases, both-ways, tests}
 use Rattle.blocks.specs.Entries.{nth}
 use Rattle.blocks.specs.declared.Entry.{Entry}
-use Rattle.names.proofs.Dictionary.ContentsUnfold.{contents-unfold, described-owners}
+use Rattle.names.proofs.Dictionary.ContentsUnfold.{contents-unfold, described-forms, described-owners}
 use Rattle.names.proofs.Entries.EachEntry.{EachEntry, each-of-numbers, numbers-of-each, unfold-each}
 use Rattle.names.proofs.Entries.UnfoldPlain.{unfold-plain}
 use Rattle.names.proofs.InPasses.Ranks.{rank-described, rank-empty, rank-lower, rank-some}
-use Rattle.names.proofs.InPasses.Replaced.{again-owners, unfold-again, unfold-pass}
+use Rattle.names.proofs.InPasses.Replaced.{again-forms, again-owners, unfold-again, unfold-forms, unfold-pass}
 use Rattle.names.proofs.Legality.UnfoldOwners.{unfold-owners-ok}
 use Rattle.names.proofs.Measured.UnfoldSize.{named-size}
 use Rattle.names.specs.Measures.{sizeBy, sizeNamed, sizeNth}
-use Rattle.names.specs.Promise.{Each, LegalNamed, OwnersOk}
+use Rattle.names.specs.Promise.{Each, FormsOk, LegalNamed, OwnersOk}
 use Rattle.names.specs.Unfold.{contents, described, isNamed, unfoldFrom, unfolded, unfoldedBy}
-use Rattle.names.specs.code.Passes.{Left, Stage, StandsFor, emptied, opened, rankBy, rankNth}
+use Rattle.names.specs.code.Passes.{Left, Stage, StandsFor, emptied, opened, passes, rankBy, rankNth}
 
 module _ (K : List (List Entry)) where
   -- ---- names that stand for nothing
@@ -29,6 +29,7 @@ module _ (K : List (List Entry)) where
   unfolding emptied unfoldedBy unfolded unfoldFrom
   emptied-stands =
       record {
+        form = λ n. bool-cases (eqb (rankNth K n) 0) (λ q. rw q (λ i lo hi. absurd (omega arith))) (λ q. rw q (again-forms n));
         owner = λ n. bool-cases (eqb (rankNth K n) 0) (λ q. rw q (λ i lo hi. absurd (omega arith))) (λ q. rw q (again-owners n));
         same = λ n. bool-cases (eqb (rankNth K n) 0) (λ q. rw q (sym (rank-empty K n q))) (λ q. rw q (unfold-again (contents K) n));
       }
@@ -47,9 +48,10 @@ module _ (K : List (List Entry)) where
   -- ---- stages
 
   -- before the first pass
-  pub stage-first : (r : ℕ) (es : List Entry) → OwnersOk es
+  pub stage-first : (r : ℕ) (es : List Entry) → FormsOk es → OwnersOk es
       → ((n : ℕ) → 1 ≤ n → n ≤ length es → isNamed (nth es n) ≡ true → rankNth K (nth es n .name) ≤ r) → Stage K (unfoldedBy K es) r (unfolded (emptied K) es)
-  stage-first r es w h = record {
+  stage-first r es f w h = record {
+    form = unfold-forms (emptied K) (emptied-stands .form) es f;
     owner = unfold-owners-ok (emptied K) (emptied-stands .owner) es w;
     left = numbers-of-each (Left K r) (unfolded (emptied K) es) (emptied-left r es h);
     same = unfold-pass K (emptied K) emptied-stands es w;
@@ -67,6 +69,9 @@ module _ (K : List (List Entry)) where
     unfolding opened
     opened-stands r =
         record {
+          form = λ n. bool-cases (eqb (rankNth K n) r)
+              (λ q. rw q (unfold-forms (emptied K) (emptied-stands .form) (described K n) (described-forms K each n)))
+              (λ q. rw q (again-forms n));
           owner = λ n. bool-cases (eqb (rankNth K n) r)
               (λ q. rw q (unfold-owners-ok (emptied K) (emptied-stands .owner) (described K n) (described-owners K each n)))
               (λ q. rw q (again-owners n));
@@ -87,6 +92,7 @@ module _ (K : List (List Entry)) where
     pub stage-next : (whole : List Entry) (r : ℕ) (es : List Entry) → Stage K whole (suc r) es → Stage K whole r (unfolded (opened K (suc r)) es)
     stage-next whole r es G =
         record {
+          form = unfold-forms (opened K (suc r)) (opened-stands (suc r) .form) es (G .form);
           owner = unfold-owners-ok (opened K (suc r)) (opened-stands (suc r) .owner) es (G .owner);
           left = numbers-of-each (Left K r) (unfolded (opened K (suc r)) es)
               (unfold-each (Left K r) (λ o e l. l) (opened K (suc r)) es
@@ -99,6 +105,19 @@ module _ (K : List (List Entry)) where
   unfolding unfoldedBy
   stage-last whole es G =
       sym (unfold-plain (contents K) es (λ n lo hi. bool-cases (isNamed (nth es n)) (λ q. let l = G .left n lo hi q in absurd (omega (arith, l .0, l .1))) (λ q. q))) ∙ G .same
+
+  -- ---- all passes
+
+  passes-all : Each LegalNamed K → (whole : List Entry) (r : ℕ) (es : List Entry) → Stage K whole r es → passes K r es ≡ whole
+  unfolding passes
+  passes-all each whole zero es G = stage-last whole es G
+  passes-all each whole (suc r) es G = passes-all each whole r (unfolded (opened K (suc r)) es) (stage-next each whole r es G)
+
+  -- from any rank on that no name exceeds
+  pub passes-unfold : Each LegalNamed K → (most r : ℕ) (es : List Entry) → LegalNamed most es → rankBy (rankNth K) es ≤ suc r
+      → passes K r (unfolded (emptied K) es) ≡ unfoldedBy K es
+  passes-unfold each most r es N h =
+      passes-all each (unfoldedBy K es) r (unfolded (emptied K) es) (stage-first r es (N .form) (N .owner) (rank-names es r h))
 
   -- ---- room
 

@@ -22,7 +22,7 @@ use Rattle.names.proofs.Measured.UnfoldLevels.{unfold-levels}
 use Rattle.names.proofs.Measured.UnfoldSize.{contents-size, named-size}
 use Rattle.names.specs.Measures.{levelsBy, levelsFrom, levelsNamed, levelsNth, levelsOf, sizeNamed, sizeNth}
 use Rattle.names.specs.NamedForm.{namedFormOk}
-use Rattle.names.specs.Promise.{AcceptedNamed, Each, LegalDictionary, LegalNamed, OwnersOk, Plain, SmallEnough, Within}
+use Rattle.names.specs.Promise.{AcceptedNamed, Each, FormsOk, LegalDictionary, LegalNamed, OwnersOk, Plain, SmallEnough, Within}
 use Rattle.names.specs.Unfold.{contents, isNamed, unfolded, unfoldedBy}
 
 -- an entry has a form that plain descriptions allow
@@ -69,7 +69,7 @@ form-plain e h q = rw q at h
 
 -- a description unfolded by what is built
 built-unfolded : (T : ℕ → List Entry) (L : ℕ → ℕ) (es : List Entry) → ((n : ℕ) → Built (T n) (L n))
-    → ((n : ℕ) → 1 ≤ n → n ≤ length es → namedFormOk (nth es n) ≡ true) → OwnersOk es → Built (unfolded T es) (levelsBy L es)
+    → FormsOk es → OwnersOk es → Built (unfolded T es) (levelsBy L es)
 unfolding formOk
 built-unfolded T L es B form own =
     record {

@@ -1,6 +1,6 @@
 -- Unfolding in passes, the names of the greatest rank first.
 -- Assumes nothing.
-use Prim.Native.Nat.{_≤_, max, ℕ}
+use Prim.Native.Nat.{_≤_, max, suc, zero, ℕ}
 use lib.Dec.{eqb}
 use lib.ListN.{length}
 use mathlib.Core.Bool.{cond, true}
@@ -9,7 +9,7 @@ use mathlib.Core.Path.{_≡_}
 use Rattle.blocks.specs.Entries.{entry, nth}
 use Rattle.blocks.specs.declared.Entry.{Entry}
 use Rattle.names.specs.Measures.{under}
-use Rattle.names.specs.Promise.{OwnersOk}
+use Rattle.names.specs.Promise.{FormsOk, OwnersOk}
 use Rattle.names.specs.Unfold.{contents, described, inTurn, isNamed, unfolded, unfoldedBy}
 
 -- ---- names replaced
@@ -20,6 +20,7 @@ nameAgain n = entry 9 0 n 0 ∷ []
 
 -- S gives, for each name, entries that stand for the same
 pub record StandsFor (K : List (List Entry)) (S : ℕ → List Entry) : Type 0 where
+  pub form : (n : ℕ) → FormsOk (S n)
   pub owner : (n : ℕ) → OwnersOk (S n)
   pub same : (n : ℕ) → unfoldedBy K (S n) ≡ contents K n
 
@@ -44,12 +45,18 @@ emptied K n = cond (eqb (rankNth K n) 0) [] (nameAgain n)
 unfoldable pub opened : List (List Entry) → ℕ → ℕ → List Entry
 opened K r n = cond (eqb (rankNth K n) r) (unfolded (emptied K) (described K n)) (nameAgain n)
 
+-- the passes of ranks r to 1
+unfoldable pub passes : List (List Entry) → ℕ → List Entry → List Entry
+passes K zero es = es
+passes K (suc r) es = passes K r (unfolded (opened K (suc r)) es)
+
 -- an entry that is no name, or a name of a rank from 1 to r
 abbrev pub Left : List (List Entry) → ℕ → Entry → Type 0
 Left K r e = isNamed e ≡ true → (1 ≤ rankNth K (e .name)) × (rankNth K (e .name) ≤ r)
 
 -- where unfolding stands before the pass of rank r: the entries stand for `whole`, and the names that are left have ranks from 1 to r
 pub record Stage (K : List (List Entry)) (whole : List Entry) (r : ℕ) (es : List Entry) : Type 0 where
+  pub form : FormsOk es
   pub owner : OwnersOk es
   pub left : (n : ℕ) → 1 ≤ n → n ≤ length es → Left K r (nth es n)
   pub same : unfoldedBy K es ≡ whole
