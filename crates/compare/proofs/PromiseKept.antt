@@ -1,5 +1,6 @@
--- The comparison of two inputs: contained exactly if every item of every finite record that fits C fits D; not contained, with blocks
--- at the start of the output that the fit answer takes, yes for C and no for D. The output keeps its length.
+-- The comparison of two inputs under a list of pairs: contained exactly if every item that fits C fits D, in every finite record that keeps
+-- the list and the rule on single links; not contained, with blocks of a specimen that is accepted, keeps both, fits C and misses D. The
+-- output keeps its length.
 -- Assumes nothing.
 use Prim.Native.Nat.{_*_, _+_, _≤_, ℕ}
 use lib.ListN.{drop, length, length-append, length-drop}

@@ -1,5 +1,5 @@
--- What the promises of the comparison speak of: inputs that are compared, containment in every finite record that keeps a background, what 'not contained' says of
--- the output, demand 3 as one statement, and what each line of the starred cases says.
+-- What the promises of the comparison speak of: inputs that are compared, containment in every finite record that keeps a background, what
+-- 'not contained' says of the output, demand 3 as one statement, and what each line of the starred cases says.
 -- Assumes nothing.
 use Prim.Native.Nat.{_*_, _+_, _<_, _≤_, ℕ}
 use lib.ListN.{drop, length}
@@ -30,8 +30,8 @@ use Rattle.meaning.specs.Promise.{FirstNotEntailed, Subsumed}
 use Rattle.meaning.specs.RowEntries.{entryBefore}
 use Rattle.meaning.specs.Specimen.{recordOf}
 use Rattle.normal.specs.Promise.{NormalisedAs}
-use Rattle.pairs.specs.Pairs.{pairFaults, under}
 use Rattle.meaning.specs.StarredCases.{Line, Outcome, compares, impossible, inside, normalises, outside}
+use Rattle.pairs.specs.Pairs.{pairFaults, under}
 
 -- both inputs are accepted, and the output is at least as long as both
 pub record Comparable (c d out : List ℕ) : Type 0 where
@@ -71,7 +71,8 @@ pub record Refuted (P c d out : List ℕ) (j k : ℕ) : Type 0 where
   -- the blocks fit the output, and later bytes are unchanged
   pub room : 512 * blocksFor plain k ≤ length out
   pub later : drop (512 * blocksFor plain k) (outputOf P c d out) ≡ drop (512 * blocksFor plain k) out
-  -- they are a specimen of k entries, no more than C and D have together, whose record keeps the list and the rule on single links; so it is accepted under the list
+  -- they are a specimen of k entries, no more than C and D have together, whose record keeps the list and the rule on single links; so it
+  -- is accepted under the list
   pub blocks : firstBlocks k (outputOf P c d out) ≡ encode (specimenOf (under P) (entriesOf c) (entriesOf d))
   pub accepted : specimenReading P (firstBlocks k (outputOf P c d out)) ≡ reading.Accepted k
   pub few : k ≤ length (entriesOf c) + length (entriesOf d)

@@ -1,5 +1,6 @@
--- The normal form of an input: blocks at the start of the output that are accepted as a description, that the same items fit in every
--- finite record, and that are their own normal form. The output keeps its length.
+-- The normal form of an input under a list of pairs: blocks at the start of the output that are accepted as a description, that the same
+-- items fit in every finite record that keeps the list and the rule on single links, and that are their own normal form. The output keeps its
+-- length.
 -- Assumes nothing.
 use Prim.Native.Nat.{_*_, _≤_, ℕ}
 use lib.ListN.{drop, length, length-append, length-drop}
