@@ -11,9 +11,10 @@ use native.Mathlib.Omega.{arith}
 use Rattle.base.proofs.ChainLaws.{last-bucket, last-most, last-none}
 use Rattle.base.proofs.Tests.{and-both, and-left, and-right, both-ways, eq-cases, eq-eqb, eqb-eq, eqb-self, eqb-sym, lt-cases, or-cases, or-left, or-right}
 use Rattle.base.specs.Chain.{lastWhere}
+use Rattle.pairs.proofs.IndexLaws.{partner-ends, partner-starts}
 use Rattle.pairs.proofs.Partners.{Partner, partnered-is}
 use Rattle.pairs.specs.Pairs.{excludesIn, under}
-use Rattle.pairs.specs.code.Index.{namedCount, partnered}
+use Rattle.pairs.specs.code.Index.{PairsIndexed, bucketOf, namedCount, partnered}
 use Rattle.passes.specs.code.Keys.{keyNumber}
 use Rattle.passes.specs.code.Restrict.{excludedAt, hasAt}
 use Rattle.passes.specs.code.Slots.{Slot, sameKey, slot}
@@ -64,6 +65,10 @@ module _ (P : List ℕ) (v p : ℕ) where
 
   pub excluded-partnered : (ss : List Slot) → excludedAt (under P) ss v p ≡ partnered P (hasAt ss v) p (namedCount P)
   excluded-partnered ss = partnered-is P (hasAt ss v) p (excluded-partner ss) (λ x. partner-excluded ss (x .name) (x .held) (x .excluding))
+
+  -- a property whose bucket in the index is empty is excluded nowhere
+  pub not-excluded : {index : List ℕ} → PairsIndexed P index → getD index (bucketOf p) 0 ≡ 0 → (ss : List Slot) → excludedAt (under P) ss v p ≡ false
+  not-excluded I z ss = excluded-partnered ss ∙ partner-starts I (hasAt ss v) p (sym z) ∙ partner-ends I (hasAt ss v) p refl
 
 -- ---- in a table
 

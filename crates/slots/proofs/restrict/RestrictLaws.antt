@@ -117,6 +117,12 @@ module _ (P : List ℕ) (x : ℕ) where
   restricted-bound out =
       bool-cases (ltb (keyIn x % 131072) 65536) (λ q. rw q (property-bound out q)) (λ q. rw q (link-bound out q))
 
+-- a slot stays where its name is not excluded and it is not that of a single link
+pub word-stays : {out : Bool} (x : ℕ) → out ≡ false → ltb (keyIn x % 131072) 98304 ≡ true → restrictedWord out x ≡ x
+unfolding restrictedWord propertyWord linkWord
+word-stays x o q =
+    bool-cases (ltb (keyIn x % 131072) 65536) (λ r. rw (restrictedWord, r, o)) (λ r. rw (restrictedWord, r, q))
+
 -- a slot of a single link, made anew
 pub link-made : (x : ℕ) {k k′ lo lo′ hi r y : ℕ} → k ≡ keyIn x → 98304 ≤ k % 131072 → k′ ≡ keyIn x → lo ≡ lowPart x → lo′ ≡ lowPart x
     → hi ≡ highPart x → y ≡ singleHigh lo′ hi → r ≡ slotNumber k′ lo y → r ≡ linkWord x
