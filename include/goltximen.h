@@ -72,10 +72,10 @@
  *     gx_read_specimen       8,296 bytes
  *     gx_fit                68,656 bytes
  *     gx_fit_counted        59,920 bytes
- *     gx_normal             50,812 bytes
+ *     gx_normal             56,972 bytes
  *     gx_compare            53,916 bytes
  *     gx_fit_with           68,688 bytes
- *     gx_normal_with        50,860 bytes
+ *     gx_normal_with        57,020 bytes
  *     gx_compare_with       53,980 bytes
  *
  * The library calls memset and memcpy; a program that binds them at their first call took up to 1,072 bytes more there. A

@@ -130,7 +130,7 @@ fn judge_many(
     ensures { λ r. ⌜ Judges (under (now (pairs .entry))) (now (c .entry)) (now (d .entry)) (now (table .entry)) r (now (table .exit)) ⌝ }
 {
     let mut next = [0u16; 1009];
-    let mut head = [0u16; 1021];
+    let mut head = [0u16; 4093];
     let mut node = [0u16; 1009];
     let mut bad = [0u8; 1009];
     let mut full = [0u8; 1009];

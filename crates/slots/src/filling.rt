@@ -80,7 +80,7 @@ fn many_slots(
     ensures { λ r. ⌜ Settled (under (now (pairs .entry))) (now (d .entry)) r (now (table .exit)) (now (bad .exit)) (now (full .exit)) × Exact (now (table .entry)) (now (table .exit)) r ⌝ }
 {
     let mut next = [0u16; 1009];
-    let mut head = [0u16; 1021];
+    let mut head = [0u16; 4093];
     let mut node = [0u16; 1009];
     chained_slots(
         pairs,

@@ -58,10 +58,10 @@ fn bucket(buckets: usize, key: u64) -> usize
     requires { ⌜ 61 ≤ buckets ⌝ }
     ensures { λ r. ⌜ (r ≡ hashOf buckets key) × (r < buckets) ⌝ }
 {
-    if buckets < 1021 {
+    if buckets < 4093 {
         return (key % 61) as usize;
     }
-    (key % 1021) as usize
+    (key % 4093) as usize
 }
 
 // The slot of a key, or 0. A chain that holds all 1,008 slots costs some microseconds a look, which only keys chosen for it reach.

@@ -21,7 +21,7 @@ Reached m t used key s = OnChain (λ j. hashOf m (keysOf t j)) (hashOf m key) s 
 
 pub bucket-small : (m key : ℕ) → 61 ≤ m → hashOf m key < m
 unfolding hashOf
-bucket-small m key h = lt-cases m 1021 (λ l. rw (hashOf, lt-ltb l) (omega arith)) (λ l. rw (hashOf, ge-ltb l) (omega arith))
+bucket-small m key h = lt-cases m 4093 (λ l. rw (hashOf, lt-ltb l) (omega arith)) (λ l. rw (hashOf, ge-ltb l) (omega arith))
 
 module _ {t next head : List ℕ} {used : ℕ} (K : Kept t next head used) (key : ℕ) where
   abbrev here : ℕ

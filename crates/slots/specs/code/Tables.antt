@@ -91,7 +91,7 @@ pub record Exact (origin t : List ℕ) (used : ℕ) : Type 0 where
 
 -- the bucket of a key, of m: tables come in two sizes
 unfoldable pub hashOf : ℕ → ℕ → ℕ
-hashOf m key = cond (ltb m 1021) (key % 61) (key % 1021)
+hashOf m key = cond (ltb m 4093) (key % 61) (key % 4093)
 
 -- the chains of a table, of m buckets: each slot points to the one before it in its bucket
 abbrev pub ChainsIn : ℕ → List ℕ → List ℕ → List ℕ → ℕ → Type 0

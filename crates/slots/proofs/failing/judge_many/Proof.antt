@@ -17,7 +17,7 @@ judge-requires c κs =
       a .2,
       a .3,
       a .4,
-      workspace-zeros _ 1009 1021 (omega (arith, a, n)) (omega arith),
+      workspace-zeros _ 1009 4093 (omega (arith, a, n)) (omega arith),
       blank-zeros _ 1009 (omega (arith, a, n)),
       blank-zeros _ 1009 (omega (arith, a, n)),
       omega (arith, a, m),
