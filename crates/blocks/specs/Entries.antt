@@ -1,7 +1,7 @@
 -- Entries: their bytes, and the table of kinds.
 -- Assumes nothing.
 use Prim.Native.Nat.{ℕ, zero, suc, _+_, _*_, _<_}
-use mathlib.Core.Bool.{Bool, cond, _&&_, _||_}
+use mathlib.Core.Bool.{Bool, cond, not, true, _&&_, _||_}
 use mathlib.Core.List.{List, [], _∷_, _++_}
 use lib.ListN.{getD, length}
 use lib.Dec.{eqb, leb, ltb}
@@ -9,7 +9,7 @@ use Rattle.blocks.specs.Words.{wordAt, wordBytes}
 use Rattle.blocks.specs.Frame.{plain, entryPos, totalIn}
 use Rattle.blocks.specs.declared.Entry.{Entry}
 use Rattle.blocks.specs.declared.Schema.{Schema}
-use Rattle.blocks.specs.declared.Schema.the-variants.{Description, Specimen}
+use Rattle.blocks.specs.declared.Schema.the-variants.{Description, Named, Specimen}
 
 -- ---- bytes
 
@@ -77,20 +77,23 @@ entryOf s total n = cond (ltb 0 n && leb n total) (entryAt s n) zeroEntry
 abbrev pub limitOf : Schema → ℕ
 limitOf Description = 16
 limitOf Specimen = 32
+limitOf (Named most) = 16
 
 -- "otherwise it is an earlier entry of kind 5 (description) or 7 (specimen)": the kind that may own entries
 abbrev pub owningKind : Schema → ℕ
 owningKind Description = 5
 owningKind Specimen = 7
+owningKind (Named most) = 5
 
--- "Descriptions use 1-6, specimens 1 and 7"
+-- "Descriptions use 1-6, specimens 1 and 7"; "entry kind 9", where a dictionary can be named
 abbrev pub kindOk : Schema → ℕ → Bool
 kindOk Description k = ltb 0 k && leb k 6
 kindOk Specimen k = eqb k 1 || eqb k 7
+kindOk (Named most) k = eqb k 9 || (ltb 0 k && leb k 6)
 
--- the table's column Name: 1-65,535, for kind 6 0
+-- the table's column Name: 1-65,535, for kind 6 0; for kind 9 any, since its name has a number of its own, 13
 unfoldable pub nameOk : ℕ → ℕ → Bool
-nameOk k name = cond (eqb k 6) (eqb name 0) (ltb 0 name)
+nameOk k name = cond (eqb k 6) (eqb name 0) (ltb 0 name || eqb k 9)
 
 -- the table's column Number: free for kinds 3, 4 and 7, else 0
 unfoldable pub numberOk : ℕ → ℕ → Bool
@@ -98,6 +101,22 @@ numberOk k number = (eqb k 3 || (eqb k 4 || eqb k 7)) || eqb number 0
 
 unfoldable pub formOk : Schema → Entry → Bool
 formOk σ e = kindOk σ (e .kind) && (eqb (e .reserved) 0 && (nameOk (e .kind) (e .name) && numberOk (e .kind) (e .number)))
+
+-- ---- names
+
+-- "entry kind 9 with name n and number 0 stands for its n-th description"
+abbrev pub isNamed : Entry → Bool
+isNamed e = eqb (e .kind) 9
+
+-- the contrary of 13, "a name of 0, above the dictionary's count or not earlier": names up to `most` may be given
+unfoldable pub nameGiven : ℕ → Entry → Bool
+nameGiven most e = not (isNamed e) || (ltb 0 (e .name) && leb (e .name) most)
+
+-- what a schema asks of names: nothing where no entry is one
+abbrev pub namesOk : Schema → Entry → Bool
+namesOk Description e = true
+namesOk Specimen e = true
+namesOk (Named most) e = nameGiven most e
 
 -- ---- an entry as one number
 

@@ -6,12 +6,12 @@ use mathlib.Core.List.{List, [], _∷_, _++_}
 use lib.ListN.{length}
 use lib.Dec.{eqb, ltb}
 use Rattle.blocks.specs.Frame.{Frame, plain, blocksIn, checkWrong, frameWrong}
-use Rattle.blocks.specs.Entries.{limitOf, formOk, nth, entriesOf}
+use Rattle.blocks.specs.Entries.{limitOf, formOk, nameGiven, nth, entriesOf}
 use Rattle.blocks.specs.Owners.{ownerOk, depthOk}
 use Rattle.blocks.specs.Single.{singleOk}
 use Rattle.blocks.specs.declared.Entry.{Entry}
 use Rattle.blocks.specs.declared.Schema.{Schema}
-use Rattle.blocks.specs.declared.Schema.the-variants.{Description, Specimen}
+use Rattle.blocks.specs.declared.Schema.the-variants.{Description, Named, Specimen}
 use Rattle.blocks.specs.declared.Finding.{Finding}
 use Rattle.blocks.specs.declared.Finding.the-variants.{Clean, Faulty}
 
@@ -38,6 +38,9 @@ blockFaults F s n i (suc left) =
 abbrev pub formRow : Schema → List Entry → ℕ → Fault
 formRow σ es n = fault (not (formOk σ (nth es n))) 4 n
 
+abbrev pub nameRow : ℕ → List Entry → ℕ → Fault
+nameRow most es n = fault (not (nameGiven most (nth es n))) 13 n
+
 abbrev pub ownerRow : Schema → List Entry → ℕ → Fault
 ownerRow σ es n = fault (not (ownerOk σ es n)) 5 n
 
@@ -47,9 +50,11 @@ depthRow es n = fault (not (depthOk es n)) 6 n
 abbrev pub singleRow : List Entry → ℕ → Fault
 singleRow es n = fault (not (singleOk es n)) 9 n
 
--- the lines that an entry of each schema may break, in their order: "4, 5 or 6, in that order", and 9 "after 6 at the same entry"
+-- the lines that an entry of each schema may break, in their order: "4, 5 or 6, in that order", 13 "at its entry after 4", and 9 "after 6
+-- at the same entry"
 abbrev pub entryRows : Schema → List Entry → ℕ → List Fault
 entryRows Description es n = formRow Description es n ∷ ownerRow Description es n ∷ depthRow es n ∷ []
+entryRows (Named most) es n = formRow (Named most) es n ∷ nameRow most es n ∷ ownerRow (Named most) es n ∷ depthRow es n ∷ []
 entryRows Specimen es n = formRow Specimen es n ∷ ownerRow Specimen es n ∷ depthRow es n ∷ singleRow es n ∷ []
 
 -- the lines of `left` entries from entry n on, by the lines of each

@@ -5,12 +5,12 @@ use lib.ListN.{length}
 use mathlib.Core.Bool.{false, true}
 use mathlib.Core.List.{List, [], _++_, _∷_}
 use mathlib.Core.Path.{_≡_}
-use Rattle.blocks.specs.Entries.{formOk, nth}
+use Rattle.blocks.specs.Entries.{formOk, nameGiven, nth}
 use Rattle.blocks.specs.Faults.{Fault, fault}
 use Rattle.blocks.specs.Owners.{depthOk, ownerOk}
 use Rattle.blocks.specs.Single.{singleOk}
 use Rattle.blocks.specs.declared.Entry.{Entry}
-use Rattle.blocks.specs.declared.Schema.the-variants.{Description, Specimen}
+use Rattle.blocks.specs.declared.Schema.the-variants.{Description, Named, Specimen}
 use Rattle.blocks.specs.declared.Schema.{Schema}
 
 -- none of the faults applies
@@ -36,7 +36,8 @@ pub record Legal (σ : Schema) (es : List Entry) : Type 0 where
 pub record Single (es : List Entry) : Type 0 where
   pub each : (n : ℕ) → 1 ≤ n → n ≤ length es → singleOk es n ≡ true
 
--- what the schema's lines after 4, 5 and 6 ask
+-- what the schema's other lines than 4, 5 and 6 ask
 abbrev pub Further : Schema → List Entry → Type 0
 Further Description es = Unit {0}
 Further Specimen es = Single es
+Further (Named most) es = (n : ℕ) → 1 ≤ n → n ≤ length es → nameGiven most (nth es n) ≡ true

@@ -30,10 +30,12 @@ pub struct Entry {
     pub number: u16,
 }
 
-// Which table of kinds, and which limit of length, an input is read by.
+// Which table of kinds, and which limit of length, an input is read by. A named description is one that may name the descriptions of a
+// dictionary, those up to a number.
 pub enum Schema {
     Description,
     Specimen,
+    Named(u16),
 }
 
 // What a search for faults finds: none, or the refusal's number and the place, a block or an entry counted from 1.

@@ -6,7 +6,5 @@ pub mod MovedUnfolding
 pub mod UnfoldTwice
 -- Names replaced by what stands for the same change nothing, once all are unfolded.
 pub mod Replaced
--- Ranks of descriptions: 0 exactly for those that stand for nothing, and names have lower ranks than what they stand in.
-pub mod Ranks
--- Unfolding in passes, the names of the greatest rank first, is unfolding; and no pass needs more room than what is unfolded.
+-- Unfolding in passes, the greatest name first, is unfolding; and no pass needs more room than what is unfolded.
 pub mod PassStages

@@ -8,3 +8,6 @@ pub mod UnfoldLegal
 pub mod NoNames
 -- The fields of an unfolded description's entries fit their bytes, if those of what it is made from do.
 pub mod UnfoldBounded
+-- What reading a description under a dictionary answers, by its parts: what no rule up to 13 refuses is legal, and then 14 decides. And what
+-- reading a dictionary answers.
+pub mod NamedReadings

@@ -6,7 +6,9 @@ pub mod NamedMeaning
 pub mod Measures
 -- The table of kinds, for descriptions with names.
 pub mod NamedForm
+-- Reading a description that may name others, and a dictionary: the refusals, in their order.
+pub mod NamedReading
 -- What the promises on named descriptions speak of.
 pub mod Promise
--- Mirrors of the code to come: no promise to the customer cites these.
+-- Mirrors of the code: no promise to the customer cites these.
 pub mod code

@@ -3,8 +3,9 @@
 use Prim.Native.Nat.{_+_, max, suc, zero, ℕ}
 use mathlib.Core.Bool.{cond}
 use mathlib.Core.List.{List, [], _∷_}
+use Rattle.blocks.specs.Entries.{isNamed}
 use Rattle.blocks.specs.declared.Entry.{Entry}
-use Rattle.names.specs.Unfold.{inTurn, isNamed, noted}
+use Rattle.names.specs.Unfold.{inTurn, noted}
 
 -- ---- entries
 

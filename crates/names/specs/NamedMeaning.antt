@@ -4,11 +4,12 @@ use Prim.Native.Nat.{ℕ}
 use lib.Dec.{eqb}
 use mathlib.Core.Bool.{Bool, _&&_, cond, true}
 use mathlib.Core.List.{List, map}
+use Rattle.blocks.specs.Entries.{isNamed}
 use Rattle.blocks.specs.declared.Entry.{Entry}
 use Rattle.logic.specs.Record.{Record, eachLinked, meets}
 use Rattle.logic.specs.Tree.{Row, Tree, end, leaf, leafRow, node, nodeRow, tree}
 use Rattle.meaning.specs.Description.{atomOf}
-use Rattle.names.specs.Unfold.{inTurn, isNamed}
+use Rattle.names.specs.Unfold.{inTurn}
 
 -- the row of an entry, which a name is too
 unfoldable pub namedRow : Entry → Row Entry ℕ

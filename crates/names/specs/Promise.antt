@@ -5,16 +5,16 @@ use lib.ListN.{length}
 use mathlib.Core.Bool.{false, true}
 use mathlib.Core.List.{List, [], _∷_}
 use mathlib.Core.Path.{_≡_}
-use Rattle.blocks.specs.Entries.{nth}
+use Rattle.blocks.specs.Entries.{isNamed, nameGiven, nth}
 use Rattle.blocks.specs.Owners.{depthOk, ownerOk}
 use Rattle.blocks.specs.Promise.{Legal}
 use Rattle.blocks.specs.declared.Entry.{Entry}
 use Rattle.blocks.specs.declared.Schema.the-variants.{Description}
 use Rattle.logic.specs.Record.{Record, fits}
 use Rattle.meaning.specs.Description.{placeOf}
-use Rattle.names.specs.NamedForm.{nameGiven, namedFormOk}
+use Rattle.names.specs.NamedForm.{namedFormOk}
 use Rattle.names.specs.NamedMeaning.{fitsNamed}
-use Rattle.names.specs.Unfold.{contents, isNamed, unfoldedBy}
+use Rattle.names.specs.Unfold.{contents, unfoldedBy}
 
 -- no entry is a name
 abbrev pub Plain : List Entry → Type 0

@@ -3,15 +3,12 @@
 use Prim.Native.Nat.{_+_, suc, zero, ℕ}
 use lib.Dec.{eqb}
 use lib.ListN.{length}
-use mathlib.Core.Bool.{Bool, cond}
+use mathlib.Core.Bool.{cond}
 use mathlib.Core.List.{List, [], _++_, _∷_, map}
+use Rattle.blocks.specs.Entries.{isNamed}
 use Rattle.blocks.specs.declared.Entry.{Entry}
 
 -- ---- entries
-
--- "entry kind 9 with name n and number 0 stands for its n-th description"
-abbrev pub isNamed : Entry → Bool
-isNamed e = eqb (e .kind) 9
 
 -- an entry with another owner
 abbrev pub ownedBy : ℕ → Entry → Entry

@@ -1,4 +1,4 @@
--- Mirrors of the code to come: no promise to the customer cites these.
+-- Mirrors of the code: no promise to the customer cites these.
 
--- Unfolding in passes, the names of the greatest rank first.
+-- Unfolding in passes, the greatest name first.
 pub mod Passes

@@ -1,5 +1,5 @@
 // Reading an input: its number of entries, or the refusal by the first number of the table of refusals that applies. Number 1 goes by the length,
-// numbers 2 and 3 by the frames of the blocks, numbers 4 to 6, and 9 of specimens, by the entries.
+// numbers 2 and 3 by the frames of the blocks, numbers 4 to 6, 9 of specimens and 13 of names, by the entries.
 //
 // The contracts cite Frame, Faults and Reading of `blocks`; what those definitions mean together is proved there.
 mod frame;

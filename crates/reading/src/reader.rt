@@ -22,6 +22,7 @@ fn limit_of(schema: Schema) -> usize
     match schema {
         Schema::Description => 16,
         Schema::Specimen => 32,
+        Schema::Named(_) => 16,
     }
 }
 
@@ -39,7 +40,7 @@ fn blocks_read(s: &[u8], schema: Schema) -> usize
     n / 512
 }
 
-// Reads an input as a description or a specimen: its number of entries, or the refusal by the first number that applies. The
+// Reads an input as a description, with or without names, or a specimen: its number of entries, or the refusal by the first number that applies. The
 // input's own number is only handed on, into the refusal.
 pub fn read(s: &[u8], schema: Schema, input: u16) -> Reading
     ensures { λ r. ⌜ r ≡ readingOf schema input (now (s .entry)) ⌝ }

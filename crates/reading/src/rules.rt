@@ -1,12 +1,13 @@
-// The rules of single entries: the table of kinds, owners and depths, numbers 4, 5 and 6 of the table of refusals.
+// The rules of single entries: the table of kinds, names, owners and depths, numbers 4, 13, 5 and 6 of the table of refusals.
 ghost use mathlib.Core.Path.{_≡_};
 ghost use Prim.Native.Nat.{_+_, _*_, _/_, _≤_, _<_};
 ghost use lib.ListN.{length};
-ghost use Rattle.blocks.specs.Entries.{kindOk, nameOk, numberOk, formOk, owningKind, entriesOf, entryFrom};
+ghost use Rattle.blocks.specs.Entries.{kindOk, nameGiven, nameOk, namesOk, numberOk, formOk, owningKind, entriesOf, entryFrom};
 ghost use Rattle.blocks.specs.Faults.{first};
 ghost use Rattle.blocks.specs.code.Blockwise.{InBlock, Whole};
 ghost use Rattle.blocks.specs.code.ReadingSteps.{Levels, levelBy, entryRefusal, levelUnder, ruleFaults};
 ghost use Rattle.blocks.specs.declared.Finding.{Finding};
+ghost use Rattle.blocks.specs.declared.Schema.{Schema};
 use blocks::Entry;
 use blocks::Finding;
 use blocks::Schema;
@@ -30,6 +31,16 @@ pub(crate) fn entry_from(s: &[u8], at: usize) -> Entry
     )
 }
 
+// Whether a kind is one of a description that may name others.
+fn named_kind(kind: u8) -> bool
+    ensures { λ r. ⌜ r ≡ kindOk (Schema.Named 0) kind ⌝ }
+{
+    if kind == 9 {
+        return true;
+    }
+    0 < kind && kind <= 6
+}
+
 // Whether a kind stands in the schema's table.
 fn kind_ok(schema: Schema, kind: u8) -> bool
     ensures { λ r. ⌜ r ≡ kindOk schema kind ⌝ }
@@ -37,6 +48,7 @@ fn kind_ok(schema: Schema, kind: u8) -> bool
     match schema {
         Schema::Description => 0 < kind && kind <= 6,
         Schema::Specimen => kind == 1 || kind == 7,
+        Schema::Named(_) => named_kind(kind),
     }
 }
 
@@ -47,6 +59,7 @@ fn owning_kind(schema: Schema) -> u8
     match schema {
         Schema::Description => 5,
         Schema::Specimen => 7,
+        Schema::Named(_) => 5,
     }
 }
 
@@ -54,7 +67,13 @@ fn owning_kind(schema: Schema) -> u8
 fn name_ok(kind: u8, name: u16) -> bool
     ensures { λ r. ⌜ r ≡ nameOk kind name ⌝ }
 {
-    if kind == 6 { name == 0 } else { 0 < name }
+    if kind == 6 {
+        return name == 0;
+    }
+    if 0 < name {
+        return true;
+    }
+    kind == 9
 }
 
 // Whether the table allows the number for the kind.
@@ -85,6 +104,27 @@ fn form_ok(schema: Schema, e: Entry) -> bool
     number_ok(e.kind, e.number)
 }
 
+// Whether an entry, if it is a name, is one from 1 to `most`.
+fn name_given(most: u16, e: Entry) -> bool
+    ensures { λ r. ⌜ r ≡ nameGiven most e ⌝ }
+{
+    if e.kind != 9 {
+        return true;
+    }
+    0 < e.name && e.name <= most
+}
+
+// Whether the schema allows the name of an entry that is one: the contrary of number 13.
+fn names_ok(schema: Schema, e: Entry) -> bool
+    ensures { λ r. ⌜ r ≡ namesOk schema e ⌝ }
+{
+    match schema {
+        Schema::Description => true,
+        Schema::Specimen => true,
+        Schema::Named(most) => name_given(most, e),
+    }
+}
+
 // The level of owner o of entry n: 0 where it may own nothing or does not stand earlier.
 fn level_by(level: &[u8], n: usize, o: u16) -> u8
     requires { ⌜ n ≤ length (now level) ⌝ }
@@ -94,12 +134,15 @@ fn level_by(level: &[u8], n: usize, o: u16) -> u8
     if at < n { level[at] } else { 0 }
 }
 
-// The number that an entry is refused by whose owner has level l, 4 before 5 before 6; 0 where none applies.
+// The number that an entry is refused by whose owner has level l, 4 before 13 before 5 before 6; 0 where none applies.
 fn entry_refusal(schema: Schema, e: Entry, l: u8) -> u8
     ensures { λ r. ⌜ r ≡ entryRefusal schema e l ⌝ }
 {
     if !form_ok(schema, e) {
         return 4;
+    }
+    if !names_ok(schema, e) {
+        return 13;
     }
     if l == 0 {
         return 5;
@@ -122,7 +165,7 @@ fn level_under(schema: Schema, kind: u8, l: u8) -> u8
     }
 }
 
-// The lowest of `count` entries, those after the first `done`, whose bytes start at `from`, that breaks number 4, 5 or 6. Each entry is
+// The lowest of `count` entries, those after the first `done`, whose bytes start at `from`, that breaks number 4, 13, 5 or 6. Each entry is
 // decoded once, and a table holds the level of each entry before it, so that neither its owner nor its chain of owners is looked up again.
 fn fault_in_block(
     s: &[u8],
@@ -152,7 +195,7 @@ fn fault_in_block(
     }
 }
 
-// The lowest of `total` entries that breaks number 4, 5 or 6, block by block, with a table of levels that has a number for each.
+// The lowest of `total` entries that breaks number 4, 13, 5 or 6, block by block, with a table of levels that has a number for each.
 fn fault_by_levels(s: &[u8], schema: Schema, total: usize, level: &mut [u8]) -> Finding
     requires { ⌜ (total ≡ length (entriesOf (now s))) × (total ≤ 2016) × Whole (now s) total × (total < length (now level)) ⌝ }
     ensures { λ r. ⌜ r ≡ first (ruleFaults schema (entriesOf (now (s .entry))) 1 total) ⌝ }
@@ -194,7 +237,7 @@ fn many_entries_fault(s: &[u8], schema: Schema, total: usize) -> Finding
     fault_by_levels(s, schema, total, &mut level)
 }
 
-// The lowest of `total` entries that breaks number 4, 5 or 6. Few entries take a small table, which is sooner cleared.
+// The lowest of `total` entries that breaks number 4, 13, 5 or 6. Few entries take a small table, which is sooner cleared.
 pub(crate) fn first_rule_fault(s: &[u8], schema: Schema, total: usize) -> Finding
     requires { ⌜ (total ≡ length (entriesOf (now s))) × (total ≤ 2016) × (512 * ((total + 62) / 63) ≤ length (now s)) ⌝ }
     ensures { λ r. ⌜ r ≡ first (ruleFaults schema (entriesOf (now (s .entry))) 1 total) ⌝ }

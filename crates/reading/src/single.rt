@@ -247,5 +247,6 @@ pub(crate) fn first_entry_fault(s: &[u8], schema: Schema, total: usize) -> Findi
     match schema {
         Schema::Description => first_rule_fault(s, Schema::Description, total),
         Schema::Specimen => specimen_fault(s, total),
+        Schema::Named(most) => first_rule_fault(s, Schema::Named(most), total),
     }
 }

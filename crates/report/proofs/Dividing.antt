@@ -1,92 +1,21 @@
--- What dividing the input means: it is divided at the first later whole block with number 1, and not at all where there is none.
+-- What dividing the input means: it is divided at the first later whole block with number 1. Crate lists has the laws for an input that
+-- is not divided.
 -- Assumes nothing.
-use Prim.Native.Nat.{_*_, _+_, _-_, _<_, _≤_, suc, zero, ℕ}
-use lib.ListN.{length, take-append-drop}
-use lib.Seq.{drop-length, take-length}
-use mathlib.Core.List.{List, [], _++_}
-use mathlib.Core.Logic.{_≢_}
-use mathlib.Core.Path.{_≡_, refl}
+use Prim.Native.Nat.{_<_, ℕ}
+use lib.ListN.{length}
+use mathlib.Core.List.{List}
+use mathlib.Core.Path.{_≡_}
 use native.Mathlib.Omega.{arith}
-use Rattle.base.proofs.Tests.{eq-cases, eq-eqb, lt-cases, ne-eqb}
-use Rattle.blocks.specs.Frame.{blocksIn}
-use Rattle.blocks.specs.Words.{wordAt}
-use Rattle.report.specs.Division.{Begins, divisionFrom, firstLength, firstPart, secondPart}
+use Rattle.base.proofs.Tests.{lt-cases}
+use Rattle.lists.proofs.FirstPart.{first-bound, first-found, undivided}
+use Rattle.lists.specs.Parts.{firstLength}
 use Rattle.report.specs.Promise.{FirstLater}
 
--- ---- the search among `left` whole blocks from block i on
-
--- what it finds: the first of them with number 1
-record Found (s : List ℕ) (i r : ℕ) : Type 0 where
-  block : ℕ
-  from : i ≤ block
-  whole : 512 * block + 512 ≤ length s
-  number : wordAt s (512 * block) ≡ 1
-  offset : r ≡ 512 * block
-  before : (k : ℕ) → i ≤ k → k < block → wordAt s (512 * k) ≢ 1
-
 module _ (s : List ℕ) where
-  -- each of the blocks is whole
-  abbrev Whole : ℕ → ℕ → Type 0
-  Whole i left = (k : ℕ) → i ≤ k → k < i + left → 512 * k + 512 ≤ length s
-
-  rest : (i left : ℕ) → Whole i (suc left) → Whole (suc i) left
-  rest i left h k lo hi = h k (omega arith) (omega arith)
-
-  at-most : (i left : ℕ) → Whole i left → divisionFrom s i left ≤ length s
-  unfolding divisionFrom
-  at-most i zero h = omega arith
-  at-most i (suc left) h =
-      eq-cases (wordAt s (512 * i)) 1
-      (λ q. rw (divisionFrom, eq-eqb q) (let a = h i (omega arith) (omega arith) in omega arith))
-      (λ q. rw (divisionFrom, ne-eqb q) (at-most (suc i) left (rest i left h)))
-
-  found : (i left : ℕ) → Whole i left → divisionFrom s i left < length s → Found s i (divisionFrom s i left)
-  unfolding divisionFrom
-  found i zero h l = absurd (omega arith)
-  found i (suc left) h l =
-      eq-cases (wordAt s (512 * i)) 1
-      (λ q. rw (divisionFrom, eq-eqb q) (found-here i (h i (omega arith) (omega arith)) q))
-      (λ q. rw (divisionFrom, ne-eqb q) (found-later i q (found (suc i) left (rest i left h) (rw (divisionFrom, ne-eqb q) at l))))
-    where
-      found-here : (i : ℕ) → 512 * i + 512 ≤ length s → wordAt s (512 * i) ≡ 1 → Found s i (512 * i)
-      found-here i h q = record { block = i; from = omega arith; whole = h; number = q; offset = refl; before = λ k lo hi. absurd (omega arith) }
-
-      found-later : (i : ℕ) {r : ℕ} → wordAt s (512 * i) ≢ 1 → Found s (suc i) r → Found s i r
-      found-later i q f = record {
-        block = f .block;
-        from = let a = f .from in omega arith;
-        whole = f .whole;
-        number = f .number;
-        offset = f .offset;
-        before = λ k lo hi. eq-cases k i (λ e. rw e q) (λ e. f .before k (omega arith) hi);
-      }
-
-  none-found : (i left : ℕ) → Whole i left → divisionFrom s i left ≡ length s → (k : ℕ) → i ≤ k → k < i + left → wordAt s (512 * k) ≢ 1
-  unfolding divisionFrom
-  none-found i zero h e k lo hi = absurd (omega arith)
-  none-found i (suc left) h e k lo hi =
-      eq-cases (wordAt s (512 * i)) 1
-      (λ q.
-      let a : 512 * i ≡ length s = rw (divisionFrom, eq-eqb q) at e in
-      let b = h i (omega arith) (omega arith) in
-      absurd (omega arith))
-      (λ q. eq-cases k i (λ p. rw p q) (λ p. none-found (suc i) left (rest i left h) (rw (divisionFrom, ne-eqb q) at e) k (omega arith) (omega arith)))
-
-  -- ---- the whole input
-
-  whole-blocks : Whole 1 (blocksIn s - 1)
-  unfolding blocksIn
-  whole-blocks k lo hi = omega arith
-
-  pub first-bound : firstLength s ≤ length s
-  unfolding firstLength
-  first-bound = at-most 1 (blocksIn s - 1) whole-blocks
-
   -- where C is not all of the input, it runs up to the first later whole block with number 1
   pub divided : firstLength s < length s → FirstLater s (firstLength s)
-  unfolding firstLength
   divided l =
-      let f = found 1 (blocksIn s - 1) whole-blocks l in
+      let f = first-found s l in
       record {
         block = f .block;
         begins = record { later = f .from; whole = f .whole; number = f .number };
@@ -94,18 +23,10 @@ module _ (s : List ℕ) where
         none-before = λ k h b. f .before k (b .later) h (b .number);
       }
 
-  -- where C is all of the input, there is no such block
-  pub undivided : firstLength s ≡ length s → (k : ℕ) → Begins s k → ⊥
-  unfolding firstLength blocksIn
-  undivided e k b =
-      let lo = b .later in
-      let h = b .whole in
-      none-found 1 (blocksIn s - 1) whole-blocks e k lo (omega arith) (b .number)
-
   -- and the other way round
   pub divided-by-first : {r : ℕ} → FirstLater s r → firstLength s ≡ r
   divided-by-first f =
-      let b = first-bound in
+      let b = first-bound s in
       lt-cases (firstLength s) (length s)
       (λ l. let g = divided l in
       lt-cases (f .block) (g .block)
@@ -113,21 +34,4 @@ module _ (s : List ℕ) where
       (λ p. lt-cases (g .block) (f .block)
       (λ q. absurd (f .none-before (g .block) q (g .begins)))
       (λ q. let x = f .offset in let y = g .offset in omega arith)))
-      (λ l. absurd (undivided (omega arith) (f .block) (f .begins)))
-
-  pub undivided-by-none : ((k : ℕ) → Begins s k → ⊥) → firstLength s ≡ length s
-  undivided-by-none h =
-      let b = first-bound in
-      lt-cases (firstLength s) (length s)
-      (λ l. let g = divided l in absurd (h (g .block) (g .begins)))
-      (λ l. omega arith)
-
-  -- ---- the two parts
-
-  -- "D is the rest"
-  pub parts-join : firstPart s ++ secondPart s ≡ s
-  parts-join = take-append-drop (firstLength s) s
-
-  -- "with no such block C is all of it and D has length 0"
-  pub no-second : ((k : ℕ) → Begins s k → ⊥) → (firstPart s ≡ s) × (secondPart s ≡ [])
-  no-second h = let e = undivided-by-none h in (rw (e, take-length), rw (e, drop-length))
+      (λ l. absurd (undivided s (omega arith) (f .block) (f .begins)))

@@ -18,8 +18,9 @@ use Rattle.blocks.specs.Reading.{readingOf}
 use Rattle.blocks.specs.Words.{wordAt}
 use Rattle.blocks.specs.declared.Reading.the-variants.{Accepted}
 use Rattle.blocks.specs.declared.Schema.the-variants.{Description}
-use Rattle.report.proofs.Dividing.{divided-by-first, no-second}
-use Rattle.report.specs.Division.{Begins, firstLength, firstPart, secondPart}
+use Rattle.lists.proofs.FirstPart.{no-second}
+use Rattle.lists.specs.Parts.{Begins, firstLength, firstPart, secondPart}
+use Rattle.report.proofs.Dividing.{divided-by-first}
 use Rattle.report.specs.Promise.{FirstLater}
 
 -- ---- words of joined lists

@@ -1,4 +1,4 @@
--- What dividing the input means: it is divided at the first later whole block with number 1, and not at all where there is none.
+-- What dividing the input means: it is divided at the first later whole block with number 1.
 pub mod Dividing
 -- Descriptions on standard input: two that are accepted, joined, divide into just these two, and one alone does not divide.
 pub mod Joined
@@ -8,7 +8,7 @@ pub mod Printed
 pub mod PrintedText
 -- The lines that the paper gives, to their last byte.
 pub mod SecondExample
--- Laws of the search for the second description, one for each way through its loop, and of the two parts.
+-- What the code compares are the two parts of the division.
 pub mod DivisionLaws
 -- The lines of a specimen that is written at the start of the output are the lines of its entries.
 pub mod WrittenLines

@@ -16,12 +16,12 @@ use Rattle.blocks.specs.declared.Schema.the-variants.{Description}
 use Rattle.compare.proofs.AnswerLaws.{compared, first-refused, not-contained-ready, not-verdict, second-refused}
 use Rattle.compare.specs.Answer.{compareUnder, outputUnder}
 use Rattle.compare.specs.declared.Comparison.the-variants as comparison
+use Rattle.lists.proofs.FirstPart.{no-second}
+use Rattle.lists.specs.Parts.{firstPart, secondPart}
 use Rattle.logic.specs.Background.{standing}
 use Rattle.meaning.specs.Failing.{specimenOf}
-use Rattle.report.proofs.Dividing.{no-second}
 use Rattle.report.proofs.Joined.{alone-parts, joined-parts}
 use Rattle.report.proofs.WrittenLines.{lines-written}
-use Rattle.report.specs.Division.{firstPart, secondPart}
 use Rattle.report.specs.Lines.{entryLines, linesFrom, linesOf}
 use Rattle.report.specs.declared.Line.{Line}
 use Rattle.report.specs.declared.Line.the-variants.{Contained, NotContained, Refused}

@@ -16,11 +16,11 @@ use Rattle.blocks.specs.declared.Schema.the-variants.{Description}
 use Rattle.compare.specs.Answer.{compareUnder}
 use Rattle.compare.specs.declared.Comparison.{Comparison}
 use Rattle.compare.specs.declared.Comparison.the-variants as comparison
+use Rattle.lists.proofs.FirstPart.{parts-join}
+use Rattle.lists.specs.Parts.{firstPart, secondPart}
 use Rattle.logic.specs.Background.{standing}
 use Rattle.meaning.specs.Failing.{specimenOf}
-use Rattle.report.proofs.Dividing.{parts-join}
 use Rattle.report.proofs.Printed.{alone-printed, contained-lines, linesFor, not-contained-lines, printed, refused-lines, short-printed}
-use Rattle.report.specs.Division.{firstPart, secondPart}
 use Rattle.report.specs.Lines.{entryLine, entryLines, linesFrom, linesOf, specimenLines}
 use Rattle.report.specs.Promise.{Prints, Writes, lent}
 use Rattle.report.specs.Promise.Writes.{line, none}

@@ -1,5 +1,3 @@
--- Where the program's input divides into C and D.
-pub mod Division
 -- The lines that the program prints.
 pub mod Lines
 -- What the promises of the program speak of: the first later block with number 1, a number in decimal, and what the program writes.

@@ -6,8 +6,8 @@ use mathlib.Core.List.{List, [], _++_, _∷_}
 use mathlib.Core.Path.{_≡_}
 use Rattle.compare.specs.Answer.{compareUnder, outputUnder}
 use Rattle.compare.specs.declared.Comparison.{Comparison}
+use Rattle.lists.specs.Parts.{Begins, firstPart, secondPart}
 use Rattle.logic.specs.Background.{standing}
-use Rattle.report.specs.Division.{Begins, firstPart, secondPart}
 use Rattle.report.specs.Lines.{specimenLines}
 use Rattle.report.specs.Text.{inputBytes, lineOf, lineText}
 

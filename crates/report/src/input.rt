@@ -2,10 +2,9 @@
 ghost use mathlib.Core.Path.{_≡_};
 ghost use lib.ListN.{replicate};
 ghost use Rattle.compare.specs.Answer.{compareUnder, outputUnder};
+ghost use Rattle.lists.specs.Parts.{firstPart, secondPart};
 ghost use Rattle.logic.specs.Background.{standing};
-ghost use Rattle.report.specs.Division.{firstPart, secondPart};
 ghost use Rattle.report.specs.Text.{inputBytes};
-use crate::split::first_length;
 use compare::Comparison;
 
 // Zeros, as many as the program reads bytes at most. As many are room for every specimen.
@@ -20,6 +19,6 @@ pub fn compare_parts(s: &[u8], out: &mut [u8]) -> Comparison
     ensures { λ r. ⌜ (r ≡ compareUnder standing (firstPart (now (s .entry))) (secondPart (now (s .entry))) (now (out .entry)))
         × (now (out .exit) ≡ outputUnder standing (firstPart (now (s .entry))) (secondPart (now (s .entry))) (now (out .entry))) ⌝ }
 {
-    let first = first_length(s);
+    let first = lists::part_length(s);
     compare::compare(&s[0..0], &s[0..first], &s[first..s.len()], out)
 }

@@ -13,12 +13,13 @@ use Rattle.blocks.specs.Frame.{blocksIn}
 use Rattle.blocks.specs.Entries.{limitOf}
 use Rattle.blocks.specs.Faults.{lengthWrong}
 use Rattle.blocks.specs.declared.Schema.{Schema}
-use Rattle.blocks.specs.declared.Schema.the-variants.{Description, Specimen}
+use Rattle.blocks.specs.declared.Schema.the-variants.{Description, Named, Specimen}
 
 -- every limit allows a block
 pub limit-pos : (σ : Schema) → 0 < limitOf σ
 limit-pos Description = omega arith
 limit-pos Specimen = omega arith
+limit-pos (Named most) = omega arith
 
 -- such a length does not break number 1
 pub length-right : (σ : Schema) (s : List ℕ) (n : ℕ) → length s ≡ 512 * n → 0 < n → n ≤ limitOf σ → lengthWrong σ s ≡ false

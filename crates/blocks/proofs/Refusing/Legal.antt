@@ -15,7 +15,7 @@ use Rattle.blocks.specs.Faults.{entryFaults, entryRows}
 use Rattle.blocks.specs.Owners.{depthOk, ownerOf, ownerOk}
 use Rattle.blocks.specs.Promise.{Further, Legal, None}
 use Rattle.blocks.specs.declared.Entry.{Entry}
-use Rattle.blocks.specs.declared.Schema.the-variants.{Description, Specimen}
+use Rattle.blocks.specs.declared.Schema.the-variants.{Description, Named, Specimen}
 use Rattle.blocks.specs.declared.Schema.{Schema}
 
 -- owners stand earlier
@@ -48,6 +48,7 @@ rules-none : (σ : Schema) (es : List Entry) (n : ℕ) → None (entryRows σ es
 unfolding None
 rules-none Description es n h = (true-of-not _ (h .0), (true-of-not _ (h .1 .0), true-of-not _ (h .1 .1 .0)))
 rules-none Specimen es n h = (true-of-not _ (h .0), (true-of-not _ (h .1 .0), true-of-not _ (h .1 .1 .0)))
+rules-none (Named most) es n h = (true-of-not _ (h .0), (true-of-not _ (h .1 .1 .0), true-of-not _ (h .1 .1 .1 .0)))
 
 pub none-legal : {σ : Schema} {es : List Entry} → None (entryFaults σ es 1 (length es)) → Legal σ es
 none-legal {σ} {es} h = record {
@@ -60,6 +61,7 @@ pub none-further : (σ : Schema) (es : List Entry) → None (entryFaults σ es 1
 unfolding None
 none-further Description es h = tt
 none-further Specimen es h = record { each = λ n lo hi. true-of-not _ (rows-none Specimen es h n lo hi .1 .1 .1 .0) }
+none-further (Named most) es h = λ n lo hi. true-of-not _ (rows-none (Named most) es h n lo hi .1 .0)
 
 pub legal-none : {σ : Schema} {es : List Entry} → Legal σ es → Further σ es → None (entryFaults σ es 1 (length es))
 unfolding None entryFaults
@@ -68,6 +70,8 @@ legal-none {σ} {es} L f = each-none (entryRows σ es) 1 (length es) (λ n lo hi
     here : (σ : Schema) → Legal σ es → Further σ es → (n : ℕ) → 1 ≤ n → n ≤ length es → None (entryRows σ es n)
     here Description L f n lo hi =
         (not-to-false (L .form n lo hi), (not-to-false (L .owner n lo hi), (not-to-false (L .depth n lo hi), tt)))
+    here (Named most) L f n lo hi =
+        (not-to-false (L .form n lo hi), (not-to-false (f n lo hi), (not-to-false (L .owner n lo hi), (not-to-false (L .depth n lo hi), tt))))
     here Specimen L f n lo hi = (
       not-to-false (L .form n lo hi),
       (not-to-false (L .owner n lo hi), (not-to-false (L .depth n lo hi), (not-to-false (f .each n lo hi), tt))),

@@ -6,22 +6,23 @@ use lib.Dec.{eqb, leb}
 use lib.ListN.{getD, length, length-set, set}
 use lib.Seq.{getD-set-other, getD-set-same}
 use mathlib.Core.Bool.{cond, false, true}
-use mathlib.Core.List.{List, _++_}
+use mathlib.Core.List.{List, [], _++_, _∷_, append-assoc}
 use mathlib.Core.Logic.{_≢_}
 use mathlib.Core.Path.{_∙_, _≡_, ap, refl, sym}
 use native.Mathlib.Nat.{ne-of-lt}
 use native.Mathlib.Numerals.{add-one}
 use native.Mathlib.Omega.{arith}
 use Rattle.base.proofs.RangeLaws.{none-left, one-left}
-use Rattle.base.proofs.Tests.{bool-cases, eq-cases, eq-eqb, ge-ltb, lt-cases, lt-ltb, ne-eqb, tests}
+use Rattle.base.proofs.Tests.{bool-cases, both-ways, eq-cases, eq-eqb, ge-ltb, lt-cases, lt-ltb, ne-eqb, tests}
 use Rattle.blocks.proofs.Refusing.FirstFault.{first-append, orElse, step, step-found, step-more}
-use Rattle.blocks.specs.Entries.{formOk, nth, owningKind}
-use Rattle.blocks.specs.Faults.{first, rowsFrom}
+use Rattle.blocks.specs.Entries.{formOk, nameGiven, namesOk, nth, owningKind}
+use Rattle.blocks.specs.Faults.{Fault, depthRow, first, ownerRow, rowsFrom}
 use Rattle.blocks.specs.Owners.{chain, depthOf, depthOk, levelOf, ownerOf, ownerOk}
-use Rattle.blocks.specs.code.ReadingSteps.{Levels, entryRefusal, levelBy, levelUnder, ruleFaults}
+use Rattle.blocks.specs.code.ReadingSteps.{Levels, entryRefusal, levelBy, levelUnder, nameRows, ruleFaults, ruleRows}
 use Rattle.blocks.specs.declared.Entry.{Entry}
 use Rattle.blocks.specs.declared.Finding.{Finding}
 use Rattle.blocks.specs.declared.Finding.the-variants.{Clean, Faulty}
+use Rattle.blocks.specs.declared.Schema.the-variants.{Description, Named, Specimen}
 use Rattle.blocks.specs.declared.Schema.{Schema}
 
 -- ---- depths of entries whose owners stand earlier
@@ -93,16 +94,35 @@ level-cases σ es t n {l} T one e refused allowed =
     let z : o ≢ 0 = λ q. omega arith in
     refused (e ∙ rw (levelBy, ge-ltb ge)) (simp (ownerOk, ne-eqb z, ge-ltb ge)))
 
+-- ---- names
+
+-- where the schema allows the names of an entry, its number 13 is passed over; else it is the first
+pub names-passed : (σ : Schema) (es : List Entry) (n : ℕ) (fs : List Fault) → namesOk σ (nth es n) ≡ true → first (nameRows σ es n ++ fs) ≡ first fs
+unfolding first
+names-passed Description es n fs h = refl
+names-passed Specimen es n fs h = refl
+names-passed (Named most) es n fs h = rw h
+
+pub names-refused : (σ : Schema) (es : List Entry) (n : ℕ) (fs : List Fault) → namesOk σ (nth es n) ≡ false → first (nameRows σ es n ++ fs) ≡ Faulty 13 n
+unfolding first
+names-refused Description es n fs h = both-ways refl h
+names-refused Specimen es n fs h = both-ways refl h
+names-refused (Named most) es n fs h = rw h
+
+-- ---- entries, by the table
+
 -- an entry that breaks no number: its form is allowed, and its owner has a level from 1 to 33
 unrefused : (σ : Schema) (e : Entry) (l : ℕ) → entryRefusal σ e l ≡ 0 → (formOk σ e ≡ true) × ((l ≢ 0) × (l ≤ 33))
 unfolding entryRefusal
 unrefused σ e l h =
     bool-cases (formOk σ e)
-    (λ p. eq-cases l 0
-    (λ z. let g = rw (entryRefusal, p, eq-eqb z) at h in absurd (omega arith))
+    (λ p. bool-cases (namesOk σ e)
+    (λ w. eq-cases l 0
+    (λ z. let g = rw (entryRefusal, p, w, eq-eqb z) at h in absurd (omega arith))
     (λ z. lt-cases 33 l
-    (λ d. let g = rw (entryRefusal, p, ne-eqb z, lt-ltb d) at h in absurd (omega arith))
+    (λ d. let g = rw (entryRefusal, p, w, ne-eqb z, lt-ltb d) at h in absurd (omega arith))
     (λ d. (p, (z, d)))))
+    (λ w. let g = rw (entryRefusal, p, w) at h in absurd (omega arith)))
     (λ p. let g = rw (entryRefusal, p) at h in absurd (omega arith))
 
 module _ (σ : Schema) (es : List Entry) (t : List ℕ) (n : ℕ) {e : Entry} {l number : ℕ} (T : Levels σ es t n) (one : 1 ≤ n) (at : e ≡ nth es n)
@@ -117,12 +137,16 @@ module _ (σ : Schema) (es : List Entry) (t : List ℕ) (n : ℕ) {e : Entry} {l
   entry-step : (left : ℕ) → first (ruleFaults σ es n (suc left)) ≡ step number n (first (ruleFaults σ es (suc n) left))
   unfolding rowsFrom first entryRefusal depthOk
   entry-step left =
-      rw refusal-here (bool-cases (formOk σ (nth es n))
-      (λ p. level-cases σ es t n T one owner-level
-      (λ z o. simp (entryRefusal, p, o, eq-eqb z))
+      let rest = ownerRow σ es n ∷ depthRow es n ∷ [] in
+      first-append (ruleRows σ es n) (ruleFaults σ es (suc n) left) ∙ rw refusal-here (bool-cases (formOk σ (nth es n))
+      (λ p. bool-cases (namesOk σ (nth es n))
+      (λ w. let s = names-passed σ es n rest w in
+      rw (p, s, entryRefusal, w) (level-cases σ es t n T one owner-level
+      (λ z o. simp (o, eq-eqb z))
       (λ z o lt d. lt-cases 33 l
-      (λ h. let k : leb (depthOf es n) 32 ≡ false = omega tests in simp (entryRefusal, p, o, ne-eqb z, lt-ltb h, depthOk, k))
-      (λ h. let k : leb (depthOf es n) 32 ≡ true = omega tests in simp (entryRefusal, p, o, ne-eqb z, ge-ltb h, depthOk, k))))
+      (λ h. let k : leb (depthOf es n) 32 ≡ false = omega tests in simp (o, ne-eqb z, lt-ltb h, depthOk, k))
+      (λ h. let k : leb (depthOf es n) 32 ≡ true = omega tests in simp (o, ne-eqb z, ge-ltb h, depthOk, k)))))
+      (λ w. let s = names-refused σ es n rest w in rw (p, s, entryRefusal, w)))
       (λ p. simp (entryRefusal, p)))
 
   pub level-small : number ≡ 0 → l ≤ 33
@@ -170,7 +194,7 @@ module _ (σ : Schema) (es : List Entry) where
   faults-split n (suc a) b =
       let e : n + suc a ≡ suc n + a = omega arith in
       let s : suc a + b ≡ suc (a + b) = omega arith in
-      rw (e, s, faults-split (suc n) a b)
+      rw (e, s, faults-split (suc n) a b) (sym (append-assoc (ruleRows σ es n) _ _))
 
   first-split : (n count e : ℕ) → n + count ≤ e
       → first (ruleFaults σ es n (e - n)) ≡ orElse (first (ruleFaults σ es n count)) (first (ruleFaults σ es (n + count) (e - (n + count))))

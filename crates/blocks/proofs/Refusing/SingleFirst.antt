@@ -10,8 +10,9 @@ use native.Mathlib.Omega.{arith}
 use Rattle.base.proofs.Tests.{bool-cases, eq-eqb, ne-eqb, tests}
 use Rattle.base.specs.Search.{firstFrom}
 use Rattle.blocks.proofs.Refusing.FirstFault.{first-append, orElse}
-use Rattle.blocks.specs.Entries.{formOk, nth}
-use Rattle.blocks.specs.Faults.{Fault, entryFaults, fault, first, rowsFrom}
+use Rattle.blocks.proofs.Refusing.LevelLaws.{names-passed, names-refused}
+use Rattle.blocks.specs.Entries.{formOk, namesOk, nth}
+use Rattle.blocks.specs.Faults.{Fault, depthRow, entryFaults, fault, first, ownerRow, rowsFrom}
 use Rattle.blocks.specs.Owners.{depthOk, ownerOk}
 use Rattle.blocks.specs.Single.{singleOk}
 use Rattle.blocks.specs.code.ReadingSteps.{ruleFaults, ruleRows}
@@ -19,7 +20,7 @@ use Rattle.blocks.specs.code.SingleSteps.{standBefore, unlessSingle}
 use Rattle.blocks.specs.declared.Entry.{Entry}
 use Rattle.blocks.specs.declared.Finding.the-variants.{Clean, Faulty}
 use Rattle.blocks.specs.declared.Finding.{Finding}
-use Rattle.blocks.specs.declared.Schema.the-variants.{Description, Specimen}
+use Rattle.blocks.specs.declared.Schema.the-variants.{Description, Named, Specimen}
 use Rattle.blocks.specs.declared.Schema.{Schema}
 
 -- what was found gives a place from n on and below e, if any
@@ -88,20 +89,27 @@ module _ (rows : ℕ → List Fault) (ok : ℕ → Bool) (placed : (n : ℕ) →
 
 -- ---- entries
 
--- numbers 4 to 6 of an entry give its own place
+-- numbers 4, 13, 5 and 6 of an entry give its own place
 rules-placed : (σ : Schema) (es : List Entry) (n : ℕ) → Within n (suc n) (first (ruleRows σ es n))
 unfolding first
 rules-placed σ es n =
     bool-cases (formOk σ (nth es n))
-    (λ p. bool-cases (ownerOk σ es n)
-    (λ q. bool-cases (depthOk es n) (λ r. rw (p, q, r) tt) (λ r. rw (p, q, r) (omega arith, omega arith)))
-    (λ q. rw (p, q) (omega arith, omega arith)))
+    (λ p. bool-cases (namesOk σ (nth es n))
+    (λ w. let s = names-passed σ es n (ownerRow σ es n ∷ depthRow es n ∷ []) w in
+    bool-cases (ownerOk σ es n)
+    (λ q. bool-cases (depthOk es n) (λ r. rw (p, s, q, r) tt) (λ r. rw (p, s, q, r) (omega arith, omega arith)))
+    (λ q. rw (p, s, q) (omega arith, omega arith)))
+    (λ w. rw (p, names-refused σ es n (ownerRow σ es n ∷ depthRow es n ∷ []) w) (omega arith, omega arith)))
     (λ p. rw p (omega arith, omega arith))
 
--- a description's lines are numbers 4 to 6
+-- a description's lines are these
 pub description-first : (es : List Entry) (n : ℕ) → first (ruleFaults Description es 1 n) ≡ first (entryFaults Description es 1 n)
 unfolding entryFaults
 description-first es n = refl
+
+pub named-first : (most : ℕ) (es : List Entry) (n : ℕ) → first (ruleFaults (Named most) es 1 n) ≡ first (entryFaults (Named most) es 1 n)
+unfolding entryFaults
+named-first most es n = refl
 
 -- a specimen's are these, unless an earlier entry breaks 9
 module _ (es : List Entry) (n : ℕ) {f : Finding} (e : f ≡ first (ruleFaults Specimen es 1 n)) where

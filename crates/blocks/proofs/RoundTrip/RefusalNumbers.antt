@@ -1,4 +1,4 @@
--- The numbers that reading refuses with are 1 to 6, and 9 for a specimen, of the input that was read: 7 is left for an output that is
+-- The numbers that reading refuses with are 1 to 6, 9 for a specimen, and 13 where names may be given, of the input that was read: 7 is left for an output that is
 -- too short. Where none of 1 to 3 applies, they are from 4 on; where no line of an entry does, they are 1 to 3.
 -- Assumes nothing.
 use Prim.Native.Nat.{_≤_, suc, zero, ℕ}
@@ -21,7 +21,7 @@ use Rattle.blocks.specs.Reading.{readingOf}
 use Rattle.blocks.specs.declared.Entry.{Entry}
 use Rattle.blocks.specs.declared.Finding.the-variants.{Clean}
 use Rattle.blocks.specs.declared.Reading.the-variants as reading
-use Rattle.blocks.specs.declared.Schema.the-variants.{Description, Specimen}
+use Rattle.blocks.specs.declared.Schema.the-variants.{Description, Named, Specimen}
 use Rattle.blocks.specs.declared.Schema.{Schema}
 
 module _ (P : ℕ → Type 0) where
@@ -56,6 +56,7 @@ module _ (P : ℕ → Type 0) where
 abbrev EntryNumber : Schema → ℕ → Type 0
 EntryNumber Description k = (4 ≤ k) × (k ≤ 6)
 EntryNumber Specimen k = ((4 ≤ k) × (k ≤ 6)) ⊎ (k ≡ 9)
+EntryNumber (Named most) k = ((4 ≤ k) × (k ≤ 6)) ⊎ (k ≡ 13)
 
 entry-numbers : (P : ℕ → Type 0) (σ : Schema) → ((k : ℕ) → EntryNumber σ k → P k) → (es : List Entry) (n : ℕ) → Numbers P (entryRows σ es n)
 entry-numbers P Description h es n = (h 4 (omega arith, omega arith), (h 5 (omega arith, omega arith), (h 6 (omega arith, omega arith), tt)))
@@ -63,11 +64,17 @@ entry-numbers P Specimen h es n = (
   h 4 (inl (omega arith, omega arith)),
   (h 5 (inl (omega arith, omega arith)), (h 6 (inl (omega arith, omega arith)), (h 9 (inr refl), tt))),
 )
+entry-numbers P (Named most) h es n = (
+  h 4 (inl (omega arith, omega arith)),
+  (h 13 (inr refl), (h 5 (inl (omega arith, omega arith)), (h 6 (inl (omega arith, omega arith)), tt))),
+)
 
 entry-low : (σ : Schema) (k : ℕ) → EntryNumber σ k → 4 ≤ k
 entry-low Description k h = h .0
 entry-low Specimen k (inl h) = h .0
 entry-low Specimen k (inr e) = omega arith
+entry-low (Named most) k (inl h) = h .0
+entry-low (Named most) k (inr e) = omega arith
 
 module _ (σ : Schema) (i : ℕ) (s : List ℕ) {k j p : ℕ} (e : readingOf σ i s ≡ reading.Refused k j p) where
   -- a refusal by reading is with one of 1 to 3, or with a number of an entry
@@ -118,6 +125,11 @@ pub specimen-number : (i : ℕ) (s : List ℕ) {k j p : ℕ} → readingOf Speci
 specimen-number i s e =
     number-by Specimen i s e (λ k. (k ≤ 6) ⊎ (k ≡ 9)) (λ n h. inl (omega arith)) (λ n h. ⊎-elim (λ q. inl (q .1)) (λ q. inr q) h)
 
+-- for a description with names 13
+pub named-number : (most i : ℕ) (s : List ℕ) {k j p : ℕ} → readingOf (Named most) i s ≡ reading.Refused k j p → (k ≤ 6) ⊎ (k ≡ 13)
+named-number most i s e =
+    number-by (Named most) i s e (λ k. (k ≤ 6) ⊎ (k ≡ 13)) (λ n h. inl (omega arith)) (λ n h. ⊎-elim (λ q. inl (q .1)) (λ q. inr q) h)
+
 -- a refusal by reading is of the input that was read, and never with 7
 pub reading-number : (σ : Schema) (i : ℕ) (s : List ℕ) {k j p : ℕ} → readingOf σ i s ≡ reading.Refused k j p → (k ≢ 7) × (j ≡ i)
 reading-number σ i s {k} {j} e = (by-schema σ e, first-of-refused σ i s e .0)
@@ -125,3 +137,4 @@ reading-number σ i s {k} {j} e = (by-schema σ e, first-of-refused σ i s e .0)
     by-schema : (σ : Schema) {p : ℕ} → readingOf σ i s ≡ reading.Refused k j p → k ≢ 7
     by-schema Description e = λ z. omega (arith, description-number i s e)
     by-schema Specimen e = λ z. ⊎-elim (λ q. omega arith) (λ q. omega arith) (specimen-number i s e)
+    by-schema (Named most) e = λ z. ⊎-elim (λ q. omega arith) (λ q. omega arith) (named-number most i s e)

@@ -1,19 +1,20 @@
 -- Names and numbers of a description's entries, and of its places.
 -- Assumes nothing.
 use Prim.Native.Nat.{_<_, _≤_, suc, zero, ℕ}
-use lib.Dec.{eqb}
+use lib.Dec.{eqb, ltb}
 use lib.ListN.{getD, length}
 use mathlib.Core.Bool.{Bool, _&&_, true}
 use mathlib.Core.List.{List, [], _∷_, map}
 use mathlib.Core.Logic.{_≢_}
 use mathlib.Core.Path.{_≡_}
 use native.Mathlib.Omega.{arith}
-use Rattle.base.proofs.Tests.{and-left, and-right, eq-cases, ltb-lt, ne-eqb}
+use Rattle.base.proofs.Tests.{and-left, and-right, eq-cases, ltb-lt, ne-eqb, or-cases, tests}
 use Rattle.blocks.proofs.Refusing.Bounds.{AllBounded}
+use Rattle.blocks.proofs.Refusing.Legal.{form-kind}
 use Rattle.blocks.specs.Entries.{formOk, kindOk, nameOk, nth, numberOk, zeroEntry}
 use Rattle.blocks.specs.Promise.{Legal}
 use Rattle.blocks.specs.declared.Entry.{Entry}
-use Rattle.blocks.specs.declared.Schema.{Schema}
+use Rattle.blocks.specs.declared.Schema.the-variants.{Description}
 use Rattle.logic.proofs.NormalForm.NormalFields.{AtomFields, Fields}
 use Rattle.logic.proofs.TreeRows.AllEntries.{AllRows, OfRow, tree-all}
 use Rattle.logic.specs.Place.{kindOf}
@@ -66,17 +67,17 @@ abbrev pub Any : ℕ → Type 0
 Any n = Unit {0}
 
 -- an entry of an allowed form has a name, unless it is of kind 6
-form-name : (σ : Schema) (e : Entry) → formOk σ e ≡ true → e .kind ≢ 6 → Positive (e .name)
+form-name : (e : Entry) → formOk Description e ≡ true → e .kind ≢ 6 → Positive (e .name)
 unfolding formOk nameOk
-form-name σ e h z =
+form-name e h z =
     let rest : Bool = nameOk (e .kind) (e .name) && numberOk (e .kind) (e .number) in
-    let a : rest ≡ true = and-right (eqb (e .reserved) 0) rest (and-right (kindOk σ (e .kind)) (eqb (e .reserved) 0 && rest) h) in
+    let a : rest ≡ true = and-right (eqb (e .reserved) 0) rest (and-right (kindOk Description (e .kind)) (eqb (e .reserved) 0 && rest) h) in
     let n : nameOk (e .kind) (e .name) ≡ true = and-left (nameOk (e .kind) (e .name)) (numberOk (e .kind) (e .number)) a in
-    ltb-lt (rw (nameOk, ne-eqb z) at n)
+    or-cases (ltb 0 (e .name)) (eqb (e .kind) 9) (rw (nameOk, ne-eqb z) at n) (λ q. ltb-lt q) (λ q. absurd (omega (tests, form-kind e h .1)))
 
 -- the names of legal entries
-pub legal-names : {σ : Schema} {d : List Entry} → Legal σ d → (n : ℕ) → 1 ≤ n → n ≤ length d → EntryFields Positive Any (nth d n)
-legal-names {σ} {d} L n lo hi = record { name = form-name σ (nth d n) (L .form n lo hi); number = tt }
+pub legal-names : {d : List Entry} → Legal Description d → (n : ℕ) → 1 ≤ n → n ≤ length d → EntryFields Positive Any (nth d n)
+legal-names {d} L n lo hi = record { name = form-name (nth d n) (L .form n lo hi); number = tt }
 
 -- the names and numbers of entries whose fields fit their bytes
 pub bounded-words : {d : List Entry} → AllBounded d → (n : ℕ) → 1 ≤ n → n ≤ length d → EntryFields Word Word (nth d n)

@@ -1,16 +1,16 @@
 -- What is made of the descriptions of a dictionary in turn is made of each by all the values: it names only earlier ones.
 -- Assumes nothing.
-use Prim.Native.Nat.{_≤_, suc, ℕ}
+use Prim.Native.Nat.{_-_, _≤_, suc, ℕ}
 use lib.Dec.{eqb, leb, ltb}
 use mathlib.Core.Bool.{_&&_, false, true}
 use mathlib.Core.List.{List, [], _∷_}
 use mathlib.Core.Path.{_∙_, _≡_}
 use Rattle.base.proofs.Tests.{and-left, and-right, bool-cases, leb-le, tests}
+use Rattle.blocks.specs.Entries.{isNamed, nameGiven}
 use Rattle.blocks.specs.declared.Entry.{Entry}
 use Rattle.names.proofs.Entries.EachEntry.{EachEntry, each-of-numbers}
-use Rattle.names.specs.NamedForm.{nameGiven}
 use Rattle.names.specs.Promise.{Each, EachAfter, LegalNamed}
-use Rattle.names.specs.Unfold.{described, inTurn, isNamed, noted}
+use Rattle.names.specs.Unfold.{described, inTurn, noted}
 
 -- ---- names that are given
 
@@ -36,9 +36,24 @@ given-more k e h =
     rw (q, a, c))
     (λ q. rw q)
 
-each-given-more : (k : ℕ) (es : List Entry) → Given k es → Given (suc k) es
+pub each-given-more : (k : ℕ) (es : List Entry) → Given k es → Given (suc k) es
 each-given-more k [] h = tt
 each-given-more k (e ∷ es) h = (given-more k e (h .0), each-given-more k es (h .1))
+
+-- "A dictionary description may name only earlier ones": the n-th names those before it
+given-from : (k : ℕ) (raw : ℕ → List Entry) (K : List (List Entry)) → EachAfter LegalNamed k K → ((n : ℕ) → Given (n - 1) (raw n))
+    → (n : ℕ) → Given (n - 1) (inTurn (λ made d. d) raw (suc k) K n)
+unfolding inTurn
+given-from k raw [] each h = h
+given-from k raw (d ∷ K) each h =
+    given-from (suc k) (noted raw (suc k) d) K (each .1)
+    (λ n. bool-cases (eqb n (suc k))
+    (λ q. let e : n - 1 ≡ k = omega tests in rw (q, e) (each-of-numbers (λ e. nameGiven k e ≡ true) d (each .0 .name)))
+    (λ q. rw q (h n)))
+
+pub described-given : (K : List (List Entry)) → Each LegalNamed K → (n : ℕ) → Given (n - 1) (described K n)
+unfolding described
+described-given K each = given-from 0 (λ n. []) K each (λ n. tt)
 
 -- ---- by all values
 

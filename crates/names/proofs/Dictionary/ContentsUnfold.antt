@@ -6,14 +6,15 @@ use mathlib.Core.List.{List, [], _∷_}
 use mathlib.Core.Path.{_≡_, refl}
 use native.Mathlib.Omega.{arith}
 use Rattle.base.proofs.Tests.{bool-cases}
+use Rattle.blocks.specs.Entries.{isNamed}
 use Rattle.blocks.specs.declared.Entry.{Entry}
 use Rattle.names.proofs.Dictionary.ByAllValues.{Given, given-name, in-turn-all}
 use Rattle.names.proofs.Dictionary.InTurn.{in-turn}
 use Rattle.names.specs.Promise.{Each, FormsOk, LegalNamed, OwnersOk}
-use Rattle.names.specs.Unfold.{contents, described, isNamed, noted, unfoldFrom, unfolded, unfoldedBy}
+use Rattle.names.specs.Unfold.{contents, described, noted, unfoldFrom, unfolded, unfoldedBy}
 
 -- contents that agree up to k unfold such entries alike
-given-same : (S T : ℕ → List Entry) (k : ℕ) → ((n : ℕ) → n ≤ k → S n ≡ T n) → (ν : ℕ → ℕ) (i m : ℕ) (es : List Entry) → Given k es
+pub given-same : (S T : ℕ → List Entry) (k : ℕ) → ((n : ℕ) → n ≤ k → S n ≡ T n) → (ν : ℕ → ℕ) (i m : ℕ) (es : List Entry) → Given k es
     → unfoldFrom S ν i m es ≡ unfoldFrom T ν i m es
 unfolding unfoldFrom
 given-same S T k same ν i m [] h = refl

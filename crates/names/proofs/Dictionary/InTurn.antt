@@ -1,8 +1,12 @@
 -- What is made of the descriptions of a dictionary in turn.
 -- Assumes nothing.
-use Prim.Native.Nat.{suc, ℕ}
+use Prim.Native.Nat.{_+_, suc, ℕ}
 use lib.Dec.{eqb}
-use mathlib.Core.List.{List, [], _∷_}
+use lib.ListN.{length}
+use mathlib.Core.List.{List, [], _++_, _∷_}
+use mathlib.Core.Path.{_∙_, _≡_}
+use native.Mathlib.Nat.{add-zero}
+use native.Mathlib.Omega.{arith}
 use Rattle.base.proofs.Tests.{bool-cases}
 use Rattle.blocks.specs.declared.Entry.{Entry}
 use Rattle.names.specs.Promise.{EachAfter}
@@ -28,3 +32,20 @@ module _ {A B : Type 0} (R : A → B → Type 0) where
 pub each-any : (k : ℕ) (K : List (List Entry)) → EachAfter (λ k d. Unit {0}) k K
 each-any k [] = tt
 each-any k (d ∷ K) = (tt, each-any (suc k) K)
+
+-- one description more, behind the others: what is made of it is noted
+pub in-turn-more : {A : Type 0} (f : (ℕ → A) → List Entry → A) (made : ℕ → A) (k : ℕ) (K : List (List Entry)) (d : List Entry)
+    → inTurn f made k (K ++ (d ∷ [])) ≡ noted (inTurn f made k K) (k + length K) (f (inTurn f made k K) d)
+unfolding inTurn
+in-turn-more f made k [] d = rw add-zero
+in-turn-more f made k (c ∷ K) d =
+    let z : k + suc (length K) ≡ suc k + length K = omega arith in
+    in-turn-more f (noted made k (f made c)) (suc k) K d ∙ rw z
+
+-- and each is as P says if it is
+pub each-more : (P : ℕ → List Entry → Type 0) (k : ℕ) (K : List (List Entry)) (d : List Entry) → EachAfter P k K → P (k + length K) d
+    → EachAfter P k (K ++ (d ∷ []))
+each-more P k [] d h p = let z : k + 0 ≡ k = add-zero k in (rw z at p, tt)
+each-more P k (c ∷ K) d h p =
+    let z : k + suc (length K) ≡ suc k + length K = omega arith in
+    (h .0, each-more P (suc k) K d (h .1) (rw z at p))

@@ -7,10 +7,10 @@ use mathlib.Core.List.{List, [], _++_, _∷_, map}
 use mathlib.Core.Path.{_≡_}
 use native.Mathlib.Omega.{arith}
 use Rattle.base.proofs.Tests.{bool-cases}
-use Rattle.blocks.specs.Entries.{nth, zeroEntry}
+use Rattle.blocks.specs.Entries.{isNamed, nth, zeroEntry}
 use Rattle.blocks.specs.declared.Entry.{Entry}
 use Rattle.names.proofs.Entries.OwnerSteps.{unfold-entry, unfold-name}
-use Rattle.names.specs.Unfold.{isNamed, noted, ownedBy, relocate, unfoldFrom, unfolded}
+use Rattle.names.specs.Unfold.{noted, ownedBy, relocate, unfoldFrom, unfolded}
 
 module _ (P : Entry → Type 0) where
   abbrev pub EachEntry : List Entry → Type 0

@@ -7,9 +7,10 @@ use mathlib.Core.Bool.{Bool, false, true}
 use mathlib.Core.List.{List, [], _++_, _∷_, map}
 use mathlib.Core.Path.{_≡_}
 use Rattle.base.proofs.Tests.{tests}
+use Rattle.blocks.specs.Entries.{isNamed}
 use Rattle.blocks.specs.declared.Entry.{Entry}
 use Rattle.names.proofs.Entries.Numbers.{owning}
-use Rattle.names.specs.Unfold.{isNamed, noted, ownedBy, relocate, unfoldFrom}
+use Rattle.names.specs.Unfold.{noted, ownedBy, relocate, unfoldFrom}
 
 -- each entry is owned by what may own before it, where the entries count from k
 abbrev pub Owners : (ℕ → Bool) → ℕ → List Entry → Type 0

@@ -5,11 +5,12 @@ use mathlib.Core.Bool.{false}
 use mathlib.Core.List.{List, [], _∷_}
 use mathlib.Core.Path.{_∙_, _≡_, refl, sym}
 use Rattle.base.proofs.Tests.{eq-cases, eq-eqb, ne-eqb}
+use Rattle.blocks.specs.Entries.{isNamed}
 use Rattle.blocks.specs.declared.Entry.{Entry}
 use Rattle.names.proofs.Entries.EachEntry.{EachEntry, each-of-numbers}
 use Rattle.names.proofs.Entries.OwnerSteps.{unfold-entry}
 use Rattle.names.specs.Promise.{Plain}
-use Rattle.names.specs.Unfold.{isNamed, noted, unfoldFrom, unfolded}
+use Rattle.names.specs.Unfold.{noted, unfoldFrom, unfolded}
 
 plain-from : (T : ℕ → List Entry) (ν : ℕ → ℕ) (m : ℕ) (es : List Entry) → ((j : ℕ) → ν j ≡ j) → EachEntry (λ e. isNamed e ≡ false) es
     → unfoldFrom T ν (suc m) m es ≡ es

@@ -9,10 +9,11 @@ use mathlib.Core.Path.{_∙_, _≡_, fun-ext, refl, sym}
 use native.Mathlib.Nat.{add-assoc, add-suc}
 use native.Mathlib.Omega.{arith}
 use Rattle.base.proofs.Tests.{bool-cases, eq-cases, eq-eqb, ne-eqb, tests}
+use Rattle.blocks.specs.Entries.{isNamed}
 use Rattle.blocks.specs.declared.Entry.{Entry}
 use Rattle.names.proofs.Entries.Numbers.{owning, owning-none, owning-other, shifted-is, shifted-later}
 use Rattle.names.proofs.Entries.OwnerSteps.{Owners, name-owns-none}
-use Rattle.names.specs.Unfold.{isNamed, noted, relocate, shifted, unfoldFrom}
+use Rattle.names.specs.Unfold.{noted, relocate, shifted, unfoldFrom}
 
 -- ---- entries moved twice
 

@@ -1,123 +1,141 @@
--- Unfolding in passes, the names of the greatest rank first, is unfolding; and no pass needs more room than what is unfolded.
+-- Unfolding in passes, the greatest name first, is unfolding; and no pass needs more room than what is unfolded.
 -- Assumes nothing.
-use Prim.Native.Nat.{_<_, _≤_, suc, zero, ℕ}
+use Prim.Native.Nat.{_-_, _≤_, suc, ℕ}
 use lib.Dec.{eqb}
 use lib.ListN.{length}
-use mathlib.Core.Bool.{true}
+use mathlib.Core.Bool.{false, true}
 use mathlib.Core.List.{List, [], _∷_}
-use mathlib.Core.Path.{_∙_, _≡_, ap, sym}
+use mathlib.Core.Logic.{_≢_}
+use mathlib.Core.Path.{_∙_, _≡_, ap, refl, subst, sym}
 use native.Mathlib.Omega.{arith}
-use Rattle.base.proofs.Tests.{bool-cases, both-ways, tests}
-use Rattle.blocks.specs.Entries.{nth}
+use Rattle.base.proofs.Tests.{bool-cases, both-ways, eq-cases, eq-eqb, eqb-eq, ne-eqb, tests}
+use Rattle.blocks.specs.Entries.{isNamed, nameGiven, nth}
 use Rattle.blocks.specs.declared.Entry.{Entry}
+use Rattle.names.proofs.Dictionary.ByAllValues.{described-given, given-name}
 use Rattle.names.proofs.Dictionary.ContentsUnfold.{contents-unfold, described-forms, described-owners}
 use Rattle.names.proofs.Entries.EachEntry.{EachEntry, each-of-numbers, numbers-of-each, unfold-each}
 use Rattle.names.proofs.Entries.UnfoldPlain.{unfold-plain}
-use Rattle.names.proofs.InPasses.Ranks.{rank-described, rank-empty, rank-lower, rank-some}
 use Rattle.names.proofs.InPasses.Replaced.{again-forms, again-owners, unfold-again, unfold-forms, unfold-pass}
 use Rattle.names.proofs.Legality.UnfoldOwners.{unfold-owners-ok}
-use Rattle.names.proofs.Measured.UnfoldSize.{named-size}
+use Rattle.names.proofs.Measured.UnfoldSize.{contents-size, named-size}
 use Rattle.names.specs.Measures.{sizeBy, sizeNamed, sizeNth}
 use Rattle.names.specs.Promise.{Each, FormsOk, LegalNamed, OwnersOk}
-use Rattle.names.specs.Unfold.{contents, described, isNamed, unfoldFrom, unfolded, unfoldedBy}
-use Rattle.names.specs.code.Passes.{Left, Stage, StandsFor, emptied, opened, passes, rankBy, rankNth}
+use Rattle.names.specs.Unfold.{contents, described, inTurn, noted, unfoldFrom, unfolded, unfoldedBy}
+use Rattle.names.specs.code.Passes.{Left, Stage, StandsFor, emptied, inside, nameAgain, opened, replacedBy}
+
+-- what stands for no entries has empty contents
+empty-contents : (K : List (List Entry)) (n : ℕ) → eqb (sizeNth K n) 0 ≡ true → contents K n ≡ []
+empty-contents K n h = no-entries (contents K n) (contents-size K n ∙ eqb-eq h)
+  where
+    no-entries : (es : List Entry) → length es ≡ 0 → es ≡ []
+    no-entries [] e = refl
+    no-entries (x ∷ es) e = absurd (omega arith)
+
+-- 0 names nothing
+none-named : (k : ℕ) (made : ℕ → ℕ) (K : List (List Entry)) → made 0 ≡ 0 → inTurn sizeBy made (suc k) K 0 ≡ 0
+unfolding inTurn
+none-named k made [] h = h
+none-named k made (d ∷ K) h = let z : eqb 0 (suc k) ≡ false = omega tests in none-named (suc k) (noted made (suc k) (sizeBy made d)) K (rw z h)
+
+pub zero-empty : (K : List (List Entry)) → sizeNth K 0 ≡ 0
+unfolding sizeNth
+zero-empty K = none-named 0 (λ n. 0) K refl
 
 module _ (K : List (List Entry)) where
-  -- ---- names that stand for nothing
+  -- ---- what a pass puts in
 
-  pub emptied-stands : StandsFor K (emptied K)
-  unfolding emptied unfoldedBy unfolded unfoldFrom
-  emptied-stands =
+  -- a name becomes nothing, what the pass puts in for its own, or itself
+  replaced-cases : {X : Type 0} (n : ℕ) (inner : List Entry) (x : ℕ) → (eqb (sizeNth K x) 0 ≡ true → replacedBy (sizeNth K) n inner x ≡ [] → X)
+      → (1 ≤ sizeNth K x → x ≡ n → replacedBy (sizeNth K) n inner x ≡ inner → X)
+      → (1 ≤ sizeNth K x → x ≢ n → replacedBy (sizeNth K) n inner x ≡ nameAgain x → X) → X
+  unfolding replacedBy
+  replaced-cases n inner x none own other =
+      bool-cases (eqb (sizeNth K x) 0)
+      (λ q. none q (rw q))
+      (λ q. eq-cases x n
+      (λ e. own (omega tests) e (rw (q, eq-eqb e)))
+      (λ e. other (omega tests) e (rw (q, ne-eqb e))))
+
+  -- if what it puts in for its own name stands for the same, so does all
+  replaced-stands : (n : ℕ) (inner : List Entry) → FormsOk inner → OwnersOk inner → (1 ≤ sizeNth K n → unfoldedBy K inner ≡ contents K n)
+      → StandsFor K (replacedBy (sizeNth K) n inner)
+  unfolding unfoldedBy unfolded unfoldFrom
+  replaced-stands n inner f w s =
+      let T = replacedBy (sizeNth K) n inner in
       record {
-        form = λ n. bool-cases (eqb (rankNth K n) 0) (λ q. rw q (λ i lo hi. absurd (omega arith))) (λ q. rw q (again-forms n));
-        owner = λ n. bool-cases (eqb (rankNth K n) 0) (λ q. rw q (λ i lo hi. absurd (omega arith))) (λ q. rw q (again-owners n));
-        same = λ n. bool-cases (eqb (rankNth K n) 0) (λ q. rw q (sym (rank-empty K n q))) (λ q. rw q (unfold-again (contents K) n));
+        form = λ x. replaced-cases n inner x
+            (λ q e. rw e (λ i lo hi. absurd (omega arith))) (λ o z e. rw e f) (λ o z e. rw e (again-forms x));
+        owner = λ x. replaced-cases n inner x
+            (λ q e. rw e (λ i lo hi. absurd (omega arith))) (λ o z e. rw e w) (λ o z e. rw e (again-owners x));
+        same = λ x. replaced-cases n inner x
+            (λ q e. rw e (sym (empty-contents K x q)))
+            (λ o z e. rw e (s (subst (λ (y : ℕ). 1 ≤ sizeNth K y) z o) ∙ ap (contents K) (sym z)))
+            (λ o z e. rw e (unfold-again (contents K) x));
       }
 
-  -- those that are left stand for something
-  emptied-left : (r : ℕ) (es : List Entry) → ((n : ℕ) → 1 ≤ n → n ≤ length es → isNamed (nth es n) ≡ true → rankNth K (nth es n .name) ≤ r)
-      → EachEntry (Left K r) (unfolded (emptied K) es)
-  unfolding emptied
-  emptied-left r es h =
-      unfold-each (Left K r) (λ o e l. l) (emptied K) es
-      (λ n lo hi. (
-        λ q. bool-cases (eqb (rankNth K (nth es n .name)) 0) (λ z. rw z tt) (λ z. rw z (λ y. (omega tests, h n lo hi q), tt)),
+  -- what it leaves: names that stand for something, those up to r, if what it puts in has no others
+  replaced-left : (n : ℕ) (inner : List Entry) (r : ℕ) → EachEntry (Left K r) inner → (es : List Entry)
+      → ((i : ℕ) → 1 ≤ i → i ≤ length es → isNamed (nth es i) ≡ true → nth es i .name ≢ n → nth es i .name ≤ r)
+      → EachEntry (Left K r) (unfolded (replacedBy (sizeNth K) n inner) es)
+  replaced-left n inner r in-left es h =
+      unfold-each (Left K r) (λ o e l. l) (replacedBy (sizeNth K) n inner) es
+      (λ i lo hi. (
+        λ q. replaced-cases n inner (nth es i .name)
+            (λ z e. rw e tt) (λ o z e. rw e in-left) (λ o z e. rw e (λ y. (o, h i lo hi q z), tt)),
         λ q y. both-ways y q,
       ))
 
   -- ---- stages
 
+  pub emptied-stands : StandsFor K (emptied K)
+  emptied-stands =
+      replaced-stands 0 [] (λ i lo hi. absurd (omega arith)) (λ i lo hi. absurd (omega arith)) (λ o. absurd (omega (arith, zero-empty K)))
+
   -- before the first pass
   pub stage-first : (r : ℕ) (es : List Entry) → FormsOk es → OwnersOk es
-      → ((n : ℕ) → 1 ≤ n → n ≤ length es → isNamed (nth es n) ≡ true → rankNth K (nth es n .name) ≤ r) → Stage K (unfoldedBy K es) r (unfolded (emptied K) es)
+      → ((n : ℕ) → 1 ≤ n → n ≤ length es → isNamed (nth es n) ≡ true → nth es n .name ≤ r) → Stage K (unfoldedBy K es) r (unfolded (emptied K) es)
   stage-first r es f w h = record {
     form = unfold-forms (emptied K) (emptied-stands .form) es f;
     owner = unfold-owners-ok (emptied K) (emptied-stands .owner) es w;
-    left = numbers-of-each (Left K r) (unfolded (emptied K) es) (emptied-left r es h);
+    left = numbers-of-each (Left K r) (unfolded (emptied K) es) (replaced-left 0 [] r tt es (λ i lo hi q z. h i lo hi q));
     same = unfold-pass K (emptied K) emptied-stands es w;
   }
 
-  -- the rank of a description bounds those of its names
-  pub rank-names : (es : List Entry) (r : ℕ) → rankBy (rankNth K) es ≤ suc r
-      → (n : ℕ) → 1 ≤ n → n ≤ length es → isNamed (nth es n) ≡ true → rankNth K (nth es n .name) ≤ r
-  rank-names es r h n lo hi q =
-      let low = numbers-of-each (λ e. isNamed e ≡ true → 1 ≤ rankNth K (e .name) → rankNth K (e .name) < suc r) es (rank-lower (rankNth K) es (suc r) h) n lo hi q in
-      bool-cases (eqb (rankNth K (nth es n .name)) 0) (λ z. omega tests) (λ z. let l = low (omega tests) in omega arith)
-
   module _ (each : Each LegalNamed K) where
-    pub opened-stands : (r : ℕ) → StandsFor K (opened K r)
-    unfolding opened
-    opened-stands r =
-        record {
-          form = λ n. bool-cases (eqb (rankNth K n) r)
-              (λ q. rw q (unfold-forms (emptied K) (emptied-stands .form) (described K n) (described-forms K each n)))
-              (λ q. rw q (again-forms n));
-          owner = λ n. bool-cases (eqb (rankNth K n) r)
-              (λ q. rw q (unfold-owners-ok (emptied K) (emptied-stands .owner) (described K n) (described-owners K each n)))
-              (λ q. rw q (again-owners n));
-          same = λ n. bool-cases (eqb (rankNth K n) r)
-              (λ q. rw q (unfold-pass K (emptied K) emptied-stands (described K n) (described-owners K each n) ∙ sym (contents-unfold K each n)))
-              (λ q. rw q (unfold unfoldedBy in unfold-again (contents K) n));
-        }
+    -- the entries that a pass puts in stand for the description
+    pub inside-stage : (n : ℕ) → Stage K (contents K n) (n - 1) (inside K n)
+    inside-stage n =
+        rw (contents-unfold K each n)
+        (stage-first (n - 1) (described K n) (described-forms K each n) (described-owners K each n)
+        (λ i lo hi q. given-name (n - 1) (nth (described K n) i)
+        (numbers-of-each (λ e. nameGiven (n - 1) e ≡ true) (described K n) (described-given K each n) i lo hi) q))
 
-    -- what the pass of a rank leaves has a lower one
-    opened-left : (r n : ℕ) → 1 ≤ rankNth K n → rankNth K n ≤ suc r → EachEntry (Left K r) (opened K (suc r) n)
-    unfolding opened
-    opened-left r n lo hi =
-        bool-cases (eqb (rankNth K n) (suc r))
-        (λ q. rw q (emptied-left r (described K n) (rank-names (described K n) r (omega (tests, rank-described K each n)))))
-        (λ q. rw q (λ y. (lo, omega tests), tt))
+    opened-stands : (n : ℕ) → StandsFor K (opened K n)
+    opened-stands n = let G = inside-stage n in replaced-stands n (inside K n) (G .form) (G .owner) (λ o. G .same)
 
     -- from one pass to the next
-    pub stage-next : (whole : List Entry) (r : ℕ) (es : List Entry) → Stage K whole (suc r) es → Stage K whole r (unfolded (opened K (suc r)) es)
-    stage-next whole r es G =
+    pub stage-next : (whole : List Entry) (n : ℕ) (es : List Entry) → Stage K whole n es → Stage K whole (n - 1) (unfolded (opened K n) es)
+    stage-next whole n es G =
         record {
-          form = unfold-forms (opened K (suc r)) (opened-stands (suc r) .form) es (G .form);
-          owner = unfold-owners-ok (opened K (suc r)) (opened-stands (suc r) .owner) es (G .owner);
-          left = numbers-of-each (Left K r) (unfolded (opened K (suc r)) es)
-              (unfold-each (Left K r) (λ o e l. l) (opened K (suc r)) es
-              (λ n lo hi. (λ q. let l = G .left n lo hi q in opened-left r (nth es n .name) (l .0) (l .1), λ q y. both-ways y q)));
-          same = unfold-pass K (opened K (suc r)) (opened-stands (suc r)) es (G .owner) ∙ G .same;
+          form = unfold-forms (opened K n) (opened-stands n .form) es (G .form);
+          owner = unfold-owners-ok (opened K n) (opened-stands n .owner) es (G .owner);
+          left = numbers-of-each (Left K (n - 1)) (unfolded (opened K n) es)
+              (replaced-left n (inside K n) (n - 1) (each-of-numbers (Left K (n - 1)) (inside K n) (inside-stage n .left)) es
+              (λ i lo hi q z. let l = G .left i lo hi q .1 in omega arith));
+          same = unfold-pass K (opened K n) (opened-stands n) es (G .owner) ∙ G .same;
         }
+
+  -- names that are left may be bounded by any number that bounds them
+  pub stage-lower : (whole : List Entry) (r t : ℕ) (es : List Entry) → Stage K whole r es
+      → ((n : ℕ) → 1 ≤ n → n ≤ length es → isNamed (nth es n) ≡ true → nth es n .name ≤ t) → Stage K whole t es
+  stage-lower whole r t es G h =
+      record { form = G .form; owner = G .owner; left = λ n lo hi q. (G .left n lo hi q .0, h n lo hi q); same = G .same }
 
   -- after the last: all is unfolded
   pub stage-last : (whole es : List Entry) → Stage K whole 0 es → es ≡ whole
   unfolding unfoldedBy
   stage-last whole es G =
-      sym (unfold-plain (contents K) es (λ n lo hi. bool-cases (isNamed (nth es n)) (λ q. let l = G .left n lo hi q in absurd (omega (arith, l .0, l .1))) (λ q. q))) ∙ G .same
-
-  -- ---- all passes
-
-  passes-all : Each LegalNamed K → (whole : List Entry) (r : ℕ) (es : List Entry) → Stage K whole r es → passes K r es ≡ whole
-  unfolding passes
-  passes-all each whole zero es G = stage-last whole es G
-  passes-all each whole (suc r) es G = passes-all each whole r (unfolded (opened K (suc r)) es) (stage-next each whole r es G)
-
-  -- from any rank on that no name exceeds
-  pub passes-unfold : Each LegalNamed K → (most r : ℕ) (es : List Entry) → LegalNamed most es → rankBy (rankNth K) es ≤ suc r
-      → passes K r (unfolded (emptied K) es) ≡ unfoldedBy K es
-  passes-unfold each most r es N h =
-      passes-all each (unfoldedBy K es) r (unfolded (emptied K) es) (stage-first r es (N .form) (N .owner) (rank-names es r h))
+      sym (unfold-plain (contents K) es (λ n lo hi. bool-cases (isNamed (nth es n)) (λ q. let l = G .left n lo hi q in let z : nth es n .name ≡ 0 = omega (arith, l .1) in absurd (omega (arith, subst (λ (x : ℕ). 1 ≤ sizeNth K x) z (l .0), zero-empty K))) (λ q. q))) ∙ G .same
 
   -- ---- room
 
@@ -134,6 +152,6 @@ module _ (K : List (List Entry)) where
   unfolding sizeNamed
   stage-room whole r es G =
       let enough : length es ≤ sizeBy (sizeNth K) es
-      = room-by (sizeNth K) es (each-of-numbers (λ e. isNamed e ≡ true → 1 ≤ sizeNth K (e .name)) es (λ n lo hi q. rank-some K (nth es n .name) (G .left n lo hi q .0))) in
+      = room-by (sizeNth K) es (each-of-numbers (λ e. isNamed e ≡ true → 1 ≤ sizeNth K (e .name)) es (λ n lo hi q. G .left n lo hi q .0)) in
       let size : length (unfoldedBy K es) ≡ sizeBy (sizeNth K) es = named-size K es in
       omega (arith, ap length (G .same))

@@ -7,14 +7,14 @@ use mathlib.Core.List.{List, [], _∷_, append-nil, map}
 use mathlib.Core.Path.{_∙_, _≡_, ap, fun-ext, refl}
 use native.Mathlib.Omega.{arith}
 use Rattle.base.proofs.Tests.{and-left, and-right, eqb-eq}
-use Rattle.blocks.specs.Entries.{formOk, nth}
+use Rattle.blocks.specs.Entries.{formOk, isNamed, nth}
 use Rattle.blocks.specs.Owners.{ownerOf, ownerOk}
 use Rattle.blocks.specs.declared.Entry.{Entry}
 use Rattle.names.proofs.Entries.EachEntry.{each-of-numbers, numbers-of-each, unfold-each}
 use Rattle.names.proofs.InPasses.UnfoldTwice.{unfold-twice}
 use Rattle.names.specs.NamedForm.{namedFormOk}
 use Rattle.names.specs.Promise.{FormsOk, OwnersOk}
-use Rattle.names.specs.Unfold.{contents, isNamed, ownedBy, relocate, shifted, unfoldFrom, unfolded, unfoldedBy}
+use Rattle.names.specs.Unfold.{contents, ownedBy, relocate, shifted, unfoldFrom, unfolded, unfoldedBy}
 use Rattle.names.specs.code.Passes.{StandsFor, nameAgain}
 
 -- ---- forms

@@ -8,13 +8,14 @@ use mathlib.Core.List.{List, [], _∷_, map}
 use mathlib.Core.Path.{_∙_, _≡_, ap, refl}
 use native.Mathlib.Omega.{arith}
 use Rattle.base.proofs.Tests.{bool-cases, eq-cases, eq-eqb, eqb-eq, eqb-self, ne-eqb, tests}
+use Rattle.blocks.specs.Entries.{isNamed}
 use Rattle.blocks.specs.declared.Entry.{Entry}
 use Rattle.names.proofs.Entries.Numbers.{Numbering, numbering-entry, numbering-name, numbering-top, owning, owning-none, owning-other, topOwns}
 use Rattle.names.proofs.Entries.OwnerSteps.{Owners, name-owns-none, unfold-entry, unfold-name}
 use Rattle.names.proofs.Entries.OwnersByNumber.{owners-of-numbers}
 use Rattle.names.proofs.InPasses.MovedUnfolding.{after, after-same, unfold-append, unfold-ext, unfold-in, unfold-out}
 use Rattle.names.specs.Promise.{OwnersOk}
-use Rattle.names.specs.Unfold.{isNamed, noted, ownedBy, relocate, shifted, unfoldFrom, unfolded}
+use Rattle.names.specs.Unfold.{noted, ownedBy, relocate, shifted, unfoldFrom, unfolded}
 
 module _ (S T : ℕ → List Entry) (legal : (n : ℕ) → Owners topOwns 1 (S n)) where
   -- what a name stands for in the end

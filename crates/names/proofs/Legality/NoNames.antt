@@ -6,15 +6,15 @@ use mathlib.Core.Bool.{_&&_, false, true}
 use mathlib.Core.List.{List}
 use mathlib.Core.Path.{_≡_}
 use Rattle.base.proofs.Tests.{and-left, and-right, bool-cases, tests}
-use Rattle.blocks.specs.Entries.{formOk, nth}
+use Rattle.blocks.specs.Entries.{formOk, isNamed, nameGiven, nth}
 use Rattle.blocks.specs.Promise.{Legal}
 use Rattle.blocks.specs.declared.Entry.{Entry}
 use Rattle.blocks.specs.declared.Schema.the-variants.{Description}
 use Rattle.names.proofs.Entries.UnfoldPlain.{unfold-plain}
 use Rattle.names.proofs.Legality.UnfoldLegal.{legal-plain}
-use Rattle.names.specs.NamedForm.{nameGiven, namedFormOk}
+use Rattle.names.specs.NamedForm.{namedFormOk}
 use Rattle.names.specs.Promise.{LegalNamed, Plain}
-use Rattle.names.specs.Unfold.{contents, isNamed, unfoldedBy}
+use Rattle.names.specs.Unfold.{contents, unfoldedBy}
 
 -- no name may be given: there is none
 none-given : (e : Entry) → nameGiven 0 e ≡ true → isNamed e ≡ false

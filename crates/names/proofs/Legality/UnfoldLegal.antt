@@ -8,7 +8,7 @@ use mathlib.Core.Path.{_∙_, _≡_, ap, fun-ext, refl}
 use native.Mathlib.Omega.{arith}
 use Rattle.base.proofs.Tests.{leb-le, tests}
 use Rattle.blocks.proofs.Refusing.Legal.{form-kind}
-use Rattle.blocks.specs.Entries.{formOk, nth}
+use Rattle.blocks.specs.Entries.{formOk, isNamed, nth}
 use Rattle.blocks.specs.Owners.{depthOf, depthOk}
 use Rattle.blocks.specs.Promise.{Legal}
 use Rattle.blocks.specs.declared.Entry.{Entry}
@@ -23,7 +23,7 @@ use Rattle.names.proofs.Measured.UnfoldSize.{contents-size, named-size}
 use Rattle.names.specs.Measures.{levelsBy, levelsFrom, levelsNamed, levelsNth, levelsOf, sizeNamed, sizeNth}
 use Rattle.names.specs.NamedForm.{namedFormOk}
 use Rattle.names.specs.Promise.{AcceptedNamed, Each, FormsOk, LegalDictionary, LegalNamed, OwnersOk, Plain, SmallEnough, Within}
-use Rattle.names.specs.Unfold.{contents, isNamed, unfolded, unfoldedBy}
+use Rattle.names.specs.Unfold.{contents, unfolded, unfoldedBy}
 
 -- an entry has a form that plain descriptions allow
 abbrev Formed : Entry → Type 0

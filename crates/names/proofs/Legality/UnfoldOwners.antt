@@ -9,12 +9,13 @@ use mathlib.Core.Path.{_≡_}
 use native.Mathlib.Nat.{add-zero}
 use native.Mathlib.Omega.{arith}
 use Rattle.base.proofs.Tests.{and-left, and-right, bool-cases, eqb-eq, eqb-self, or-cases, tests}
+use Rattle.blocks.specs.Entries.{isNamed}
 use Rattle.blocks.specs.declared.Entry.{Entry}
 use Rattle.names.proofs.Entries.Numbers.{owning, owning-before, owning-none, shifted-later, topOwns}
 use Rattle.names.proofs.Entries.OwnerSteps.{Owners, name-owns-none, unfold-entry, unfold-name}
 use Rattle.names.proofs.Entries.OwnersByNumber.{numbers-of-owners, owners-of-numbers}
 use Rattle.names.specs.Promise.{OwnersOk}
-use Rattle.names.specs.Unfold.{isNamed, noted, ownedBy, relocate, shifted, unfoldFrom, unfolded}
+use Rattle.names.specs.Unfold.{noted, ownedBy, relocate, shifted, unfoldFrom, unfolded}
 
 -- what may own once entry k is e: entry k, an 'every', or what could own before
 owning-cases : {A : Type 0} (own : ℕ → Bool) (k : ℕ) (e : Entry) (j : ℕ) → owning own k e j ≡ true

@@ -5,6 +5,7 @@ use mathlib.Core.Bool.{Bool, _&&_, and-assoc, true}
 use mathlib.Core.List.{List, []}
 use mathlib.Core.Path.{_∙_, _≡_, ap, fun-ext, refl, sym}
 use Rattle.base.proofs.Tests.{bool-cases}
+use Rattle.blocks.specs.Entries.{isNamed}
 use Rattle.blocks.specs.declared.Entry.{Entry}
 use Rattle.logic.specs.Place.{Place}
 use Rattle.logic.specs.Record.{Record, eachLinked, fits, meets}
@@ -16,7 +17,7 @@ use Rattle.names.proofs.Meaning.JoinedTrees.{join}
 use Rattle.names.proofs.Meaning.UnfoldTree.{graft, unfold-tree}
 use Rattle.names.specs.NamedMeaning.{fitsBy, fitsNamed, fitsNth, fitsPlace, namedPlace}
 use Rattle.names.specs.Promise.{Each, OwnersOk, SameMeaning}
-use Rattle.names.specs.Unfold.{contents, isNamed, unfolded, unfoldedBy}
+use Rattle.names.specs.Unfold.{contents, unfolded, unfoldedBy}
 
 -- an item fits entries in a row if it fits both parts
 fits-join : (c : Record) (s t : Place) (x : ℕ) → fits c (join s t) x ≡ fits c s x && fits c t x

@@ -9,6 +9,7 @@ use mathlib.Core.Logic.{_⊎_, inl, inr}
 use mathlib.Core.Path.{_∙_, _≡_, refl}
 use native.Mathlib.Omega.{arith}
 use Rattle.base.proofs.Tests.{bool-cases, eq-cases, eq-eqb, eqb-eq, eqb-self, ne-eqb, tests}
+use Rattle.blocks.specs.Entries.{isNamed}
 use Rattle.blocks.specs.declared.Entry.{Entry}
 use Rattle.logic.specs.Place.{Atom, Place}
 use Rattle.logic.specs.Tree.{Row, Tree, end, leaf, leafRow, node, nodeRow, tree}
@@ -17,7 +18,7 @@ use Rattle.names.proofs.Entries.Numbers.{Numbering, numbering-entry, nu
 use Rattle.names.proofs.Entries.OwnerSteps.{Owners, name-owns-none, unfold-entry, unfold-name}
 use Rattle.names.proofs.Meaning.JoinedTrees.{Avoids, join, moveRow, moved-apart, moved-avoids, tree-append, tree-moved}
 use Rattle.names.specs.NamedMeaning.{namedPlace, namedRow}
-use Rattle.names.specs.Unfold.{isNamed, noted, ownedBy, relocate, unfoldFrom, unfolded}
+use Rattle.names.specs.Unfold.{noted, ownedBy, relocate, unfoldFrom, unfolded}
 
 -- "put in at that place": P gives the top of what each name stands for
 unfoldable pub graft : (ℕ → Place) → Tree Entry ℕ → Place

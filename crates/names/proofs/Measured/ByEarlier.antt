@@ -4,13 +4,15 @@ use Prim.Native.Nat.{_≤_, suc, ℕ}
 use mathlib.Core.List.{List, [], _∷_}
 use mathlib.Core.Path.{_≡_, refl}
 use Rattle.base.proofs.Tests.{bool-cases}
+use Rattle.blocks.specs.Entries.{isNamed}
 use Rattle.blocks.specs.declared.Entry.{Entry}
 use Rattle.names.proofs.Dictionary.ByAllValues.{ByGiven, Given, given-name, in-turn-all}
 use Rattle.names.specs.Measures.{levelsBy, levelsFrom, levelsNth, sizeBy, sizeNth}
 use Rattle.names.specs.Promise.{Each, LegalNamed}
-use Rattle.names.specs.Unfold.{described, isNamed, noted}
+use Rattle.names.specs.Unfold.{described, noted}
 
-size-given : ByGiven sizeBy
+-- sizes that agree on the names that are given count such entries alike
+pub size-given : ByGiven sizeBy
 unfolding sizeBy
 size-given S T k same [] g = refl
 size-given S T k same (e ∷ es) g =
@@ -18,7 +20,8 @@ size-given S T k same (e ∷ es) g =
     (λ q. rw (q, same (e .name) (given-name k e (g .0) q), size-given S T k same es (g .1)))
     (λ q. rw (q, size-given S T k same es (g .1)))
 
-levels-given : (L M : ℕ → ℕ) (k : ℕ) → ((n : ℕ) → n ≤ k → L n ≡ M n) → (δ : ℕ → ℕ) (i : ℕ) (es : List Entry) → Given k es
+-- and so do levels
+pub levels-given : (L M : ℕ → ℕ) (k : ℕ) → ((n : ℕ) → n ≤ k → L n ≡ M n) → (δ : ℕ → ℕ) (i : ℕ) (es : List Entry) → Given k es
     → levelsFrom L δ i es ≡ levelsFrom M δ i es
 unfolding levelsFrom
 levels-given L M k same δ i [] g = refl

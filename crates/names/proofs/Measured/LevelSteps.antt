@@ -9,11 +9,12 @@ use mathlib.Core.Path.{_∙_, _≡_, refl}
 use native.Mathlib.Nat.{add-zero}
 use native.Mathlib.Omega.{arith}
 use Rattle.base.proofs.Tests.{eq-cases, eqb-self, lt-cases, ne-eqb, tests}
+use Rattle.blocks.specs.Entries.{isNamed}
 use Rattle.blocks.specs.declared.Entry.{Entry}
 use Rattle.names.proofs.Entries.Numbers.{owning, owning-other, shifted-is, shifted-later}
 use Rattle.names.proofs.Entries.OwnerSteps.{Owners}
 use Rattle.names.specs.Measures.{levelsFrom, under}
-use Rattle.names.specs.Unfold.{isNamed, noted, relocate, shifted}
+use Rattle.names.specs.Unfold.{noted, relocate, shifted}
 
 -- ---- depths
 

@@ -9,13 +9,13 @@ use mathlib.Core.Path.{_∙_, _≡_, ap, sym}
 use native.Mathlib.Omega.{arith}
 use Rattle.base.proofs.Tests.{and-left, eq-cases, eq-eqb, ltb-lt, ne-eqb, or-cases, tests}
 use Rattle.blocks.proofs.Refusing.LevelLaws.{depth-top, depth-under}
-use Rattle.blocks.specs.Entries.{nth}
+use Rattle.blocks.specs.Entries.{isNamed, nth}
 use Rattle.blocks.specs.Owners.{depthOf, ownerOf, ownerOk}
 use Rattle.blocks.specs.declared.Entry.{Entry}
 use Rattle.names.proofs.Entries.OwnersByNumber.{Stands, stands-first, stands-rest, stands-whole}
 use Rattle.names.specs.Measures.{levelsFrom, levelsOf, under}
 use Rattle.names.specs.Promise.{OwnersOk}
-use Rattle.names.specs.Unfold.{isNamed, noted}
+use Rattle.names.specs.Unfold.{noted}
 
 module _ (es : List Entry) (own : OwnersOk es) where
   -- owners stand earlier

@@ -5,9 +5,9 @@ use lib.ListN.{length}
 use mathlib.Core.List.{List, [], _∷_}
 use native.Mathlib.Omega.{arith}
 use Rattle.base.proofs.Tests.{bool-cases}
+use Rattle.blocks.specs.Entries.{isNamed}
 use Rattle.blocks.specs.declared.Entry.{Entry}
 use Rattle.names.specs.Measures.{sizeBy}
-use Rattle.names.specs.Unfold.{isNamed}
 
 -- names that stand for at most 1,008 entries each: at most 1,008 for each entry
 pub size-most : (S : ℕ → ℕ) → ((n : ℕ) → S n ≤ 1008) → (es : List Entry) → sizeBy S es ≤ 1008 * length es

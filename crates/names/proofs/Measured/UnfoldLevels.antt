@@ -8,12 +8,13 @@ use mathlib.Core.List.{List, [], _∷_, map}
 use mathlib.Core.Path.{_≡_, refl}
 use native.Mathlib.Omega.{arith}
 use Rattle.base.proofs.Tests.{bool-cases, eq-cases, eq-eqb, eqb-eq, eqb-self, ne-eqb, tests}
+use Rattle.blocks.specs.Entries.{isNamed}
 use Rattle.blocks.specs.declared.Entry.{Entry}
 use Rattle.names.proofs.Entries.Numbers.{Numbering, numbering-entry, numbering-name, numbering-top, owning, owning-none, owning-other, topOwns}
 use Rattle.names.proofs.Entries.OwnerSteps.{Owners, name-owns-none, unfold-entry, unfold-name}
 use Rattle.names.proofs.Measured.LevelSteps.{depths-same, depthsAfter, levels-append, levels-moved}
 use Rattle.names.specs.Measures.{levelsBy, levelsFrom, under}
-use Rattle.names.specs.Unfold.{isNamed, noted, relocate, unfoldFrom, unfolded}
+use Rattle.names.specs.Unfold.{noted, relocate, unfoldFrom, unfolded}
 
 module _ (L : ℕ → ℕ) (T : ℕ → List Entry) (legal : (n : ℕ) → Owners topOwns 1 (T n)) where
   -- the levels of the contents of a name

@@ -6,10 +6,11 @@ use mathlib.Core.List.{List, [], _∷_, map}
 use mathlib.Core.Path.{_∙_, _≡_, ap, fun-ext, refl}
 use native.Mathlib.Omega.{arith}
 use Rattle.base.proofs.Tests.{bool-cases}
+use Rattle.blocks.specs.Entries.{isNamed}
 use Rattle.blocks.specs.declared.Entry.{Entry}
 use Rattle.names.proofs.Dictionary.InTurn.{each-any, in-turn}
 use Rattle.names.specs.Measures.{sizeBy, sizeNamed, sizeNth}
-use Rattle.names.specs.Unfold.{contents, isNamed, noted, relocate, unfoldFrom, unfolded, unfoldedBy}
+use Rattle.names.specs.Unfold.{contents, noted, relocate, unfoldFrom, unfolded, unfoldedBy}
 
 -- unfolded by contents, it has their sizes in the places of the names
 size-from : (T : ℕ → List Entry) (ν : ℕ → ℕ) (k m : ℕ) (es : List Entry) → length (unfoldFrom T ν k m es) ≡ sizeBy (λ n. length (T n)) es

@@ -16,7 +16,10 @@ returns-3 c = rw (c .before .enum-told2 .given .1, eq-eqb (c .if2 .taken))
 returns-4 : tie.Need-returns-4
 returns-4 c = rw (c .before .enum-told2 .given .1, ne-eqb (c .if2 .left))
 
+returns-5 : tie.Need-returns-5
+returns-5 c = rw (c .before .enum-told3 .given .1) (c .named-kind .ensures)
+
 pub kind-ok-spec : {M : Type 1} → statement M
 kind-ok-spec =
     tie.close
-    (tie.spec (λ c. search needs) (λ c. search needs) returns returns-2 returns-3 returns-4)
+    (tie.spec (λ c. search needs) (λ c. search needs) (λ c. search needs) (λ c κs. search needs) returns returns-2 returns-3 returns-4 returns-5)

@@ -7,7 +7,7 @@ use Rattle.report.proofs.input.compare_parts.Tie as tie
 returns : tie.Need-returns
 returns c =
     let b = c .before .before in
-    parts-compared _ _ (b .before .before .before .before .before .first-length .ensures .0) (b .compare .ensures)
+    parts-compared _ _ (b .before .before .before .before .before .part-length .ensures .0) (b .compare .ensures)
 
 pub compare-parts-spec : {M : Type 1} → statement M
 compare-parts-spec =

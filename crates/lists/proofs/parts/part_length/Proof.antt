@@ -1,14 +1,14 @@
--- `first_length` meets its contract: what the whole search finds is what the rest of it finds.
+-- `part_length` meets its contract: what the whole search finds is what the rest of it finds.
 use Prim.Native.Nat.{_-_, _/_}
 use borrow.Author.Needs.{needs}
 use lib.ListN.{length}
 use mathlib.Core.Path.{_∙_, _≡_, sym}
 use native.Mathlib.Omega.{arith}
 use Rattle.blocks.specs.Frame.{blocksIn}
-use Rattle.report.proofs.DivisionLaws.{search-end, search-found, search-more, search-start}
-use Rattle.report.specs.Division.{divisionFrom, firstLength}
-use Rattle.report.proofs.split.first_length.Statement.{statement}
-use Rattle.report.proofs.split.first_length.Tie as tie
+use Rattle.lists.proofs.LoopLaws.{search-end, search-found, search-more, search-start}
+use Rattle.lists.specs.Parts.{divisionFrom, firstLength}
+use Rattle.lists.proofs.parts.part_length.Statement.{statement}
+use Rattle.lists.proofs.parts.part_length.Tie as tie
 
 abbrev Inv-loop : tie.InvT-loop
 Inv-loop s n i₀ i = firstLength s ≡ divisionFrom s i (length s / 512 - i)
@@ -32,8 +32,8 @@ returns-2 c =
     let l = c .before .before .before .loop .inv in
     (sym (l ∙ search-found _ _ _ (c .before .before .if1 .left) (c .before .word .ensures) (c .if2 .taken)), omega arith)
 
-pub first-length-spec : {M : Type 1} → statement M
-first-length-spec =
+pub part-length-spec : {M : Type 1} → statement M
+part-length-spec =
     tie.close
     (tie.spec Inv-loop μ-loop loop-holds (λ c. search needs) (λ c κs. search needs) (λ c. search needs) (λ c. search needs)
     (λ c. search needs) loop-again returns returns-2)

@@ -1,10 +1,11 @@
--- Where the program's input divides into C and D.
+-- Where the descriptions of a list begin: "the first block, and each later one numbered 1, begins a description". The list is cut on the
+-- stored numbers, before any block is checked.
 -- Assumes nothing.
 use Prim.Native.Nat.{_*_, _+_, _-_, _≤_, suc, zero, ℕ}
 use lib.Dec.{eqb}
 use lib.ListN.{drop, length, take}
 use mathlib.Core.Bool.{cond}
-use mathlib.Core.List.{List}
+use mathlib.Core.List.{List, [], _∷_}
 use mathlib.Core.Path.{_≡_}
 use Rattle.blocks.specs.Frame.{blocksIn}
 use Rattle.blocks.specs.Words.{wordAt}
@@ -24,6 +25,21 @@ firstPart s = take (firstLength s) s
 
 abbrev pub secondPart : List ℕ → List ℕ
 secondPart s = drop (firstLength s) s
+
+-- ---- all parts
+
+-- the parts of a list: the first, and those of what is left; each has a byte, so that as many steps as there are bytes are enough
+unfoldable pub partsFrom : ℕ → List ℕ → List (List ℕ)
+partsFrom zero s = []
+partsFrom (suc steps) s = cond (eqb (length s) 0) [] (firstPart s ∷ partsFrom steps (secondPart s))
+
+unfoldable pub partsOf : List ℕ → List (List ℕ)
+partsOf s = partsFrom (length s) s
+
+-- the offset at which part n begins, counted from 0: behind n parts
+unfoldable pub startOf : ℕ → List ℕ → ℕ
+startOf zero s = 0
+startOf (suc n) s = firstLength s + startOf n (secondPart s)
 
 -- ---- meaning
 

@@ -1,0 +1,110 @@
+-- Laws of the loops, one for each way through them.
+-- Assumes nothing.
+use Prim.Native.Nat.{_*_, _+_, _-_, _<_, _≤_, suc, ℕ}
+use lib.ListN.{drop, length, length-drop, take}
+use lib.Seq.{drop-drop}
+use mathlib.Core.List.{List}
+use mathlib.Core.Logic.{_≢_}
+use mathlib.Core.Path.{_∙_, _≡_, ap, refl, sym}
+use native.Mathlib.Nat.{sub-zero}
+use native.Mathlib.Numerals.{add-one}
+use native.Mathlib.Omega.{arith}
+use Rattle.base.proofs.Parts.{high-is}
+use Rattle.base.proofs.RangeLaws.{none-left, one-left}
+use Rattle.base.proofs.Tests.{eq-eqb, ne-eqb}
+use Rattle.blocks.specs.Frame.{blocksIn}
+use Rattle.blocks.specs.Words.{wordAt}
+use Rattle.lists.proofs.FirstPart.{first-bound, first-some}
+use Rattle.lists.proofs.PartLaws.{parts-none, parts-of, start-within}
+use Rattle.lists.specs.Parts.{divisionFrom, firstLength, partsOf, secondPart, startOf}
+
+-- ---- the search for the end of the first part
+
+module _ (s : List ℕ) where
+  pub search-start : firstLength s ≡ divisionFrom s 1 (blocksIn s - 1)
+  unfolding firstLength
+  search-start = refl
+
+  module _ (n i : ℕ) where
+    pub search-end : n ≤ i → divisionFrom s i (n - i) ≡ length s
+    unfolding divisionFrom
+    search-end h = rw (none-left i n h)
+
+    module _ {w : ℕ} (l : i < n) (e : w ≡ wordAt s (512 * i)) where
+      pub search-more : w ≢ 1 → divisionFrom s i (n - i) ≡ divisionFrom s (i + 1) (n - (i + 1))
+      unfolding divisionFrom
+      search-more h = rw (one-left i n l, divisionFrom, ← e, ne-eqb h, add-one i)
+
+      pub search-found : w ≡ 1 → divisionFrom s i (n - i) ≡ 512 * i
+      unfolding divisionFrom
+      search-found h = rw (one-left i n l, divisionFrom, ← e, eq-eqb h)
+
+-- ---- from part to part
+
+-- `count` parts are passed, up to the offset `at`
+abbrev pub Counted : List ℕ → ℕ → ℕ → Type 0
+Counted s at count = (at ≤ length s) × (count ≤ at) × (length (partsOf s) ≡ count + length (partsOf (drop at s)))
+
+-- i of n parts are passed, or as many as there are, up to the offset `at`
+abbrev pub Passed : List ℕ → ℕ → ℕ → ℕ → Type 0
+Passed s n at i = (at ≤ length s) × (startOf n s ≡ at + startOf (n - i) (drop at s))
+
+module _ (s : List ℕ) where
+  pub count-start : Counted s 0 0
+  count-start = (omega arith, omega arith, omega arith)
+
+  pub pass-start : (n : ℕ) → Passed s n 0 0
+  pass-start n = (omega arith, rw (sub-zero n) (omega arith))
+
+  -- one part more: f is the length of the part at the offset, as the code computes it
+  module _ (at : ℕ) {f : ℕ} (e : f ≡ firstLength (take (length s - at) (drop at s))) where
+    passed : f ≡ firstLength (drop at s)
+    passed = e ∙ ap firstLength (high-is at s)
+
+    left-behind : secondPart (drop at s) ≡ drop (at + f) s
+    left-behind = drop-drop (firstLength (drop at s)) at s ∙ ap (λ (k : ℕ). drop (at + k) s) (sym passed)
+
+    within : at ≤ length s → at + f ≤ length s
+    within h = let b = first-bound (drop at s) in let p = passed in omega (arith, length-drop at s)
+
+    -- it has a byte, so that the end comes nearer
+    further : at < length s → 0 < f
+    further l = let a = first-some (drop at s) (omega (arith, length-drop at s)) in let p = passed in omega arith
+
+    pub nearer : (count : ℕ) → at < length s → Counted s at count → length s - (at + f) < length s - at
+    nearer count l h = let p = further l in omega arith
+
+    pub count-more : (count : ℕ) → at < length s → Counted s at count → Counted s (at + f) (count + 1)
+    count-more count l h =
+        let one : length (partsOf (drop at s)) ≡ suc (length (partsOf (drop (at + f) s))) =
+        ap length (parts-of (drop at s) (omega (arith, length-drop at s))) ∙ ap (λ (t : List ℕ). suc (length (partsOf t))) left-behind in
+        let a = h .1 in
+        let b = h .2 in
+        let p = further l in
+        (within (omega arith), omega arith, omega arith)
+
+    pub pass-more : (n i : ℕ) → i < n → at < length s → Passed s n at i → Passed s n (at + f) (i + 1)
+    unfolding startOf
+    pass-more n i l k h =
+        let one : startOf (n - i) (drop at s) ≡ f + startOf (n - (i + 1)) (drop (at + f) s) =
+        rw (one-left i n l, startOf, left-behind, ← passed) in
+        let a = h .1 in
+        (within (omega arith), omega arith)
+
+  -- at the end of the list there is none more
+  pub count-end : (at count : ℕ) → length s ≤ at → Counted s at count → count ≡ length (partsOf s)
+  count-end at count l h =
+      let z : length (partsOf (drop at s)) ≡ 0 = ap length (parts-none (drop at s) (omega (arith, length-drop at s))) in
+      let a = h .2 in
+      omega arith
+
+  pub pass-end : (n at i : ℕ) → length s ≤ at → Passed s n at i → (at ≡ startOf n s) × (at ≤ length s)
+  pass-end n at i l h = let a = h .1 in (omega (arith, start-within (drop at s) (n - i), length-drop at s), h .0)
+
+  -- where all n are passed
+  pub pass-all : (n at i : ℕ) → n ≤ i → Passed s n at i → (at ≡ startOf n s) × (at ≤ length s)
+  unfolding startOf
+  pass-all n at i l h =
+      let z : startOf (n - i) (drop at s) ≡ 0 = rw (none-left i n l) in
+      let a = h .1 in
+      (omega arith, h .0)

@@ -1,0 +1,165 @@
+-- The descriptions of a dictionary, read in turn: how far reading has come, one description more, and the end.
+-- Assumes nothing.
+use Prim.Native.Nat.{_+_, _<_, _≤_, suc, ℕ}
+use lib.ListN.{drop, drop-of-length-le, getD, length, length-drop, length-map, length-replicate, length-set, replicate, set, take}
+use lib.Seq.{drop-cons, length-take-le, take-all, take-suc}
+use mathlib.Core.List.{List, [], _++_, _∷_, map, map-append}
+use mathlib.Core.Path.{_∙_, _≡_, ap, refl, subst}
+use native.Mathlib.Omega.{arith}
+use Rattle.base.proofs.Parts.{high-is, highOf, low-is, lowOf}
+use Rattle.base.proofs.Tests.{eq-cases, lt-cases}
+use Rattle.blocks.proofs.RoundTrip.Unbroken.{Unbroken}
+use Rattle.blocks.specs.Entries.{entriesOf}
+use Rattle.blocks.specs.Frame.{plain}
+use Rattle.blocks.specs.declared.Entry.{Entry}
+use Rattle.blocks.specs.declared.Reading.the-variants.{Accepted, Refused}
+use Rattle.blocks.specs.declared.Schema.the-variants.{Named}
+use Rattle.lists.proofs.FirstPart.{first-some}
+use Rattle.lists.proofs.PartLaws.{part-at, start-below, start-next, start-past}
+use Rattle.lists.specs.Parts.{firstLength, partsOf, startOf}
+use Rattle.names.proofs.Legality.NamedReadings.{taken-within}
+use Rattle.names.specs.NamedReading.{dictionaryOf, namedReading, partsReading}
+use Rattle.unfolding.proofs.KnownLaws.{known-more, known-start}
+use Rattle.unfolding.specs.code.Known.{Known, MeasuredBy, Ready}
+use Rattle.unfolding.specs.declared.Measured.the-variants as measured
+use Rattle.unfolding.specs.declared.Measured.{Measured}
+
+-- the first n descriptions
+abbrev pub earlier : List ℕ → ℕ → List (List Entry)
+earlier D n = map entriesOf (take n (partsOf D))
+
+length-earlier : (D : List ℕ) (n : ℕ) → n ≤ length (partsOf D) → length (earlier D n) ≡ n
+length-earlier D n h = length-map (take n (partsOf D)) entriesOf ∙ length-take-le n (partsOf D) h
+
+-- and one more
+earlier-more : (D : List ℕ) (n : ℕ) → n < length (partsOf D) → earlier D (suc n) ≡ earlier D n ++ (entriesOf (getD (partsOf D) n []) ∷ [])
+earlier-more D n h = ap (map entriesOf) (take-suc (partsOf D) n [] h) ∙ map-append entriesOf (take n (partsOf D)) (getD (partsOf D) n [] ∷ [])
+
+-- what is measured, by what came of it
+measured-as : (K : List (List Entry)) (i : ℕ) (s rows : List ℕ) {r r′ : Measured} → r ≡ r′ → MeasuredBy K i s rows r → MeasuredBy K i s rows r′
+measured-as K i s rows q M = subst (MeasuredBy K i s rows) q M
+
+-- n descriptions are read and taken: the tables have their sizes and levels, and the answer is what the others give
+pub record Passed (D size levels : List ℕ) (at n : ℕ) : Type 0 where
+  pub few : n ≤ length (partsOf D)
+  pub start : at ≡ startOf n D
+  pub long : (length size ≡ 65) × (length levels ≡ 65)
+  pub known : Known (earlier D n) size levels
+  pub same : partsReading [] (partsOf D) ≡ partsReading (earlier D n) (drop n (partsOf D))
+  pub sound : (k : ℕ) → k < n → Unbroken plain (Named k) (getD (partsOf D) k [])
+
+-- before the first
+pub passed-start : (D size levels : List ℕ) → size ≡ replicate 65 0 → levels ≡ replicate 65 0 → Passed D size levels 0 0
+unfolding startOf
+passed-start D size levels s l = record {
+  few = omega arith;
+  start = refl;
+  long = (ap length s ∙ length-replicate {A = ℕ} 65 0, ap length l ∙ length-replicate {A = ℕ} 65 0);
+  known = known-start size levels s l;
+  same = refl;
+  sound = λ k h. absurd (omega arith);
+}
+
+module _ {D size levels : List ℕ} {at n : ℕ} (P : Passed D size levels at n) where
+  -- how many there are
+  pub passed-many : length (earlier D n) ≡ n
+  passed-many = length-earlier D n (P .few)
+
+  -- ---- one more
+
+  module _ (h : at < length D) where
+    -- before the end of the bytes there is a description
+    pub passed-some : n < length (partsOf D)
+    passed-some = lt-cases n (length (partsOf D)) (λ l. l) (λ l. absurd (omega (arith, start-past D n l, P .start)))
+
+    -- the next one, and those behind it
+    left : drop n (partsOf D) ≡ getD (partsOf D) n [] ∷ drop (suc n) (partsOf D)
+    left = drop-cons (partsOf D) n [] passed-some
+
+    -- where it is taken, the tables have its size and its levels
+    known-next : length (partsOf D) ≤ 64 → {m z l : ℕ} (rows : List ℕ) → MeasuredBy (earlier D n) (101 + n) (getD (partsOf D) n []) rows (measured.Taken m z l)
+        → Known (earlier D (n + 1)) (set size (n + 1) z) (set levels (n + 1) l)
+    known-next few rows M =
+        let K = earlier D n in
+        let s = getD (partsOf D) n [] in
+        let one : n + 1 ≡ suc n = omega arith in
+        let W = taken-within K (101 + n) s (P .known .sized .each) (M .6) (M .0) in
+        let more = known-more K (entriesOf s) (P .known) (M .6) W (omega (arith, passed-many, passed-some)) (P .long .0) (P .long .1) in
+        let list : earlier D (n + 1) ≡ K ++ (entriesOf s ∷ []) = ap (earlier D) one ∙ earlier-more D n passed-some in
+        rw (list, M .3, M .4) (rw passed-many at more)
+
+    -- the answer is what the others give
+    same-next : {m z l : ℕ} (rows : List ℕ) → MeasuredBy (earlier D n) (101 + n) (getD (partsOf D) n []) rows (measured.Taken m z l)
+        → partsReading [] (partsOf D) ≡ partsReading (earlier D (suc n)) (drop (suc n) (partsOf D))
+    unfolding partsReading
+    same-next rows M = P .same ∙ rw (left, partsReading, passed-many, M .0, earlier-more D n passed-some)
+
+    -- and none of 1 to 3 applies to it
+    sound-next : {m z l : ℕ} (rows : List ℕ) → MeasuredBy (earlier D n) (101 + n) (getD (partsOf D) n []) rows (measured.Taken m z l)
+        → (k : ℕ) → k < n + 1 → Unbroken plain (Named k) (getD (partsOf D) k [])
+    sound-next rows M k b =
+        eq-cases k n
+        (λ q. let u : Unbroken plain (Named n) (getD (partsOf D) n []) = rw passed-many at (M .7) in rw q u)
+        (λ q. P .sound k (omega arith))
+
+    module _ {f : ℕ} (e : f ≡ firstLength (highOf at D)) where
+      long-part : f ≡ firstLength (drop at D)
+      long-part = e ∙ ap firstLength (high-is at D)
+
+      -- it has a byte
+      pub passed-further : 0 < f
+      passed-further = let l = first-some (drop at D) (omega (arith, length-drop at D)) in omega (arith, long-part)
+
+      -- its bytes, as the code takes them
+      part-is : lowOf f (highOf at D) ≡ getD (partsOf D) n []
+      part-is =
+          low-is f (highOf at D) ∙ ap (take f) (high-is at D) ∙ ap (λ (k : ℕ). take k (drop at D)) long-part
+          ∙ ap (λ (a : ℕ). take (firstLength (drop a D)) (drop a D)) (P .start) ∙ part-at D n
+
+      next-start : at + f ≡ startOf (suc n) D
+      next-start = let l : f ≡ firstLength (drop (startOf n D) D) = long-part ∙ ap (λ (a : ℕ). firstLength (drop a D)) (P .start) in omega (arith, start-next D n, P .start)
+
+      -- refused, it is the answer
+      pub passed-refused : {r : Measured} {k j p : ℕ} → r ≡ measured.Refused k j p → (rows : List ℕ)
+          → MeasuredBy (earlier D n) (101 + n) (lowOf f (highOf at D)) rows r → partsReading [] (partsOf D) ≡ Refused k j p
+      unfolding partsReading
+      passed-refused {k = k} {j = j} {p = p} q rows M =
+          let R : namedReading (earlier D n) (101 + n) (getD (partsOf D) n []) ≡ Refused k j p = rw part-is at (measured-as (earlier D n) (101 + n) (lowOf f (highOf at D)) rows q M) in
+          P .same ∙ rw (left, partsReading, passed-many, R)
+
+      -- taken, it is one of those that are passed
+      pub passed-more : length (partsOf D) ≤ 64 → {r : Measured} {m z l : ℕ} → r ≡ measured.Taken m z l → (rows : List ℕ)
+          → MeasuredBy (earlier D n) (101 + n) (lowOf f (highOf at D)) rows r
+          → Passed D (set size (n + 1) z) (set levels (n + 1) l) (at + f) (n + 1)
+      passed-more few {m = m} {z = z} {l = l} q rows given =
+          let M : MeasuredBy (earlier D n) (101 + n) (getD (partsOf D) n []) rows (measured.Taken m z l) = rw part-is at (measured-as (earlier D n) (101 + n) (lowOf f (highOf at D)) rows q given) in
+          let one : n + 1 ≡ suc n = omega arith in
+          record {
+            few = omega (arith, passed-some);
+            start = rw one next-start;
+            long = (length-set size (n + 1) z ∙ P .long .0, length-set levels (n + 1) l ∙ P .long .1);
+            known = known-next few rows M;
+            same = rw one (same-next rows M);
+            sound = sound-next rows M;
+          }
+
+  -- ---- the end
+
+  module _ (h : length D ≤ at) where
+    pub passed-all : n ≡ length (partsOf D)
+    passed-all = lt-cases n (length (partsOf D)) (λ l. absurd (omega (arith, start-below D n l, P .start))) (λ l. omega (arith, P .few))
+
+    whole : earlier D n ≡ dictionaryOf D
+    whole = ap (map entriesOf) (take-all n (partsOf D) (omega (arith, passed-all)))
+
+    pub passed-accepted : partsReading [] (partsOf D) ≡ Accepted n
+    unfolding partsReading
+    passed-accepted =
+        let none : drop n (partsOf D) ≡ [] = drop-of-length-le (partsOf D) {i = n} (omega (arith, passed-all)) in
+        P .same ∙ rw (none, partsReading, passed-many)
+
+    pub passed-known : Known (dictionaryOf D) size levels
+    passed-known = rw (← whole) (P .known)
+
+    pub passed-ready : Ready D size
+    passed-ready = record { sized = passed-known .sized; sound = λ k l. P .sound k (omega (arith, passed-all)) }

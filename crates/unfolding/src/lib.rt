@@ -1,0 +1,36 @@
+// Unfolding: descriptions that name others of a dictionary are read, or refused, and written as the plain descriptions that they stand for.
+//
+// A dictionary is read once: two tables keep, for each of its descriptions, how many entries it has once unfolded and how deep they stand.
+// So 14 is told without unfolding anything. A description is then unfolded in passes, the greatest name first; each pass puts in the entries
+// of one description, without the names in it that stand for nothing. So every row stands for an entry at least, and 1,008 are always enough.
+//
+// The contracts cite `names` (NamedReading) and specs/Answer. What unfolding means is proved in `names`.
+mod calls;
+mod dictionary;
+mod measure;
+mod passes;
+mod replace;
+mod rows;
+
+pub use calls::unfold;
+pub use calls::unfold_both;
+pub use calls::unfold_into;
+
+// What unfolding two descriptions answers: the refusal's number, the input and the place, or how many entries each has then.
+pub enum Unfolded {
+    Refused(u8, u16, u16),
+    Both(u16, u16),
+}
+
+// How many entries a description has once unfolded, and on how many levels they stand.
+struct Extent {
+    size: usize,
+    levels: usize,
+}
+
+// What reading a description under a dictionary answers: the refusal's number, the input and the place, or how many entries it has, how many
+// once unfolded, and on how many levels these stand.
+enum Measured {
+    Refused(u8, u16, u16),
+    Taken(u16, u16, u8),
+}
