@@ -9,8 +9,8 @@ use crate::Entry;
 use crate::Link;
 use crate::Property;
 use crate::words::byte;
-use crate::words::joined;
 use crate::words::word;
+use crate::words::word_of_bytes;
 
 impl Entry {
     // The name of an entry of kind 1 or 2, as a property.
@@ -43,9 +43,9 @@ pub fn entry_of_bytes(b0: u8, b1: u8, b2: u8, b3: u8, b4: u8, b5: u8, b6: u8, b7
     Entry {
         kind: b0,
         reserved: b1,
-        owner: joined(b2, b3),
-        name: joined(b4, b5),
-        number: joined(b6, b7),
+        owner: word_of_bytes(b2, b3),
+        name: word_of_bytes(b4, b5),
+        number: word_of_bytes(b6, b7),
     }
 }
 

@@ -14,6 +14,7 @@ pub use words::block_check;
 pub use words::block_second;
 pub use words::byte;
 pub use words::word;
+pub use words::word_of_bytes;
 
 // A property's number. Properties and links are numbered apart, so each has a type of its own.
 pub struct Property(pub u16);

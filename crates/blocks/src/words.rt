@@ -19,7 +19,7 @@ pub fn word(s: &[u8], at: usize) -> u16
     if s.len() <= at {
         return 0;
     }
-    joined(byte(s, at), byte(s, at + 1))
+    word_of_bytes(byte(s, at), byte(s, at + 1))
 }
 
 // A byte as a word.
@@ -29,8 +29,8 @@ fn wide(x: u8) -> u16
     x as u16
 }
 
-// The word of two bytes.
-pub(crate) fn joined(low: u8, high: u8) -> u16
+// The word of two bytes, low byte first.
+pub fn word_of_bytes(low: u8, high: u8) -> u16
     ensures { λ r. ⌜ r ≡ low + 256 * high ⌝ }
 {
     wide(low) + 256 * wide(high)
@@ -41,7 +41,7 @@ fn word_at(s: &[u8], at: usize) -> u16
     requires { ⌜ at + 1 < length (now s) ⌝ }
     ensures { λ r. ⌜ r ≡ wordAt (now (s .entry)) at ⌝ }
 {
-    joined(s[at], s[at + 1])
+    word_of_bytes(s[at], s[at + 1])
 }
 
 // The first n words from an index on, all there, added: "this sum wraps at 65,536".
