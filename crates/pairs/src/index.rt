@@ -1,11 +1,10 @@
 // The index of a list of pairs: the numbers under which the list names a property stand in the chain of a bucket, so that a property that
 // no pair has costs one look. The properties that a list names count from 1, two for each pair.
 ghost use mathlib.Core.Path.{_≡_};
-ghost use mathlib.Core.Bool.{cond};
-ghost use Prim.Native.Nat.{_+_, _-_, _%_, _<_, _≤_, min};
+ghost use Prim.Native.Nat.{_+_, _<_, _≤_, min};
 ghost use lib.Dec.{eqb};
 ghost use lib.ListN.{getD};
-ghost use Rattle.pairs.specs.code.Index.{besideAt, bucketOf, indexedTo, namedAt, namedCount, noted};
+ghost use Rattle.pairs.specs.code.Index.{besideAt, bucketOf, indexedTo, namedAt, namedCount, noted, numberBeside};
 use base::wide;
 use blocks::Property;
 use blocks::word;
@@ -21,18 +20,16 @@ fn named_at(pairs: &[u8], k: usize) -> u16
     word(pairs, 2 * (k - 1))
 }
 
-// The number of the other property of its pair.
-fn number_beside(k: usize) -> usize
-    requires { ⌜ k ≤ 255 ⌝ }
-    ensures { λ r. ⌜ (r ≡ cond (eqb (k % 2) 1) (k + 1) (k - 1)) × (r ≤ 256) ⌝ }
+// The number of the other property of its pair; 0 for number 0. The first of a pair is the odd one: no jump by it, since nothing foretells
+// which of the two a number is.
+pub fn number_beside(k: u8) -> usize
+    ensures { λ r. ⌜ (r ≡ numberBeside k) × (r ≤ 256) ⌝ }
 {
-    if k % 2 == 1 {
-        return k + 1;
-    }
-    if k == 0 {
+    let n = k as usize;
+    if n == 0 {
         return 0;
     }
-    k - 1
+    n - 1 + 2 * (n % 2)
 }
 
 fn bucket(p: u16) -> usize
@@ -107,5 +104,5 @@ pub fn names(pairs: &[u8], k: u8, p: Property) -> bool
 pub fn beside(pairs: &[u8], k: u8) -> Property
     ensures { λ r. ⌜ r .0 ≡ besideAt (now (pairs .entry)) k ⌝ }
 {
-    Property(named_at(pairs, number_beside(k as usize)))
+    Property(named_at(pairs, number_beside(k)))
 }

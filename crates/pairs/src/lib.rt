@@ -12,4 +12,5 @@ pub use index::index_pairs;
 pub use index::last_naming;
 pub use index::names;
 pub use index::naming_before;
+pub use index::number_beside;
 pub use reader::read_pairs;

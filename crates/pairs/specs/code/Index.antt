@@ -16,12 +16,16 @@ use Rattle.pairs.specs.Pairs.{pairCount}
 abbrev pub namedCount : List ℕ → ℕ
 namedCount P = 2 * pairCount P
 
--- property k of a list, counted from 1, and the other one of its pair
+-- property k of a list, counted from 1
 unfoldable pub namedAt : List ℕ → ℕ → ℕ
 namedAt P k = wordAt P (2 * (k - 1))
 
+-- the number of the other one of its pair, and that property
+abbrev pub numberBeside : ℕ → ℕ
+numberBeside k = cond (eqb (k % 2) 1) (k + 1) (k - 1)
+
 unfoldable pub besideAt : List ℕ → ℕ → ℕ
-besideAt P k = namedAt P (cond (eqb (k % 2) 1) (k + 1) (k - 1))
+besideAt P k = namedAt P (numberBeside k)
 
 -- one of the first k is p and stands beside one that `has` holds of
 unfoldable pub partnered : List ℕ → (ℕ → Bool) → ℕ → ℕ → Bool

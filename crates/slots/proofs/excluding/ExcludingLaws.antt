@@ -1,26 +1,41 @@
 -- A place has a property by the slot of its key, and lacks one where it has a partner of it.
 -- Assumes nothing.
-use Prim.Native.Nat.{_+_, _<_, _≤_, suc, zero, ℕ}
+use Prim.Native.Nat.{_%_, _*_, _+_, _-_, _<_, _≤_, suc, zero, ℕ}
 use lib.Dec.{eqb}
-use lib.ListN.{getD}
+use lib.ListN.{getD, length}
 use mathlib.Core.Bool.{Bool, _&&_, false, not, or-false, true}
 use mathlib.Core.List.{List, [], _∷_}
 use mathlib.Core.Logic.{_≢_}
 use mathlib.Core.Path.{_∙_, _≡_, refl, sym}
 use native.Mathlib.Omega.{arith}
 use Rattle.base.proofs.ChainLaws.{last-bucket, last-most, last-none}
-use Rattle.base.proofs.Tests.{and-both, and-left, and-right, both-ways, eq-cases, eq-eqb, eqb-eq, eqb-self, eqb-sym, lt-cases, or-cases, or-left, or-right}
+use Rattle.base.proofs.Tests.{and-both, and-left, and-right, both-ways, eq-cases, eq-eqb, eqb-eq, eqb-self, eqb-sym, lt-cases, ne-eqb, or-cases, or-left, or-right}
 use Rattle.base.specs.Chain.{lastWhere}
 use Rattle.pairs.proofs.IndexLaws.{partner-ends, partner-starts}
 use Rattle.pairs.proofs.Partners.{Partner, partnered-is}
-use Rattle.pairs.specs.Pairs.{excludesIn, under}
-use Rattle.pairs.specs.code.Index.{PairsIndexed, bucketOf, namedCount, partnered}
+use Rattle.pairs.specs.Pairs.{excludesIn, pairCount, under}
+use Rattle.pairs.specs.code.Index.{PairsIndexed, bucketOf, namedCount, numberBeside, partnered}
 use Rattle.passes.specs.code.Keys.{keyNumber}
 use Rattle.passes.specs.code.Restrict.{excludedAt, hasAt}
 use Rattle.passes.specs.code.Slots.{Slot, sameKey, slot}
 use Rattle.slots.proofs.slots.SearchLaws.{keysOf}
 use Rattle.slots.proofs.slots.TableLaws.{key-test}
 use Rattle.slots.specs.code.Tables.{Kept, keyIn, lowPart, slotIn, slotsFrom}
+
+-- ---- a property's two bytes
+
+module _ (P : List ℕ) (k : ℕ) (from : 1 ≤ k) (to : k ≤ namedCount P) where
+  pub named-there : 2 * k ≤ length P
+  unfolding pairCount
+  named-there = omega arith
+
+  -- those of the property beside it
+  pub beside-there : {j : ℕ} → j ≡ numberBeside k → (1 ≤ j) × (2 * j ≤ length P)
+  unfolding pairCount
+  beside-there {j} e =
+      eq-cases (k % 2) 1
+      (λ odd. let f : j ≡ k + 1 = e ∙ rw (eq-eqb odd) in (omega arith, omega arith))
+      (λ even. let f : j ≡ k - 1 = e ∙ rw (ne-eqb even) in (omega arith, omega arith))
 
 -- ---- on lists
 
