@@ -2,26 +2,27 @@
 // number 4, 5 or 6. An entry breaks it where it is a group by such a link and brings its owner above one item: where it has two items or
 // more, or where an earlier group of its owner and link is there.
 ghost use mathlib.Core.Path.{_≡_};
-ghost use mathlib.Core.Bool.{not, true};
-ghost use Prim.Native.Nat.{_+_, _-_, _/_, _*_, _≤_, _<_};
-ghost use lib.Dec.{ltb};
-ghost use lib.ListN.{length, getD, set};
+ghost use mathlib.Core.Bool.{false, not};
+ghost use mathlib.Core.List.{List};
+ghost use Prim.Native.Nat.{_+_, _-_, _/_, _*_, _≤_, _<_, ℕ};
+ghost use lib.ListN.{length, getD};
 ghost use Rattle.base.specs.Search.{firstFrom};
 ghost use Rattle.blocks.specs.Entries.{entriesOf, nth};
 ghost use Rattle.blocks.specs.Faults.{entryFaults, first};
-ghost use Rattle.blocks.specs.Single.{itemsUpTo, singleGroup, singleOk};
+ghost use Rattle.blocks.specs.Single.{singleGroup, singleOk};
 ghost use Rattle.blocks.specs.code.Blockwise.{InBlock, Whole};
-ghost use Rattle.blocks.specs.code.EntryTable.{Met, entryHash, noted, ownedAs};
-ghost use Rattle.blocks.specs.code.SingleSteps.{NoneBefore, otherKind, standBefore};
+ghost use Rattle.blocks.specs.code.SingleSteps.{After, otherKind, standBefore};
+ghost use Rattle.blocks.specs.code.SingleTable.{Ends, Kept, Room, keyOf, startOf};
+ghost use Rattle.blocks.specs.declared.Entry.{Entry};
 ghost use Rattle.blocks.specs.declared.Schema.{Schema};
 use crate::rules::entry_from;
 use crate::rules::first_rule_fault;
+use base::long;
 use base::wide;
 use blocks::Entry;
 use blocks::Finding;
 use blocks::Schema;
 use blocks::next_count;
-use blocks::nth_entry;
 
 // Whether an entry is a group by a link that leads to one item only. The link is tested first: most specimens have no such number at all,
 // so that the test is guessed right.
@@ -49,19 +50,117 @@ fn single_in_block(s: &[u8], from: usize, count: usize, done: usize) -> usize
     }
 }
 
-// The lowest such group among the first n entries, block by block. Most specimens have none: then no table is needed.
-fn first_single(s: &[u8], n: usize) -> usize
-    requires { ⌜ (n ≤ length (entriesOf (now s))) × (length (entriesOf (now s)) ≤ 2016) × Whole (now s) n ⌝ }
-    ensures { λ r. ⌜ r ≡ firstFrom (otherKind (entriesOf (now (s .entry)))) 1 n ⌝ }
+// An owner and a link as one number, by which the table keeps them.
+fn key_of(e: Entry) -> u32
+    ensures { λ r. ⌜ (r ≡ keyOf e) × (e .name < 65536) ⌝ }
 {
-    let mut done: usize = 0;
-    let mut at: usize = 4;
+    (65536 * long(e.owner) + long(e.name)) as u32
+}
+
+// The cell where the search for a key begins. Owners and links come in rows, which the product scatters.
+fn start_of(key: u32, most: usize) -> usize
+    requires { ⌜ 0 < most ⌝ }
+    ensures { λ r. ⌜ (r ≡ startOf most key) × (r < most) ⌝ }
+{
+    ((2654435769 * (key as u64) / 1048576) as usize) & (most - 1)
+}
+
+// The key in a cell; 0 in a free one.
+fn key_at(cells: &[u32], c: usize) -> u32
+    requires { ⌜ c < length (now cells) ⌝ }
+    ensures { λ r. ⌜ r ≡ getD (now (cells .entry)) c 0 ⌝ }
+{
+    cells[c]
+}
+
+// The cell that has a key, or the free one where it is to stand: the first from where its search begins.
+fn cell_for(cells: &[u32], most: usize, key: u32) -> usize
+    requires { ⌜ Room most (now cells) ⌝ }
+    ensures { λ r. ⌜ Ends (now (cells .entry)) most key r × (r < length (now (cells .entry))) ⌝ }
+{
+    let mut c = start_of(key, most);
+    // Owners and links that were chosen for it all begin at one cell; then each search goes over all groups met, cell by cell, and a
+    // specimen of 2,016 groups takes a millisecond or so.
+    loop {
+        let x = key_at(cells, c);
+        if x == 0 {
+            break c;
+        }
+        if x == key {
+            break c;
+        }
+        c += 1;
+    }
+}
+
+// Whether entry e breaks number 9, where the table holds the groups before it. If it does not, the table then holds it too.
+fn brings_second(cells: &mut [u32], most: usize, e: Entry) -> bool
+    requires { ⌜ Room most (now cells) ⌝ }
+    ensures { λ r. ⌜ ((es : List Entry) → (n : ℕ) → e ≡ nth es (n + 1) → Kept es most (now (cells .entry)) n
+        → (r ≡ not (singleOk es (n + 1))) × (r ≡ false → Kept es most (now (cells .exit)) (n + 1))) ⌝ }
+{
+    if !single_group(e) {
+        return false;
+    }
+    if 0 < e.number {
+        return true;
+    }
+    let key = key_of(e);
+    let c = cell_for(cells, most, key);
+    if key_at(cells, c) != 0 {
+        return true;
+    }
+    cells[c] = key;
+    false
+}
+
+// The lowest of `count` entries, those after the first `done`, whose bytes start at `from`, that breaks number 9; 0 if none does.
+fn double_in_block(
+    s: &[u8],
+    from: usize,
+    count: usize,
+    done: usize,
+    cells: &mut [u32],
+    most: usize,
+) -> usize
+    requires { ⌜ (length (entriesOf (now s)) ≤ 2016) × InBlock (now s) from count done × (done + count ≤ most / 2) × Kept (entriesOf (now s)) most (now cells) done ⌝ }
+    ensures { λ r. ⌜ (r ≡ firstFrom (singleOk (entriesOf (now (s .entry)))) (done + 1) count)
+        × (r ≡ 0 → Kept (entriesOf (now (s .entry))) most (now (cells .exit)) (done + count)) ⌝ }
+{
+    let mut i: usize = 0;
+    loop {
+        if count <= i {
+            break 0;
+        }
+        let e = entry_from(s, from + 8 * i);
+        i += 1;
+        if brings_second(cells, most, e) {
+            break done + i;
+        }
+    }
+}
+
+// The lowest of the first n entries that breaks number 9, or 0, where those of the first blocks, `before` of them, are no such groups and
+// the bytes of the next start at `from`. A table holds the groups met.
+fn double_by(
+    s: &[u8],
+    n: usize,
+    before: usize,
+    from: usize,
+    cells: &mut [u32],
+    most: usize,
+) -> usize
+    requires { ⌜ After (now s) n before from × (n ≤ most / 2) × Kept (entriesOf (now s)) most (now cells) before ⌝ }
+    ensures { λ r. ⌜ r ≡ firstFrom (singleOk (entriesOf (now (s .entry)))) 1 n ⌝ }
+{
+    let mut done = before;
+    let mut at = from;
     loop {
         if n <= done {
             break 0;
         }
         let count = next_count(n - done);
-        let found = single_in_block(s, at, count, done);
+        let found = double_in_block(s, at, count, done, cells, most);
         if found != 0 {
             break found;
         }
@@ -70,143 +169,54 @@ fn first_single(s: &[u8], n: usize) -> usize
     }
 }
 
-// The bucket of an entry, of `most`, by its owner and its link. Tables come in two sizes, and a division by a constant is sooner done.
-fn bucket(e: Entry, most: usize) -> usize
-    requires { ⌜ 0 < most ⌝ }
-    ensures { λ r. ⌜ (r ≡ entryHash most (e .owner) (e .name)) × (r < most) ⌝ }
+// The same with a table of its own, for at most 63 entries.
+fn double_of_few(s: &[u8], n: usize, before: usize, from: usize) -> usize
+    requires { ⌜ After (now s) n before from × (n < 64) ⌝ }
+    ensures { λ r. ⌜ r ≡ firstFrom (singleOk (entriesOf (now (s .entry)))) 1 n ⌝ }
 {
-    let x = 31 * wide(e.owner) + wide(e.name);
-    if most == 2017 {
-        return x % 2017;
-    }
-    if most == 64 {
-        return x % 64;
-    }
-    x % most
-}
-
-// Whether two entries have one owner and one name.
-fn same_group(e: Entry, x: Entry) -> bool
-    ensures { λ r. ⌜ r ≡ ownedAs (e .owner) (e .name) x ⌝ }
-{
-    if e.owner == x.owner {
-        e.name == x.name
-    } else {
-        false
-    }
-}
-
-// The number at an index of the table.
-fn link_at(index: &[u16], i: usize) -> u16
-    requires { ⌜ i < length (now index) ⌝ }
-    ensures { λ r. ⌜ r ≡ getD (now (index .entry)) i 0 ⌝ }
-{
-    index[i]
-}
-
-// Sets the number at an index of the table.
-fn set_link(index: &mut [u16], i: usize, x: u16)
-    requires { ⌜ i < length (now index) ⌝ }
-    ensures { λ _. ⌜ now (index .exit) ≡ set (now (index .entry)) i x ⌝ }
-{
-    index[i] = x;
-}
-
-// Whether one of the first n entries is a group of the owner and the link of entry e, which is such a group.
-fn met_before(s: &[u8], index: &[u16], most: usize, n: usize, e: Entry) -> bool
-    requires { ⌜ Met singleGroup (entriesOf (now s)) most (now index) n × (singleGroup e ≡ true) ⌝ }
-    ensures { λ r. ⌜ r ≡ ltb 0 (itemsUpTo (entriesOf (now (s .entry))) (e .owner) (e .name) n) ⌝ }
-{
-    let mut k = wide(link_at(index, bucket(e, most)));
-    // Owners and links that were chosen for it all stand in one bucket; then each look goes over all groups met, as in `search` of slots, and
-    // a specimen of 2,016 groups takes some milliseconds.
-    loop {
-        if k == 0 {
-            break false;
-        }
-        if same_group(e, nth_entry(s, n, k)) {
-            break true;
-        }
-        k = wide(link_at(index, most + k));
-    }
-}
-
-// Whether entry e, which stands after the first n, breaks number 9.
-fn brings_second(s: &[u8], index: &[u16], most: usize, n: usize, e: Entry) -> bool
-    requires { ⌜ Met singleGroup (entriesOf (now s)) most (now index) n × (e ≡ nth (entriesOf (now s)) (n + 1)) ⌝ }
-    ensures { λ r. ⌜ r ≡ not (singleOk (entriesOf (now (s .entry))) (n + 1)) ⌝ }
-{
-    if !single_group(e) {
-        return false;
-    }
-    if 0 < e.number {
-        return true;
-    }
-    met_before(s, index, most, n, e)
-}
-
-// Puts entry n, which is e, in front of the chain of its bucket, if it is such a group.
-fn note(index: &mut [u16], most: usize, n: usize, e: Entry)
-    requires { ⌜ (n < most) × (most ≤ 2017) × (length (now index) ≡ most + most) ⌝ }
-    ensures { λ _. ⌜ now (index .exit) ≡ noted singleGroup most (now (index .entry)) n e ⌝ }
-{
-    if single_group(e) {
-        let b = bucket(e, most);
-        set_link(index, most + n, link_at(index, b));
-        set_link(index, b, n as u16);
-    }
-}
-
-// The lowest of the first n entries, from entry `from` on, that breaks number 9, or 0. A table holds the groups met.
-fn double_by(s: &[u8], n: usize, from: usize, index: &mut [u16], most: usize) -> usize
-    requires { ⌜ (1 ≤ from) × (from ≤ n) × (n < most) × (n ≤ length (entriesOf (now s))) × Met singleGroup (entriesOf (now s)) most (now index) (from - 1) ⌝ }
-    ensures { λ r. ⌜ r ≡ firstFrom (singleOk (entriesOf (now (s .entry)))) from (n + 1 - from) ⌝ }
-{
-    let mut k = from - 1;
-    loop {
-        if n <= k {
-            break 0;
-        }
-        let e = nth_entry(s, n, k + 1);
-        if brings_second(s, index, most, k, e) {
-            break k + 1;
-        }
-        k += 1;
-        note(index, most, k, e);
-    }
-}
-
-// The same with a table of its own, for at most 63 entries, where no entry before `from` is such a group.
-fn double_of_few(s: &[u8], n: usize, from: usize) -> usize
-    requires { ⌜ (1 ≤ from) × (from ≤ n) × (n < 64) × (n ≤ length (entriesOf (now s))) × NoneBefore (entriesOf (now s)) from ⌝ }
-    ensures { λ r. ⌜ r ≡ firstFrom (singleOk (entriesOf (now (s .entry)))) from (n + 1 - from) ⌝ }
-{
-    let mut index = [0u16; 128];
-    double_by(s, n, from, &mut index, 64)
+    let mut cells = [0u32; 192];
+    double_by(s, n, before, from, &mut cells, 128)
 }
 
 // The same for any number.
-fn double_of_many(s: &[u8], n: usize, from: usize) -> usize
-    requires { ⌜ (1 ≤ from) × (from ≤ n) × (n ≤ 2016) × (n ≤ length (entriesOf (now s))) × NoneBefore (entriesOf (now s)) from ⌝ }
-    ensures { λ r. ⌜ r ≡ firstFrom (singleOk (entriesOf (now (s .entry)))) from (n + 1 - from) ⌝ }
+fn double_of_many(s: &[u8], n: usize, before: usize, from: usize) -> usize
+    requires { ⌜ After (now s) n before from ⌝ }
+    ensures { λ r. ⌜ r ≡ firstFrom (singleOk (entriesOf (now (s .entry)))) 1 n ⌝ }
 {
-    let mut index = [0u16; 4034];
-    double_by(s, n, from, &mut index, 2017)
+    let mut cells = [0u32; 6144];
+    double_by(s, n, before, from, &mut cells, 4096)
 }
 
-// The lowest of the first n entries that breaks number 9, or 0. Before the first such group none does.
+// The same with a table that is large enough. Few entries take a small one, which is sooner cleared.
+fn double_after(s: &[u8], n: usize, before: usize, from: usize) -> usize
+    requires { ⌜ After (now s) n before from ⌝ }
+    ensures { λ r. ⌜ r ≡ firstFrom (singleOk (entriesOf (now (s .entry)))) 1 n ⌝ }
+{
+    if n < 64 {
+        return double_of_few(s, n, before, from);
+    }
+    double_of_many(s, n, before, from)
+}
+
+// The lowest of the first n entries that breaks number 9, or 0. Most specimens have no such group at all, and then no table is needed: it
+// is made with the first block that has one.
 fn first_double(s: &[u8], n: usize) -> usize
     requires { ⌜ (n ≤ length (entriesOf (now s))) × (length (entriesOf (now s)) ≤ 2016) × Whole (now s) n ⌝ }
     ensures { λ r. ⌜ r ≡ firstFrom (singleOk (entriesOf (now (s .entry)))) 1 n ⌝ }
 {
-    let from = first_single(s, n);
-    if from == 0 {
-        return 0;
+    let mut done: usize = 0;
+    let mut at: usize = 4;
+    loop {
+        if n <= done {
+            break 0;
+        }
+        let count = next_count(n - done);
+        if single_in_block(s, at, count, done) != 0 {
+            break double_after(s, n, done, at);
+        }
+        done += count;
+        at += 512;
     }
-    if n < 64 {
-        return double_of_few(s, n, from);
-    }
-    double_of_many(s, n, from)
 }
 
 // The number before a number; 0 before 0.

@@ -234,23 +234,21 @@ pub fn single_links() -> (Vec<u8>, Vec<u8>) {
     (encode(&groups), encode(&description))
 }
 
-/// A specimen of 2,016 groups by links that lead to one item only, no two of one owner and link, chosen so that they all stand in one
-/// bucket of the library's table of groups met. Each owner has the first 16 such links.
-pub fn one_bucket() -> Vec<u8> {
-    let groups = (0..2016).map(|before| {
-        let owner = before / 16;
-        let first = (usize::from(SINGLE)..)
-            .find(|&link| bucket(owner, link) == 0)
-            .expect("one of any 2,017 links");
-        entry(7, owner, (first + BUCKETS * (before % 16)) as u16, 0)
+/// A specimen of 2,016 groups by links that lead to one item only, no two of one owner and link, chosen so that the search for each
+/// begins at one cell of the library's table of groups met. Each owner has all such links.
+pub fn one_cell() -> Vec<u8> {
+    let groups = (0..).flat_map(|owner| {
+        let links = (SINGLE..=u16::MAX).filter(move |&link| first_cell(owner, link) == 0);
+        links.map(move |link| entry(7, owner, link, 0))
     });
-    encode(&groups.collect::<Vec<Entry>>())
+    encode(&groups.take(2016).collect::<Vec<Entry>>())
 }
 
-/// The buckets of the library's table of groups met, where a specimen has more than 63 entries.
-const BUCKETS: usize = 2017;
+/// The cells of the library's table of groups met at which a search may begin, where a specimen has more than 63 entries.
+const CELLS: u64 = 4096;
 
-/// The bucket of an owner and a link, as in `bucket` of crates/reading/src/single.rt.
-pub fn bucket(owner: usize, link: usize) -> usize {
-    (31 * owner + link) % BUCKETS
+/// The cell where the search for an owner and a link begins, as `start_of` of crates/reading/src/single.rt has it.
+pub fn first_cell(owner: usize, link: u16) -> u64 {
+    let key = (owner as u64) << 16 | u64::from(link);
+    2_654_435_769 * key / 1_048_576 % CELLS
 }

@@ -8,7 +8,7 @@ use std::hint::black_box;
 use std::time::Instant;
 
 use bench::inputs::{
-    entry, one_bucket, one_link_at_least, one_link_every, one_link_place, single_links, with_first,
+    entry, one_cell, one_link_at_least, one_link_every, one_link_place, single_links, with_first,
     with_last, worst_fit, Chance, Model, Shape,
 };
 use bench::plain;
@@ -80,12 +80,12 @@ fn main() {
     }
     let times = read_times(product_specimen, plain_specimen, &specimen, 2016);
     print_row("read specimen", "2,016", SINGLE_LINK, "accepted", times);
-    let times = read_times(product_specimen, plain_specimen, &one_bucket(), 2016);
+    let times = read_times(product_specimen, plain_specimen, &one_cell(), 2016);
     print_row(
         "read specimen",
         "2,016",
         "links to one item",
-        "one bucket",
+        "one cell",
         times,
     );
     listed::rows();

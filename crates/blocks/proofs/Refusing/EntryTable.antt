@@ -1,6 +1,6 @@
 -- The table of the entries met that count: how it grows, and how a walk along a chain finds those of an owner and a name.
 -- Assumes nothing.
-use Prim.Native.Nat.{_%_, _*_, _+_, _-_, _<_, _≤_, suc, zero, ℕ}
+use Prim.Native.Nat.{_%_, _*_, _+_, _-_, _<_, _≤_, suc, ℕ}
 use lib.Dec.{eqb}
 use lib.ListN.{getD, length, length-replicate, length-set, replicate, set}
 use lib.Seq.{getD-set-other, getD-set-same}
@@ -110,14 +110,6 @@ module _ {counts : Entry → Bool} {es : List Entry} {most : ℕ} {t : List ℕ}
       rw (f, at) (bool-cases (counts (nth es m))
       (λ q. rw q (met-counted q refl))
       (λ q. rw q (met-other q)))
-
--- of entries that do not count
-pub met-none : (counts : Entry → Bool) (es : List Entry) (most : ℕ) {t : List ℕ} → most ≤ 2017 → t ≡ replicate (most + most) 0 → (n : ℕ)
-    → n < most → n ≤ length es → ((k : ℕ) → 1 ≤ k → k ≤ n → counts (nth es k) ≡ false) → Met counts es most t n
-met-none counts es most few e zero small there h = met-start counts es most small few e
-met-none counts es most few e (suc n) small there h =
-    met-other (met-none counts es most few e n (omega arith) (omega arith) (λ k lo hi. h k lo (omega arith))) refl there small
-    (h (suc n) (omega arith) (omega arith))
 
 -- ---- a walk
 

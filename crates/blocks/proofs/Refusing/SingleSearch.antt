@@ -1,38 +1,49 @@
--- The search for number 9 begins at the first group by a link that leads to one item only: no entry before it breaks the number.
+-- The search for number 9 begins at the first block that has a group by a link that leads to one item only: no entry before it breaks the
+-- number.
 -- Assumes nothing.
-use Prim.Native.Nat.{_+_, _-_, _≤_, ℕ}
+use Prim.Native.Nat.{_+_, _-_, _<_, _≤_, ℕ}
+use lib.ListN.{length}
 use mathlib.Core.List.{List}
-use mathlib.Core.Logic.{_≢_}
 use mathlib.Core.Path.{_∙_, _≡_, sym}
 use native.Mathlib.Omega.{arith}
-use Rattle.base.proofs.SearchLaws.{Least, first-later, first-least, first-none, none-first}
-use Rattle.base.proofs.Tests.{false-of-not}
+use Rattle.base.proofs.SearchLaws.{first-end, first-later, first-none, none-first}
+use Rattle.base.proofs.Tests.{eq-cases, false-of-not}
 use Rattle.base.specs.Search.{firstFrom}
+use Rattle.blocks.proofs.Refusing.Blockwise.{at-first, at-next}
 use Rattle.blocks.proofs.Refusing.SingleLaws.{other-ok}
-use Rattle.blocks.specs.Single.{singleOk}
-use Rattle.blocks.specs.code.SingleSteps.{NoneBefore, otherKind}
-use Rattle.blocks.specs.declared.Entry.{Entry}
+use Rattle.blocks.specs.Entries.{entriesOf, nth}
+use Rattle.blocks.specs.Single.{singleGroup, singleOk}
+use Rattle.blocks.specs.code.Blockwise.{Whole, nextCount}
+use Rattle.blocks.specs.code.SingleSteps.{After, otherKind}
 
-module _ (es : List Entry) (n : ℕ) {from : ℕ} (e : from ≡ firstFrom (otherKind es) 1 n) where
-  -- without such a group none breaks it
-  pub without-double : from ≡ 0 → 0 ≡ firstFrom (singleOk es) 1 n
-  without-double z =
-      sym (none-first (singleOk es) 1 n (λ k lo hi. other-ok es k (false-of-not _ (first-none (otherKind es) 1 n (omega arith) (sym e ∙ z) k lo hi))))
+-- before the first block
+pub after-none : (s : List ℕ) (n : ℕ) → n ≤ length (entriesOf s) → length (entriesOf s) ≤ 2016 → Whole s n → After s n 0 4
+after-none s n w f a = record { block = at-first; within = w; few = f; whole = a; none = λ k lo hi. absurd (omega arith) }
 
-  module _ (z : from ≢ 0) where
-    least : Least (otherKind es) 1 (1 + n) from
-    least = first-least (otherKind es) 1 n (sym e) z
+module _ {s : List ℕ} {n done at : ℕ} (A : After s n done at) where
+  -- after a block that has no such group
+  pub after-block : {count : ℕ} → done < n → count ≡ nextCount (n - done) → firstFrom (otherKind (entriesOf s)) (done + 1) count ≡ 0
+      → After s n (done + count) (at + 512)
+  after-block {count} more e z = record {
+    block = at-next (A .block) more e;
+    within = A .within;
+    few = A .few;
+    whole = A .whole;
+    none = λ k lo hi.
+        eq-cases (k - done) 0
+        (λ q. A .none k lo (omega arith))
+        (λ q. false-of-not (singleGroup (nth (entriesOf s) k)) (first-none (otherKind (entriesOf s)) (done + 1) count (omega arith) z k (omega arith) (omega arith)));
+  }
 
-    pub single-within : (1 ≤ from) × (from ≤ n)
-    single-within = (least .low, omega (arith, least .high))
+  -- what is looked for stands after the entries passed
+  pub double-after : firstFrom (singleOk (entriesOf s)) 1 n ≡ firstFrom (singleOk (entriesOf s)) (done + 1) (n + 1 - (done + 1))
+  double-after =
+      let es = entriesOf s in
+      let all : n + 1 - 1 ≡ n = omega arith in
+      let next : 1 + done ≡ done + 1 = omega arith in
+      let passed = none-first (singleOk es) 1 done (λ k lo hi. other-ok es k (A .none k lo (omega arith))) in
+      rw (all, next) at (first-later (singleOk es) 1 done (n + 1) (omega arith) (omega (arith, A .block .few)) passed)
 
-    pub none-before : NoneBefore es from
-    none-before k lo hi = false-of-not _ (least .before k lo (omega arith))
-
-    -- else it is looked for from there on
-    pub double-from : {r : ℕ} → r ≡ firstFrom (singleOk es) from (n + 1 - from) → r ≡ firstFrom (singleOk es) 1 n
-    double-from q =
-        let here : 1 + (from - 1) ≡ from = omega arith in
-        let all : n + 1 - 1 ≡ n = omega arith in
-        let skipped = none-first (singleOk es) 1 (from - 1) (λ k lo hi. other-ok es k (none-before k lo (omega arith))) in
-        q ∙ sym (rw (here, all) at (first-later (singleOk es) 1 (from - 1) (n + 1) (omega arith) (omega (arith, least .high)) skipped))
+  -- nothing, where that is none
+  pub without-double : n ≤ done → 0 ≡ firstFrom (singleOk (entriesOf s)) 1 n
+  without-double h = sym (double-after ∙ first-end (singleOk (entriesOf s)) (done + 1) (n + 1) (omega arith))

@@ -5,7 +5,7 @@ mod excluding;
 use std::fmt::Debug;
 
 use bench::inputs::{
-    bucket, entry, one_bucket, one_link_at_least, one_link_every, one_link_place, single_links,
+    entry, first_cell, one_cell, one_link_at_least, one_link_every, one_link_place, single_links,
     worst_fit, Chance, Model, Shape,
 };
 use bench::plain;
@@ -497,12 +497,12 @@ fn inputs_of_the_benchmark() {
     assert_eq!(same_fit(&groups, &every), Some(true));
     same_reading(&groups);
     assert_eq!(reference::read_specimen(&groups), Ok(2016));
-    let groups = one_bucket();
+    let groups = one_cell();
     same_reading(&groups);
     assert_eq!(reference::read_specimen(&groups), Ok(2016));
     for group in reference::decode(&groups) {
         assert!(group.kind == 7 && group.name >= 32_768);
-        assert_eq!(bucket(group.owner.into(), group.name.into()), 0);
+        assert_eq!(first_cell(group.owner.into(), group.name), 0);
     }
     let (groups, every) = one_link_place();
     let shipped = include_bytes!("../../../../crates/fits/stdin");

@@ -1,15 +1,15 @@
--- `double_of_few` meets its contract: a table of zeros holds the groups before the first.
+-- `double_of_few` meets its contract: a table of zeros holds the groups before the first block that has one.
 use borrow.Author.Needs.{needs}
 use mathlib.Core.Path.{refl}
 use native.Mathlib.Omega.{arith}
-use Rattle.blocks.proofs.Refusing.EntryTable.{met-none}
+use Rattle.blocks.proofs.Refusing.SingleTable.{kept-none}
 use Rattle.reading.proofs.single.double_of_few.Statement.{statement}
 use Rattle.reading.proofs.single.double_of_few.Tie as tie
 
 double-by-requires : tie.Need-double-by-requires
 double-by-requires c κs =
-    let p = c .before .before .pre in
-    (p .0, p .1, omega (arith, p .2), p .3, met-none _ _ 64 (omega arith) refl _ (omega (arith, p .1, p .2)) (omega (arith, p .1, p .3)) (p .4))
+    let p = c .before .before .pre .0 in
+    (p, omega (arith, c .before .before .pre .1), kept-none _ 128 _ (omega arith) refl (p .none))
 
 pub double-of-few-spec : {M : Type 1} → statement M
 double-of-few-spec =

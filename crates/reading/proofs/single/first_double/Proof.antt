@@ -1,35 +1,56 @@
--- `first_double` meets its contract.
+-- `first_double` meets its contract: no entry of the blocks passed is such a group.
+use Prim.Native.Nat.{_+_, _-_, _≤_}
 use borrow.Author.Needs.{needs}
+use mathlib.Core.Path.{_∙_, sym}
 use native.Mathlib.Omega.{arith}
-use Rattle.blocks.proofs.Refusing.SingleSearch.{double-from, none-before, single-within, without-double}
+use Rattle.blocks.proofs.Refusing.Blockwise.{in-front}
+use Rattle.blocks.proofs.Refusing.SingleSearch.{after-block, after-none, without-double}
+use Rattle.blocks.specs.code.Blockwise.{nextCount}
+use Rattle.blocks.specs.code.SingleSteps.{After}
 use Rattle.reading.proofs.single.first_double.Statement.{statement}
 use Rattle.reading.proofs.single.first_double.Tie as tie
 
-returns : tie.Need-returns
-returns c = without-double _ _ (c .before .first-single .ensures) (c .if1 .taken)
+abbrev Inv-loop : tie.InvT-loop
+Inv-loop s n done₀ at₀ done at = After s n done at
 
-double-of-few-requires : tie.Need-double-of-few-requires
-double-of-few-requires c κs =
-    let f = c .before .before .first-single .ensures in
-    let z = c .before .if1 .left in
-    let w = single-within _ _ f z in
-    (w .0, w .1, c .if2 .taken, c .before .before .before .before .pre .0, none-before _ _ f z)
+abbrev μ-loop : tie.MeasureT-loop
+μ-loop s n done₀ at₀ done at = n - done
 
-returns-2 : tie.Need-returns-2
-returns-2 c = double-from _ _ (c .before .before .before .first-single .ensures) (c .before .before .if1 .left) (c .double-of-few .ensures)
+loop-holds : tie.Need-loop-holds Inv-loop μ-loop
+loop-holds c = let p = c .before .pre in after-none _ _ (p .0) (p .1) (p .2)
 
-double-of-many-requires : tie.Need-double-of-many-requires
-double-of-many-requires c κs =
-    let f = c .before .before .first-single .ensures in
-    let z = c .before .if1 .left in
-    let w = single-within _ _ f z in
-    let p = c .before .before .before .before .pre in
-    (w .0, w .1, omega (arith, p .0, p .1), p .0, none-before _ _ f z)
+single-in-block-requires : tie.Need-single-in-block-requires Inv-loop μ-loop
+single-in-block-requires c κs =
+    let A = c .before .before .loop .inv in
+    (A .few, in-front (A .block) (omega (arith, c .before .if1 .left)) (c .next-count .ensures) (A .within) (A .whole))
 
-returns-3 : tie.Need-returns-3
-returns-3 c = double-from _ _ (c .before .before .before .first-single .ensures) (c .before .before .if1 .left) (c .double-of-many .ensures)
+add-done : tie.Need-add-done Inv-loop μ-loop
+unfolding nextCount
+add-done c =
+    let k = c .before .before in
+    let A = k .before .before .loop .inv in
+    omega (arith, k .next-count .ensures, k .before .if1 .left, A .within, A .few)
+
+add-at : tie.Need-add-at Inv-loop μ-loop
+add-at c =
+    let k = c .before .before in
+    let A = k .before .before .loop .inv in
+    omega (arith, A .block .start, k .before .if1 .left, A .within, A .few)
+
+loop-less : tie.Need-loop-less Inv-loop μ-loop
+unfolding nextCount
+loop-less c = let k = c .before .before in omega (arith, k .next-count .ensures, k .before .if1 .left)
+
+loop-again : tie.Need-loop-again Inv-loop μ-loop
+loop-again c =
+    let k = c .before .before in
+    after-block (k .before .before .loop .inv) (omega (arith, k .before .if1 .left)) (k .next-count .ensures) (sym (c .before .single-in-block .ensures) ∙ c .if2 .left)
+
+returns : tie.Need-returns Inv-loop μ-loop
+returns c = without-double (c .before .loop .inv) (c .if1 .taken)
 
 pub first-double-spec : {M : Type 1} → statement M
 first-double-spec =
     tie.close
-    (tie.spec (λ c κs. search needs) returns double-of-few-requires returns-2 double-of-many-requires returns-3)
+    (tie.spec Inv-loop μ-loop loop-holds (λ c. search needs) (λ c κs. search needs) single-in-block-requires (λ c κs. c .before .before .before .before .loop .inv)
+    add-done add-at loop-less loop-again returns (λ c. c .double-after .ensures))
