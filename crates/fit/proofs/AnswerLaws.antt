@@ -7,6 +7,7 @@ use mathlib.Core.List.{List, []}
 use mathlib.Core.Path.{_∙_, _≡_, sym}
 use native.Mathlib.Omega.{arith}
 use Rattle.blocks.proofs.Refusing.Legal.{owner-earlier}
+use Rattle.blocks.proofs.Refusing.SingleLaws.{single-most}
 use Rattle.blocks.proofs.RoundTrip.Accepting.{none-of-accepted, sound-of-accepted}
 use Rattle.blocks.proofs.RoundTrip.Faithful.{entries-limit, entries-whole}
 use Rattle.blocks.specs.Entries.{entriesOf, limitOf}
@@ -23,6 +24,7 @@ use Rattle.fit.specs.Answer.{fitOf, plainFit, secondOf, topFits}
 use Rattle.fit.specs.Counted.{countedOf, groupsIn, tableAdds, unlessStopped, withTable}
 use Rattle.fit.specs.code.Groups.{fitsPlace}
 use Rattle.fit.specs.code.Index.{Ordered}
+use Rattle.fit.specs.code.Rows.{Singles}
 use Rattle.fit.specs.declared.Counted.{Counted}
 use Rattle.fit.specs.declared.FitAnswer.{FitAnswer}
 use Rattle.fit.specs.declared.FitAnswer.the-variants.{No, Refused, Yes}
@@ -38,6 +40,10 @@ accepted-facts σ i s e =
     let count = none-of-accepted σ i s e .1 in
     let sound = sound-of-accepted σ i s e in
     (count, omega (arith, entries-limit (sound .blocks), limit-most σ), record { earlier = λ k lo hi. owner-earlier (sound .entries) k lo hi }, rw count (entries-whole (sound .blocks)))
+
+-- and no owner two items by a link that leads to one item only
+pub accepted-single : (i : ℕ) (s : List ℕ) {n : ℕ} → readingOf Specimen i s ≡ reading.Accepted n → Singles (entriesOf s) (length (entriesOf s))
+accepted-single i s e o l q = single-most (entriesOf s) o l q (length (entriesOf s)) (sound-of-accepted Specimen i s e .further .each)
 
 -- the answer by groups and numbers is Table 1's
 pub top-judged : (s d : List ℕ) {m : ℕ} {r : Bool} → readingOf Description 2 d ≡ reading.Accepted m

@@ -9,10 +9,11 @@ ghost use Rattle.fit.specs.code.Groups.{hasBare, hasProperty, meetsAtom}
 ghost use Rattle.blocks.specs.declared.Schema.{Schema};
 ghost use Rattle.fit.specs.code.Index.{Ready, anyOf, isOf};
 ghost use Rattle.fit.specs.code.Rows.{Known};
-use crate::Sizes;
+use crate::entries::entry_at;
 use crate::index::hash;
 use crate::index::last_of;
 use crate::index::previous_of;
+use crate::totals::at_most;
 use crate::totals::total_of;
 use blocks::Entry;
 use blocks::Link;
@@ -40,17 +41,8 @@ pub(crate) fn is_group(e: Entry, g: usize, l: Link) -> bool
 }
 
 // Whether an entry of bucket b is of this owner, kind and name.
-fn any_of(
-    s: &[u8],
-    index: &[u16],
-    most: usize,
-    total: usize,
-    b: usize,
-    g: usize,
-    kind: u8,
-    name: u16,
-) -> bool
-    requires { ⌜ Ready Schema.Specimen most (now s) total (now index) × (b < most) ⌝ }
+fn any_of(s: &[u8], index: &[u16], most: usize, b: usize, g: usize, kind: u8, name: u16) -> bool
+    requires { ⌜ Ready Schema.Specimen most (now s) (now index) × (b < most) ⌝ }
     ensures { λ r. ⌜ r ≡ anyOf most (entriesOf (now (s .entry))) b g kind name ⌝ }
 {
     let mut k = last_of(index, b);
@@ -58,7 +50,7 @@ fn any_of(
         if k == 0 {
             break false;
         }
-        if is_of(blocks::nth_entry(s, total, k), g, kind, name) {
+        if is_of(entry_at(s, k), g, kind, name) {
             break true;
         }
         k = previous_of(index, most, k);
@@ -66,19 +58,19 @@ fn any_of(
 }
 
 // Whether the items of group g have a property: whether an entry that g owns gives it.
-fn has_property(s: &[u8], index: &[u16], most: usize, total: usize, g: usize, p: Property) -> bool
-    requires { ⌜ Ready Schema.Specimen most (now s) total (now index) × (g < 2048) ⌝ }
+fn has_property(s: &[u8], index: &[u16], most: usize, g: usize, p: Property) -> bool
+    requires { ⌜ Ready Schema.Specimen most (now s) (now index) × (g < 2048) ⌝ }
     ensures { λ r. ⌜ r ≡ hasProperty (entriesOf (now (s .entry))) g (p .0) ⌝ }
 {
-    any_of(s, index, most, total, hash(most, g, 1, p.0), g, 1, p.0)
+    any_of(s, index, most, hash(most, g, 1, p.0), g, 1, p.0)
 }
 
 // Whether group g has a group by a link that owns nothing.
-fn has_bare(s: &[u8], index: &[u16], most: usize, total: usize, g: usize, l: Link) -> bool
-    requires { ⌜ Ready Schema.Specimen most (now s) total (now index) × (g < 2048) × ((most - 1) % 2 ≡ 1) ⌝ }
+fn has_bare(s: &[u8], index: &[u16], most: usize, g: usize, l: Link) -> bool
+    requires { ⌜ Ready Schema.Specimen most (now s) (now index) × (g < 2048) × ((most - 1) % 2 ≡ 1) ⌝ }
     ensures { λ r. ⌜ r ≡ hasBare (entriesOf (now (s .entry))) g (l .0) ⌝ }
 {
-    any_of(s, index, most, total, hash(most, g, 8, l.0), g, 7, l.0)
+    any_of(s, index, most, hash(most, g, 8, l.0), g, 7, l.0)
 }
 
 // Whether group g has a group by a link that owns nothing, and an item with nothing does not fit the place of entry e.
@@ -86,18 +78,18 @@ pub(crate) fn bare_fails(
     s: &[u8],
     index: &[u16],
     marks: &[u8],
-    n: Sizes,
+    most: usize,
     g: usize,
     l: Link,
     e: usize,
 ) -> bool
-    requires { ⌜ Ready Schema.Specimen (n .most) (now s) (n .specimen) (now index) × (g < 2048) × (e < length (now marks)) × ((n .most - 1) % 2 ≡ 1) ⌝ }
+    requires { ⌜ Ready Schema.Specimen most (now s) (now index) × (g < 2048) × (e < length (now marks)) × ((most - 1) % 2 ≡ 1) ⌝ }
     ensures { λ r. ⌜ r ≡ not (eqb (getD (now (marks .entry)) e 0) 0 || not (hasBare (entriesOf (now (s .entry))) g (l .0))) ⌝ }
 {
     if marks[e] == 0 {
         return false;
     }
-    has_bare(s, index, n.most, n.specimen, g, l)
+    has_bare(s, index, most, g, l)
 }
 
 // Whether the items of group g meet an entry of a description that owns no place. Totals come from the table: nothing is added here.
@@ -106,20 +98,21 @@ pub(crate) fn meets_atom(
     si: &[u16],
     rows: &[u64],
     links: &[u16],
-    n: Sizes,
+    most: usize,
+    used: usize,
     g: usize,
     e: Entry,
     adds: &mut u16,
 ) -> bool
-    requires { ⌜ Known (n .most) (now s) (n .specimen) (now si) (now rows) (now links) (n .rows) × (g < 2048) ⌝ }
+    requires { ⌜ Known most (now s) (now si) (now rows) (now links) used × (g < 2048) ⌝ }
     ensures { λ r. ⌜ (r ≡ meetsAtom (entriesOf (now (s .entry))) g e) × (now (adds .exit) ≡ now (adds .entry)) ⌝ }
 {
     let kind = e.kind;
     match kind {
-        1 => has_property(s, si, n.most, n.specimen, g, e.property()),
-        2 => !has_property(s, si, n.most, n.specimen, g, e.property()),
-        3 => e.number as u32 <= total_of(rows, links, n.most, n.rows, g, e.link()),
-        4 => total_of(rows, links, n.most, n.rows, g, e.link()) <= e.number as u32,
+        1 => has_property(s, si, most, g, e.property()),
+        2 => !has_property(s, si, most, g, e.property()),
+        3 => e.number as u32 <= total_of(rows, links, most, used, g, e.link()),
+        4 => at_most(rows, links, most, used, g, e.link(), e.number),
         _ => false,
     }
 }

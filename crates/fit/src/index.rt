@@ -98,7 +98,7 @@ fn mark_at(marks: &[u8], i: usize) -> u8
 pub(crate) fn index_specimen(s: &[u8], total: usize, most: usize, marks: &[u8], index: &mut [u16])
     requires { ⌜ (total ≡ length (entriesOf (now s))) × (total < most) × (most ≤ 2048) × Ordered (entriesOf (now s)) × Whole (now s) total
         × Marked anyEntry (entriesOf (now s)) total most (now marks) × (now index ≡ replicate (most + most) 0) ⌝ }
-    ensures { λ _. ⌜ Ready Schema.Specimen most (now (s .entry)) total (now (index .exit)) ⌝ }
+    ensures { λ _. ⌜ Ready Schema.Specimen most (now (s .entry)) (now (index .exit)) ⌝ }
 {
     let mut n: usize = 0;
     let mut at: usize = 4;
@@ -125,7 +125,7 @@ pub(crate) fn index_description(
 )
     requires { ⌜ (total ≡ length (entriesOf (now d))) × (total < most) × (most ≤ 2048) × Ordered (entriesOf (now d)) × Whole (now d) total
         × (now index ≡ replicate (most + most) 0) × (now marks ≡ replicate most 0) ⌝ }
-    ensures { λ _. ⌜ Ready Schema.Description most (now (d .entry)) total (now (index .exit)) × Marked demands (entriesOf (now (d .entry))) total most (now (marks .exit)) ⌝ }
+    ensures { λ _. ⌜ Ready Schema.Description most (now (d .entry)) (now (index .exit)) × Marked demands (entriesOf (now (d .entry))) (length (entriesOf (now (d .entry)))) most (now (marks .exit)) ⌝ }
 {
     let mut n: usize = 0;
     let mut at: usize = 4;

@@ -28,11 +28,3 @@ pub struct Counted {
     pub table: u16,
     pub walk: u16,
 }
-
-// The numbers of entries of the two inputs, of rows of the table of totals, and of buckets.
-pub(crate) struct Sizes {
-    pub specimen: usize,
-    pub description: usize,
-    pub rows: usize,
-    pub most: usize,
-}

@@ -7,7 +7,6 @@ ghost use Rattle.blocks.specs.declared.Reading.{Reading};
 ghost use Rattle.blocks.specs.declared.Schema.{Schema};
 ghost use Rattle.fit.specs.Answer.{topFits};
 ghost use Rattle.fit.specs.Counted.{groupsIn};
-use crate::Sizes;
 use crate::index::index_description;
 use crate::index::index_specimen;
 use crate::judge::fits_place;
@@ -44,12 +43,6 @@ fn judge_with(
     let table = adds;
     index_specimen(s, n, most, owning, si);
     index_description(d, m, most, di, demanding);
-    let sizes = Sizes {
-        specimen: n,
-        description: m,
-        rows: used,
-        most: most,
-    };
     let fits = fits_place(
         s,
         si,
@@ -58,7 +51,8 @@ fn judge_with(
         d,
         di,
         demanding,
-        sizes,
+        most,
+        used,
         0,
         0,
         33,

@@ -4,7 +4,7 @@
 ghost use mathlib.Core.Path.{_≡_};
 ghost use mathlib.Core.List.{List};
 ghost use Prim.Native.Nat.{_+_, _*_, _≤_, _<_, ℕ};
-ghost use lib.Dec.{eqb};
+ghost use lib.Dec.{eqb, leb};
 ghost use lib.ListN.{length, getD, replicate, set};
 ghost use Rattle.base.specs.Chain.{lastWhere};
 ghost use Rattle.base.specs.Range.{bit};
@@ -15,7 +15,7 @@ ghost use Rattle.blocks.specs.declared.Entry.{Entry};
 ghost use Rattle.fit.specs.Totals.{TotalsOf, groupsUpTo, itemsIn};
 ghost use Rattle.fit.specs.code.Bare.{Marked, anyEntry};
 ghost use Rattle.fit.specs.code.Index.{Ordered};
-ghost use Rattle.fit.specs.code.Rows.{Rows, Small, emptyRow, pairIn, pairOf, pairsOf};
+ghost use Rattle.fit.specs.code.Rows.{Rows, Singles, Small, emptyRow, pairIn, pairOf, pairsOf};
 use crate::bare::mark;
 use crate::entries::entry_from;
 use crate::entries::next_pos;
@@ -101,6 +101,28 @@ pub(crate) fn total_of(
         return 0;
     }
     items_in(row_at(rows, r))
+}
+
+// Whether an owner has at most so many items by a link. Of a link that leads to one item only an accepted specimen has one at most, so
+// that at most 1 or more needs no look.
+pub(crate) fn at_most(
+    rows: &[u64],
+    links: &[u16],
+    most: usize,
+    used: usize,
+    owner: usize,
+    l: Link,
+    number: u16,
+) -> bool
+    requires { ⌜ Rows most (now rows) (now links) used × (owner < 65536) ⌝ }
+    ensures { λ r. ⌜ ((es : List Entry) → (n : ℕ) → TotalsOf es n (now (rows .entry)) used → Singles es n → r ≡ leb (itemsUpTo es owner (l .0) n) number) ⌝ }
+{
+    if 32768 <= l.0 {
+        if 0 < number {
+            return true;
+        }
+    }
+    total_of(rows, links, most, used, owner, l) <= number as u32
 }
 
 // Adds the items of a group to a row, and counts that. Items are added nowhere else.

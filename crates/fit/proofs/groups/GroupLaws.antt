@@ -1,64 +1,59 @@
 -- Laws of what the items of a group have, one for each step of a walk over the entries of a bucket.
 -- Assumes nothing.
 use Prim.Native.Nat.{_<_, ℕ, _-_, _%_}
-use lib.Dec.{eqb}
+use lib.Dec.{eqb, leb}
 use lib.ListN.{length}
 use mathlib.Core.Bool.{Bool, _&&_, _||_, false, not, true}
 use mathlib.Core.List.{List}
 use mathlib.Core.Path.{_∙_, _≡_, ap, refl, sym}
 use native.Mathlib.Omega.{arith}
 use Rattle.base.proofs.Tests.{and-cases, and-left, and-right, bool-cases, eqb-eq, or-one}
-use Rattle.blocks.proofs.Refusing.EntryLaws.{of-nth}
-use Rattle.blocks.specs.Entries.{entriesOf, entryOf, nth}
+use Rattle.blocks.specs.Entries.{entriesOf, nth}
 use Rattle.blocks.specs.Owners.{ownerOf}
 use Rattle.blocks.specs.Single.{itemsUpTo}
 use Rattle.blocks.specs.declared.Entry.{Entry}
-use Rattle.blocks.specs.declared.Schema.{Schema}
 use Rattle.blocks.specs.declared.Schema.the-variants.{Specimen}
 use Rattle.fit.proofs.index.BucketLaws.{all-bucket, code-bare, code-full, code-other, elsewhere, hash-apart}
 use Rattle.fit.proofs.index.BucketWalk.{where-ext}
 use Rattle.fit.specs.Totals.{TotalsOf}
 use Rattle.fit.specs.code.Bare.{bare}
 use Rattle.fit.specs.code.Groups.{givesProperty, groupsBy, hasBare, hasProperty, isGroup, totalBy}
-use Rattle.fit.specs.code.Index.{Ready, anyOf, bucketOf, codeOf, hashOf, isOf, notOf}
-use Rattle.fit.specs.code.Rows.{Known}
+use Rattle.fit.specs.code.Index.{anyOf, bucketOf, codeOf, hashOf, isOf, notOf}
+use Rattle.fit.specs.code.Rows.{Known, Singles}
 
 -- what was worked out of the entry that was read is true of entry k of the list
-pub read-here : {A : Type 0} {σ : Schema} {most : ℕ} {s : List ℕ} {total : ℕ} {t : List ℕ} → Ready σ most s total t → (f : Entry → A) (k : ℕ) {e : Entry} {r : A}
-    → e ≡ entryOf s total k → r ≡ f e → f (nth (entriesOf s) k) ≡ r
-read-here {A} {σ} {most} {s} {total} R f k a b = sym (b ∙ ap f (a ∙ of-nth s total k (R .count)))
+read-here : {A : Type 0} (es : List Entry) (f : Entry → A) (k : ℕ) {e : Entry} {r : A} → e ≡ nth es k → r ≡ f e → f (nth es k) ≡ r
+read-here es f k a b = sym (b ∙ ap f a)
 
 -- ---- an entry that was read
 
-module _ {most : ℕ} {s : List ℕ} {total : ℕ} {t : List ℕ} (R : Ready Specimen most s total t) (g kind name k : ℕ) {e : Entry} {r : Bool}
-    (a : e ≡ entryOf s total k) (b : r ≡ isOf e g kind name) where
-  of-read : isOf (nth (entriesOf s) k) g kind name ≡ r
-  of-read = read-here R (λ (x : Entry). isOf x g kind name) k a b
+module _ (es : List Entry) (g kind name k : ℕ) {e : Entry} {r : Bool} (a : e ≡ nth es k) (b : r ≡ isOf e g kind name) where
+  of-read : isOf (nth es k) g kind name ≡ r
+  of-read = read-here es (λ (x : Entry). isOf x g kind name) k a b
 
-  pub owned-here : r ≡ true → (eqb (ownerOf (entriesOf s) k) g ≡ true)
-      × ((eqb (nth (entriesOf s) k .kind) kind && eqb (nth (entriesOf s) k .name) name) ≡ true)
+  pub owned-here : r ≡ true → (eqb (ownerOf es k) g ≡ true)
+      × ((eqb (nth es k .kind) kind && eqb (nth es k .name) name) ≡ true)
   unfolding ownerOf
   owned-here y =
-      let x = nth (entriesOf s) k in
+      let x = nth es k in
       let own = eqb (x .owner) g in
       let is = eqb (x .kind) kind && eqb (x .name) name in
       (and-left own is (of-read ∙ y), and-right own is (of-read ∙ y))
 
-  pub owned-else : {A : Type 0} → r ≡ false → (eqb (ownerOf (entriesOf s) k) g ≡ false → A)
-      → ((eqb (nth (entriesOf s) k .kind) kind && eqb (nth (entriesOf s) k .name) name) ≡ false → A) → A
+  pub owned-else : {A : Type 0} → r ≡ false → (eqb (ownerOf es k) g ≡ false → A)
+      → ((eqb (nth es k .kind) kind && eqb (nth es k .name) name) ≡ false → A) → A
   unfolding ownerOf
   owned-else y =
-      let x = nth (entriesOf s) k in
+      let x = nth es k in
       and-cases (eqb (x .owner) g) (eqb (x .kind) kind && eqb (x .name) name) (of-read ∙ y)
 
 -- what entry k was read to be decides
-module _ {most : ℕ} {s : List ℕ} {total : ℕ} {t : List ℕ} (R : Ready Specimen most s total t) (g kind name k : ℕ) {e : Entry} {r : Bool}
-    (a : e ≡ entryOf s total k) (b : r ≡ isOf e g kind name) where
-  pub is-here : r ≡ true → notOf (entriesOf s) g kind name k ≡ false
-  is-here q = let y = owned-here R g kind name k a b q in rw (y .0, y .1)
+module _ (es : List Entry) (g kind name k : ℕ) {e : Entry} {r : Bool} (a : e ≡ nth es k) (b : r ≡ isOf e g kind name) where
+  pub is-here : r ≡ true → notOf es g kind name k ≡ false
+  is-here q = let y = owned-here es g kind name k a b q in rw (y .0, y .1)
 
-  pub is-else : r ≡ false → notOf (entriesOf s) g kind name k ≡ true
-  is-else q = owned-else R g kind name k a b q (λ o. rw o) (λ m. rw m (or-one (not (eqb (ownerOf (entriesOf s) k) g))))
+  pub is-else : r ≡ false → notOf es g kind name k ≡ true
+  is-else q = owned-else es g kind name k a b q (λ o. rw o) (λ m. rw m (or-one (not (eqb (ownerOf es k) g))))
 
 -- ---- properties
 
@@ -110,6 +105,11 @@ twice-not false = refl
 -- ---- totals
 
 -- what the table has for every list of entries that it is of, it has for the specimen's
-pub table-total : {most : ℕ} {s : List ℕ} {n : ℕ} {si rows links : List ℕ} {used r : ℕ} (o l : ℕ) → Known most s n si rows links used
+pub table-total : {most : ℕ} {s si rows links : List ℕ} {used r : ℕ} (o l : ℕ) → Known most s si rows links used
     → ((es : List Entry) → (m : ℕ) → TotalsOf es m rows used → r ≡ itemsUpTo es o l m) → r ≡ totalBy (entriesOf s) o l
-table-total {most} {s} o l K h = h (entriesOf s) (length (entriesOf s)) (rw (K .ready .count) at (K .totals))
+table-total {most} {s} o l K h = h (entriesOf s) (length (entriesOf s)) (K .totals)
+
+pub table-most : {most : ℕ} {s si rows links : List ℕ} {used : ℕ} {r : Bool} (o l number : ℕ) → Known most s si rows links used
+    → ((es : List Entry) → (m : ℕ) → TotalsOf es m rows used → Singles es m → r ≡ leb (itemsUpTo es o l m) number)
+    → r ≡ leb (totalBy (entriesOf s) o l) number
+table-most {most} {s} o l number K h = h (entriesOf s) (length (entriesOf s)) (K .totals) (K .single)

@@ -16,7 +16,7 @@ use Rattle.base.proofs.Tests.{bool-cases, eq-eqb, eqb-eq, or-one}
 use Rattle.base.specs.Chain.{OnChain}
 use Rattle.blocks.specs.Entries.{entriesOf}
 use Rattle.blocks.specs.declared.Schema.{Schema}
-use Rattle.fit.specs.code.Index.{Indexed, Ready, bucketOf, chained}
+use Rattle.fit.specs.code.Index.{Has, Indexed, Ready, bucketOf, chained}
 use Rattle.meaning.specs.Owned.{allWhere}
 
 module _ (c : ℕ → ℕ) where
@@ -60,15 +60,19 @@ module _ (c : ℕ → ℕ) where
 abbrev buckets : Schema → ℕ → List ℕ → ℕ → ℕ
 buckets σ most s = bucketOf σ most (entriesOf s)
 
-module _ {σ : Schema} {most : ℕ} {s : List ℕ} {total : ℕ} {t : List ℕ} (R : Ready σ most s total t) (b : ℕ) {k : ℕ} where
+module _ {σ : Schema} {most : ℕ} {s : List ℕ} {t : List ℕ} (R : Ready σ most s t) (b : ℕ) {k : ℕ} where
   -- it begins at the last entry
   pub all-starts : (p : ℕ → Bool) → b < most → k ≡ getD t b 0 → allWhere (buckets σ most s) p b (length (entriesOf s)) ≡ allWhere (buckets σ most s) p b k
-  all-starts p h e = rw (← R .count) (skip-starts (R .index .chains) b h e (allWhere (buckets σ most s) p b) (skip-all (buckets σ most s) p b))
+  all-starts p h e = skip-starts (R .index .chains) b h e (allWhere (buckets σ most s) p b) (skip-all (buckets σ most s) p b)
 
   -- it goes on to the entry before
-  module _ (S : OnChain (buckets σ most s) b k total) (z : k ≢ 0) {j : ℕ} (e : j ≡ getD t (most + k) 0) where
+  module _ (S : OnChain (buckets σ most s) b k (length (entriesOf s))) (z : k ≢ 0) {j : ℕ} (e : j ≡ getD t (most + k) 0) where
     pub all-goes : (p : ℕ → Bool) → p k ≡ true → allWhere (buckets σ most s) p b k ≡ allWhere (buckets σ most s) p b j
     all-goes p y = all-yes (buckets σ most s) p b k z y ∙ skip-goes (R .index .chains) b S z e (allWhere (buckets σ most s) p b) (skip-all (buckets σ most s) p b)
+
+-- an entry on it is there
+pub has-entry : {σ : Schema} {most : ℕ} {s : List ℕ} {t : List ℕ} {k : ℕ} → Ready σ most s t → k ≤ length (entriesOf s) → k ≢ 0 → Has s k
+has-entry R h z = record { some = omega arith; within = h; few = omega (arith, R .index .below, R .index .sized); whole = R .whole }
 
 -- ---- the index
 

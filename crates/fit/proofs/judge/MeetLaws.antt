@@ -9,7 +9,7 @@ use mathlib.Core.Logic.{_≢_}
 use mathlib.Core.Path.{_∙_, _≡_, ap, refl, sym}
 use native.Mathlib.Numerals.{sub-one}
 use Rattle.base.proofs.Tests.{bool-cases, ne-eqb, or-one}
-use Rattle.blocks.specs.Entries.{entriesOf, entryOf, nth}
+use Rattle.blocks.specs.Entries.{nth}
 use Rattle.blocks.specs.Owners.{ownerOf}
 use Rattle.blocks.specs.declared.Entry.{Entry}
 use Rattle.blocks.specs.declared.Schema.the-variants.{Specimen}
@@ -17,7 +17,7 @@ use Rattle.fit.proofs.groups.GroupLaws.{full-here, owned-else, owned-he
 use Rattle.fit.proofs.index.BucketLaws.{all-bucket, code-full, elsewhere, marked-tells}
 use Rattle.fit.specs.code.Bare.{Marked, bare, bareFits, demands}
 use Rattle.fit.specs.code.Groups.{fitsPlace, groupsBy, hasBare, isGroup, meetsAtom, meetsEntry}
-use Rattle.fit.specs.code.Index.{Ready, bucketOf, hashOf, isOf}
+use Rattle.fit.specs.code.Index.{bucketOf, hashOf, isOf}
 use Rattle.meaning.specs.Owned.{allOwned, allWhere}
 
 pub meets-bottom : (left : ℕ) (s d : List Entry) (g e : ℕ) → left ≡ 0 → false ≡ meetsEntry left s d g e
@@ -48,9 +48,9 @@ abbrev pub ownFits : ℕ → List Entry → List Entry → ℕ → ℕ → ℕ �
 ownFits left s d e g l k = not (eqb (ownerOf s k) g) || groupFits left s d e l k
 
 -- whether the groups that own nothing fail, by the mark of the place
-pub bare-told : {m most : ℕ} {marks : List ℕ} (s d : List Entry) (g e l : ℕ) → Marked demands d m most marks → m ≡ length d → e < most → {r : Bool}
+pub bare-told : {most : ℕ} {marks : List ℕ} (s d : List Entry) (g e l : ℕ) → Marked demands d (length d) most marks → e < most → {r : Bool}
     → r ≡ not (eqb (getD marks e 0) 0 || not (hasBare s g l)) → r ≡ not (bareFits d e || not (hasBare s g l))
-bare-told s d g e l M n h f = f ∙ rw (marked-tells M n e h)
+bare-told s d g e l M h f = f ∙ rw (marked-tells M refl e h)
 
 -- groups that own nothing are judged together
 module _ (left : ℕ) (s d : List Entry) (g e : ℕ) {x : Entry} {l : ℕ} (z : left ≢ 0) (a : x ≡ nth d e) (k : x .kind ≡ 5) (n : l ≡ x .name) where
@@ -67,12 +67,11 @@ module _ (left : ℕ) (s d : List Entry) (g e : ℕ) {x : Entry} {l : ℕ} (z : 
       (λ y. elsewhere most s g 7 7 l k out (λ q. code-full _ q y) (λ o. rw o) (λ m. rw m (or-one (not (eqb (ownerOf s k) g)))))) (length s))
 
 -- what entry k was read to be decides
-module _ {most : ℕ} {s : List ℕ} {total : ℕ} {t : List ℕ} (R : Ready Specimen most s total t) (left : ℕ) (d : List Entry) (e g l k : ℕ) {x : Entry} {r : Bool}
-    (a : x ≡ entryOf s total k) (b : r ≡ isOf x g 7 l) where
-  pub other-passes : r ≡ false → ownFits left (entriesOf s) d e g l k ≡ true
-  other-passes q = owned-else R g 7 l k a b q (λ o. rw o) (λ m. rw m (or-one (not (eqb (ownerOf (entriesOf s) k) g))))
+module _ (s : List Entry) (left : ℕ) (d : List Entry) (e g l k : ℕ) {x : Entry} {r : Bool} (a : x ≡ nth s k) (b : r ≡ isOf x g 7 l) where
+  pub other-passes : r ≡ false → ownFits left s d e g l k ≡ true
+  other-passes q = owned-else s g 7 l k a b q (λ o. rw o) (λ m. rw m (or-one (not (eqb (ownerOf s k) g))))
 
-  pub group-decides : {f : Bool} → bucketOf Specimen most (entriesOf s) k ≡ hashOf most g 7 l → (most - 1) % 2 ≡ 1 → r ≡ true → f ≡ fitsPlace left (entriesOf s) d k e
-      → ownFits left (entriesOf s) d e g l k ≡ f
-  group-decides at more q h =
-      let y = owned-here R g 7 l k a b q in rw (y .0, y .1, full-here most (entriesOf s) g l k more (y .0) (y .1) at) (sym h)
+  pub group-decides : (most : ℕ) {f : Bool} → bucketOf Specimen most s k ≡ hashOf most g 7 l → (most - 1) % 2 ≡ 1 → r ≡ true → f ≡ fitsPlace left s d k e
+      → ownFits left s d e g l k ≡ f
+  group-decides most at more q h =
+      let y = owned-here s g 7 l k a b q in rw (y .0, y .1, full-here most s g l k more (y .0) (y .1) at) (sym h)

@@ -14,12 +14,20 @@ use Rattle.blocks.specs.declared.Schema.{Schema}
 use Rattle.blocks.specs.declared.Schema.the-variants.{Description, Specimen}
 use Rattle.blocks.specs.Entries.{entriesOf, nth}
 use Rattle.blocks.specs.Owners.{ownerOf}
+use Rattle.blocks.specs.code.Blockwise.{Whole}
 use Rattle.fit.specs.code.Bare.{bare}
 use Rattle.meaning.specs.Owned.{allWhere}
 
 -- the index of the bytes of the entry after one: a block has 63 entries, from its byte 4 on
 unfoldable pub nextPos : ℕ → ℕ
 nextPos at = cond (eqb (at % 512) 500) (at + 16) (at + 8)
+
+-- entry k is there, with its bytes
+pub record Has (s : List ℕ) (k : ℕ) : Type 0 where
+  pub some : 1 ≤ k
+  pub within : k ≤ length (entriesOf s)
+  pub few : length (entriesOf s) < 2048
+  pub whole : Whole s (length (entriesOf s))
 
 -- an entry of this owner, kind and name
 abbrev pub isOf : Entry → ℕ → ℕ → ℕ → Bool
@@ -59,10 +67,10 @@ pub record Indexed (most : ℕ) (c : ℕ → ℕ) (t : List ℕ) (n : ℕ) : Typ
 unfoldable pub chained : List ℕ → ℕ → ℕ → ℕ → List ℕ
 chained t most n b = set (set t (most + n) (getD t b 0)) b n
 
--- an input with its number of entries and its index
-pub record Ready (σ : Schema) (most : ℕ) (s : List ℕ) (total : ℕ) (t : List ℕ) : Type 0 where
-  pub count : total ≡ length (entriesOf s)
-  pub index : Indexed most (bucketOf σ most (entriesOf s)) t total
+-- an input with the bytes of all its entries, and its index
+pub record Ready (σ : Schema) (most : ℕ) (s : List ℕ) (t : List ℕ) : Type 0 where
+  pub whole : Whole s (length (entriesOf s))
+  pub index : Indexed most (bucketOf σ most (entriesOf s)) t (length (entriesOf s))
 
 -- entry k is not of this owner, kind and name
 abbrev pub notOf : List Entry → ℕ → ℕ → ℕ → ℕ → Bool

@@ -2,9 +2,13 @@
 -- Assumes nothing.
 use Prim.Native.Nat.{_%_, _*_, _+_, _/_, _≤_, ℕ}
 use lib.ListN.{getD, length}
+use mathlib.Core.Bool.{true}
 use mathlib.Core.List.{List}
 use mathlib.Core.Path.{_≡_}
+use Rattle.base.specs.Links.{isSingle}
 use Rattle.blocks.specs.Entries.{entriesOf}
+use Rattle.blocks.specs.Single.{itemsUpTo}
+use Rattle.blocks.specs.declared.Entry.{Entry}
 use Rattle.blocks.specs.declared.Schema.the-variants.{Specimen}
 use Rattle.fit.specs.Totals.{TotalsOf, itemsIn}
 use Rattle.fit.specs.code.Index.{Indexed, Ready, hashOf}
@@ -38,8 +42,13 @@ pub record Small (n : ℕ) (rows : List ℕ) (used : ℕ) : Type 0 where
   pub within : used ≤ n
   pub items : (r : ℕ) → 1 ≤ r → r ≤ used → itemsIn (getD rows r 0) ≤ 65536 * n
 
+-- no owner has two items, among those of the first n entries, by a link that leads to one item only
+abbrev pub Singles : List Entry → ℕ → Type 0
+Singles es n = (o l : ℕ) → isSingle l ≡ true → itemsUpTo es o l n ≤ 1
+
 -- a specimen with its index and its table of totals
-pub record Known (most : ℕ) (s : List ℕ) (n : ℕ) (si rows links : List ℕ) (used : ℕ) : Type 0 where
-  pub ready : Ready Specimen most s n si
+pub record Known (most : ℕ) (s si rows links : List ℕ) (used : ℕ) : Type 0 where
+  pub ready : Ready Specimen most s si
   pub chained : Rows most rows links used
-  pub totals : TotalsOf (entriesOf s) n rows used
+  pub totals : TotalsOf (entriesOf s) (length (entriesOf s)) rows used
+  pub single : Singles (entriesOf s) (length (entriesOf s))

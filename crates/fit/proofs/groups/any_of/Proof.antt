@@ -10,19 +10,19 @@ use Rattle.base.specs.Chain.{OnChain}
 use Rattle.blocks.specs.Entries.{entriesOf}
 use Rattle.blocks.specs.declared.Schema.the-variants.{Specimen}
 use Rattle.fit.proofs.groups.GroupLaws.{is-else, is-here}
-use Rattle.fit.proofs.index.BucketWalk.{all-ends, all-goes, all-no, all-starts}
+use Rattle.fit.proofs.index.BucketWalk.{all-ends, all-goes, all-no, all-starts, has-entry}
 use Rattle.fit.specs.code.Index.{anyOf, bucketOf, notOf}
 use Rattle.meaning.specs.Owned.{allWhere}
 use Rattle.fit.proofs.groups.any_of.Statement.{statement}
 use Rattle.fit.proofs.groups.any_of.Tie as tie
 
 abbrev Inv-loop : tie.InvT-loop
-Inv-loop s index most total b g kind name k₀ k =
-    OnChain (bucketOf Specimen most (entriesOf s)) b k total
+Inv-loop s index most b g kind name k₀ k =
+    OnChain (bucketOf Specimen most (entriesOf s)) b k (length (entriesOf s))
     × (anyOf most (entriesOf s) b g kind name ≡ not (allWhere (bucketOf Specimen most (entriesOf s)) (notOf (entriesOf s) g kind name) b k))
 
 abbrev μ-loop : tie.MeasureT-loop
-μ-loop s index most total b g kind name k₀ k = k
+μ-loop s index most b g kind name k₀ k = k
 
 last-of-requires : tie.Need-last-of-requires Inv-loop μ-loop
 last-of-requires c κs = let a = c .before .before in omega (arith, a .pre .0 .index .size)
@@ -35,6 +35,11 @@ loop-holds c =
       walk-starts (a .pre .0 .index .chains) (a .args .b) (a .pre .1) last,
       ap not (all-starts (a .pre .0) (a .args .b) (notOf (entriesOf (a .args .s .now)) (a .args .g) (a .args .kind) (a .args .name)) (a .pre .1) last),
     )
+
+entry-at-requires : tie.Need-entry-at-requires Inv-loop μ-loop
+entry-at-requires c κs =
+    let l = c .before in
+    has-entry (l .before .before .before .before .pre .0) (l .loop .inv .0 .bound) (c .if1 .left)
 
 previous-of-requires : tie.Need-previous-of-requires Inv-loop μ-loop
 previous-of-requires c κs =
@@ -56,7 +61,7 @@ loop-again c =
       walk-goes (a .pre .0 .index .chains) _ (l .loop .inv .0) z (c .previous-of .ensures),
       l .loop .inv .1 ∙ ap not (all-goes (a .pre .0) (a .args .b) (l .loop .inv .0) z (c .previous-of .ensures)
           (notOf (entriesOf (a .args .s .now)) (a .args .g) (a .args .kind) (a .args .name))
-          (is-else (a .pre .0) (a .args .g) (a .args .kind) (a .args .name) (l .loop .k) (c .before .before .before .nth-entry .ensures) (c .before .before .is-of .ensures) (c .before .if2 .left))),
+          (is-else _ (a .args .g) (a .args .kind) (a .args .name) (l .loop .k) (c .before .before .before .entry-at .ensures) (c .before .before .is-of .ensures) (c .before .if2 .left))),
     )
 
 returns : tie.Need-returns Inv-loop μ-loop
@@ -74,10 +79,10 @@ returns-2 c =
     let z = c .before .before .before .if1 .left in
     sym (l .loop .inv .1 ∙ not-to-true
     (all-no (bucketOf Specimen (x .most) (entriesOf (x .s .now))) (notOf (entriesOf (x .s .now)) (x .g) (x .kind) (x .name)) (x .b) (l .loop .k) z (l .loop .inv .0 .bucket z)
-    (is-here (a .pre .0) (x .g) (x .kind) (x .name) (l .loop .k) (c .before .before .nth-entry .ensures) (c .before .is-of .ensures) (c .if2 .taken))))
+    (is-here _ (x .g) (x .kind) (x .name) (l .loop .k) (c .before .before .entry-at .ensures) (c .before .is-of .ensures) (c .if2 .taken))))
 
 pub any-of-spec : {M : Type 1} → statement M
 any-of-spec =
     tie.close
-    (tie.spec Inv-loop μ-loop last-of-requires loop-holds (λ c κs. search needs) (λ c κs. search needs)
+    (tie.spec Inv-loop μ-loop last-of-requires loop-holds entry-at-requires (λ c κs. search needs)
     previous-of-requires loop-less loop-again returns returns-2)

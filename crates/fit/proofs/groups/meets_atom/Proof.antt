@@ -7,7 +7,7 @@ use native.Mathlib.Omega.{arith}
 use Prim.Native.Nat.{ℕ}
 use Rattle.base.proofs.Tests.{ne-eqb}
 use Rattle.blocks.specs.Entries.{entriesOf}
-use Rattle.fit.proofs.groups.GroupLaws.{table-total}
+use Rattle.fit.proofs.groups.GroupLaws.{table-most, table-total}
 use Rattle.fit.specs.code.Groups.{meetsAtom}
 use Rattle.fit.proofs.groups.meets_atom.Statement.{statement}
 use Rattle.fit.proofs.groups.meets_atom.Tie as tie
@@ -34,9 +34,9 @@ returns-3 c =
 returns-4 : tie.Need-returns-4
 unfolding meetsAtom
 returns-4 c =
-    let a = c .before .before .before .before .before .before .before .before in
-    let k = c .before .before .before .match .keys4 in
-    (rw (table-total (a .args .g) (c .before .before .link2 .result .0) (a .pre .0) (c .before .total-of2 .ensures), c .before .before .link2 .ensures) (rw (meetsAtom, k)), refl)
+    let a = c .before .before .before .before .before .before .before in
+    let k = c .before .before .match .keys4 in
+    (table-most (a .args .g) (c .before .link2 .result .0) (a .args .e .number) (a .pre .0) (c .at-most .ensures) ∙ rw (c .before .link2 .ensures) (rw (meetsAtom, k)), refl)
 
 returns-5 : tie.Need-returns-5
 unfolding meetsAtom
@@ -47,8 +47,8 @@ returns-5 c =
 total-of-requires : tie.Need-total-of-requires
 total-of-requires c κs = let a = c .before .before .before .before .before .before .before in (a .pre .0 .chained, omega (arith, a .pre .1))
 
-total-of-requires-2 : tie.Need-total-of-requires-2
-total-of-requires-2 c κs = let a = c .before .before .before .before .before .before in (a .pre .0 .chained, omega (arith, a .pre .1))
+at-most-requires : tie.Need-at-most-requires
+at-most-requires c κs = let a = c .before .before .before .before .before .before in (a .pre .0 .chained, omega (arith, a .pre .1))
 
 has-property-requires : tie.Need-has-property-requires
 has-property-requires c κs = let a = c .before .before .before .before .before .before in (a .pre .0 .ready, a .pre .1)
@@ -60,5 +60,5 @@ pub meets-atom-spec : {M : Type 1} → statement M
 meets-atom-spec =
     tie.close
     (tie.spec (λ c κs. search needs) has-property-requires (λ c κs. search needs) has-property-requires-2
-    (λ c. search needs) (λ c κs. search needs) total-of-requires (λ c κs. search needs) total-of-requires-2
-    (λ c. search needs) returns returns-2 returns-3 returns-4 returns-5)
+    (λ c. search needs) (λ c κs. search needs) total-of-requires (λ c κs. search needs) at-most-requires
+    returns returns-2 returns-3 returns-4 returns-5)

@@ -94,8 +94,8 @@ returns : tie.Need-returns Inv-loop μ-loop
 returns c =
     let l = c .before in
     let a = l .before .before .before .before in
-    let e : l .loop .n ≡ a .args .total = omega arith in
-    (record { count = a .pre .0; index = rw e at (l .loop .inv .1) }, rw e at (l .loop .inv .2))
+    let e : l .loop .n ≡ length (entriesOf (a .args .d .now)) = omega (arith, a .pre .0) in
+    (record { whole = rw (a .pre .0) at (a .pre .4); index = rw e at (l .loop .inv .1) }, rw e at (l .loop .inv .2))
 
 pub index-description-spec : {M : Type 1} → statement M
 index-description-spec =

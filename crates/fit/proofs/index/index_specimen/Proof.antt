@@ -75,8 +75,8 @@ returns : tie.Need-returns Inv-loop μ-loop
 returns c =
     let l = c .before in
     let a = l .before .before .before .before in
-    let e : l .loop .n ≡ a .args .total = omega arith in
-    record { count = a .pre .0; index = rw e at (l .loop .inv .1) }
+    let e : l .loop .n ≡ length (entriesOf (a .args .s .now)) = omega (arith, a .pre .0) in
+    record { whole = rw (a .pre .0) at (a .pre .4); index = rw e at (l .loop .inv .1) }
 
 pub index-specimen-spec : {M : Type 1} → statement M
 index-specimen-spec =

@@ -3,7 +3,7 @@ use borrow.Author.Needs.{needs}
 use mathlib.Core.Path.{_∙_, ap, refl}
 use native.Mathlib.Omega.{arith}
 use Rattle.blocks.specs.Entries.{entriesOf}
-use Rattle.fit.proofs.AnswerLaws.{accepted-facts, top-judged}
+use Rattle.fit.proofs.AnswerLaws.{accepted-facts, accepted-single, top-judged}
 use Rattle.fit.specs.Totals.{groupsUpTo}
 use Rattle.fit.proofs.tables.judge_with.Statement.{statement}
 use Rattle.fit.proofs.tables.judge_with.Tie as tie
@@ -29,7 +29,7 @@ fits-place-requires c κs =
     let t = c .before .before .before .before .before .before .before .before .before .before .before .before .before .before .before .before .before .before .before .before .before .before .before .before in
     let a = t .before .before .before .before .before .before .before .before .before .before .before .before .before in
     let d = c .before .before .before .before .before .before .before .before .before .before .index-description .ensures in (
-      record { ready = c .before .before .before .before .before .before .before .before .before .before .before .before .before .before .before .index-specimen .ensures; chained = t .fill-totals .ensures .0; totals = t .fill-totals .ensures .1 },
+      record { ready = c .before .before .before .before .before .before .before .before .before .before .before .before .before .before .before .index-specimen .ensures; chained = t .fill-totals .ensures .0; totals = rw (accepted-facts _ _ _ (a .pre .0) .0) at (t .fill-totals .ensures .1); single = accepted-single _ _ (a .pre .0) },
       d .0,
       d .1,
       omega arith,
