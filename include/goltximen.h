@@ -68,15 +68,15 @@
  *
  * Stack. The most that each call took of the caller's stack, on the inputs that lead furthest down (`make stack` measures it):
  *
- *     gx_read_description    8,248 bytes
- *     gx_read_specimen       8,296 bytes
- *     gx_fit                68,656 bytes
- *     gx_fit_counted        59,920 bytes
- *     gx_normal             56,972 bytes
- *     gx_compare            53,916 bytes
- *     gx_fit_with           68,688 bytes
- *     gx_normal_with        57,020 bytes
- *     gx_compare_with       53,980 bytes
+ *     gx_read_description   24,744 bytes
+ *     gx_read_specimen      24,744 bytes
+ *     gx_fit                78,676 bytes
+ *     gx_fit_counted        69,940 bytes
+ *     gx_normal             72,264 bytes
+ *     gx_compare            69,000 bytes
+ *     gx_fit_with           78,708 bytes
+ *     gx_normal_with        72,312 bytes
+ *     gx_compare_with       69,064 bytes
  *
  * The library calls memset and memcpy; a program that binds them at their first call took up to 1,072 bytes more there. A
  * thread with 96 KiB of stack has room for each call.
