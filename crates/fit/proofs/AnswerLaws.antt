@@ -16,7 +16,7 @@ use Rattle.blocks.specs.code.Blockwise.{Whole}
 use Rattle.blocks.specs.declared.Reading.{Reading}
 use Rattle.blocks.specs.declared.Reading.the-variants as reading
 use Rattle.blocks.specs.declared.Schema.{Schema}
-use Rattle.blocks.specs.declared.Schema.the-variants.{Description, Specimen}
+use Rattle.blocks.specs.declared.Schema.the-variants.{Description, Named, Specimen}
 use Rattle.fit.proofs.FitByNumber.{fit-by-groups}
 use Rattle.clashes.proofs.Ways.{empty-reading}
 use Rattle.clashes.specs.Clash.{specimenReading}
@@ -32,6 +32,7 @@ use Rattle.fit.specs.declared.FitAnswer.the-variants.{No, Refused, Yes}
 limit-most : (σ : Schema) → limitOf σ ≤ 32
 limit-most Description = omega arith
 limit-most Specimen = omega arith
+limit-most (Named most) = omega arith
 
 -- an accepted input has the number of entries that was answered, at most 2,016, each after its owner
 pub accepted-facts : (σ : Schema) (i : ℕ) (s : List ℕ) {n : ℕ} → readingOf σ i s ≡ reading.Accepted n

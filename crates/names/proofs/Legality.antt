@@ -11,3 +11,5 @@ pub mod UnfoldBounded
 -- What reading a description under a dictionary answers, by its parts: what no rule up to 13 refuses is legal, and then 14 decides. And what
 -- reading a dictionary answers.
 pub mod NamedReadings
+-- With a dictionary of length 0: 13 in place of 4.
+pub mod Nameless

@@ -3,11 +3,11 @@
 use Prim.Native.Nat.{_%_, _+_, ℕ}
 use lib.Dec.{eqb, ltb}
 use lib.ListN.{length}
-use mathlib.Core.Bool.{Bool, _||_, cond, not}
+use mathlib.Core.Bool.{Bool, _&&_, _||_, cond, not}
 use mathlib.Core.List.{List, [], _++_, _∷_, map}
 use Rattle.base.specs.Range.{all}
 use Rattle.blocks.specs.Encoding.{encode}
-use Rattle.blocks.specs.Entries.{entriesOf}
+use Rattle.blocks.specs.Entries.{entriesOf, isNamed}
 use Rattle.blocks.specs.Faults.{Fault, fault, faults, first}
 use Rattle.blocks.specs.Frame.{plain, totalIn}
 use Rattle.blocks.specs.Owners.{depthOk}
@@ -17,6 +17,7 @@ use Rattle.blocks.specs.declared.Reading.the-variants.{Accepted, Refused}
 use Rattle.blocks.specs.declared.Reading.{Reading}
 use Rattle.blocks.specs.declared.Schema.the-variants.{Named}
 use Rattle.lists.specs.Parts.{partsOf}
+use Rattle.names.specs.NamedForm.{namedFormOk}
 use Rattle.names.specs.Unfold.{unfoldedBy}
 
 -- ---- a description
@@ -32,6 +33,17 @@ namedFaults K s = faults (Named (length K)) s ++ (fault (tooLarge (unfoldedBy K 
 -- "A description is now accepted if 13 and 14 don't apply to it either": reading s as input i
 unfoldable pub namedReading : List (List Entry) → ℕ → List ℕ → Reading
 namedReading K i s = answer i (totalIn plain s) (first (namedFaults K s))
+
+-- ---- no dictionary
+
+-- Where no name can be given, an entry that is one is refused as 13; as one of a plain description it would be as 4.
+unfoldable pub numberAt : Entry → ℕ → ℕ
+numberAt e k = cond (eqb k 4 && (isNamed e && namedFormOk e)) 13 k
+
+-- what reading answers then, where e gives the entries
+abbrev pub unnamed : (ℕ → Entry) → Reading → Reading
+unnamed e (Refused k i p) = Refused (numberAt (e p) k) i p
+unnamed e (Accepted n) = Accepted n
 
 -- ---- a dictionary
 
@@ -65,3 +77,7 @@ namedUnfolding K i s = unlessRefused Refused (namedReading K i s) (Accepted (len
 -- a dictionary, and after it a description
 unfoldable pub unfoldingOf : List ℕ → ℕ → List ℕ → Reading
 unfoldingOf D i s = unlessRefused Refused (dictionaryReading D) (namedUnfolding (dictionaryOf D) i s)
+
+-- the bytes that a call goes on with: a dictionary of length 0 leaves a description as it is sent
+unfoldable pub sentOf : List ℕ → List ℕ → List ℕ
+sentOf D s = cond (eqb (length D) 0) s (plainOf D s)

@@ -14,7 +14,7 @@ use Rattle.blocks.specs.Entries.{nth}
 use Rattle.blocks.specs.Owners.{ownerOf}
 use Rattle.blocks.specs.declared.Entry.{Entry}
 use Rattle.blocks.specs.declared.Schema.{Schema}
-use Rattle.blocks.specs.declared.Schema.the-variants.{Description, Specimen}
+use Rattle.blocks.specs.declared.Schema.the-variants.{Description, Named, Specimen}
 use Rattle.fit.specs.code.Bare.{Marked, anyEntry, bare, quiet}
 use Rattle.fit.specs.code.Index.{Ordered, bucketOf, codeOf, hashOf}
 use Rattle.meaning.specs.Owned.{allWhere}
@@ -31,6 +31,7 @@ hash-is most o k n {m} pos e f = (f ∙ rw e, omega (arith, f, and-le-r (o + (31
 
 pub bucket-below : (σ : Schema) (most : ℕ) (es : List Entry) (k : ℕ) → Ordered es → 1 ≤ k → k ≤ length es → length es < most → bucketOf σ most es k < most
 bucket-below Description most es k O lo hi few = omega (arith, O .earlier k lo hi)
+bucket-below (Named names) most es k O lo hi few = omega (arith, O .earlier k lo hi)
 bucket-below Specimen most es k O lo hi few = hash-below most (ownerOf es k) (codeOf (nth es k .kind) (bare es k)) (nth es k .name) (omega arith)
 
 -- the owner of the entry that was read is that of entry k, and stands before it

@@ -11,7 +11,7 @@ use lib.ListN.{length, getD, set}
 use Rattle.base.specs.Chain.{Chains}
 use Rattle.blocks.specs.declared.Entry.{Entry}
 use Rattle.blocks.specs.declared.Schema.{Schema}
-use Rattle.blocks.specs.declared.Schema.the-variants.{Description, Specimen}
+use Rattle.blocks.specs.declared.Schema.the-variants.{Description, Named, Specimen}
 use Rattle.blocks.specs.Entries.{entriesOf, nth}
 use Rattle.blocks.specs.Owners.{ownerOf}
 use Rattle.blocks.specs.code.Blockwise.{Whole}
@@ -41,6 +41,7 @@ hashOf most o k n = bitAnd (o + (31 * n + k)) (most - 1)
 -- the bucket of an entry with this owner, kind and name: in a description its owner alone
 abbrev pub bucketBy : Schema → ℕ → ℕ → ℕ → ℕ → ℕ
 bucketBy Description most o k n = o
+bucketBy (Named names) most o k n = o
 bucketBy Specimen most o k n = hashOf most o k n
 
 -- the kind by which an entry is found: groups that own nothing stand apart from the others, as if of kind 8

@@ -34,7 +34,7 @@ use Rattle.names.specs.Unfold.{unfoldedBy}
 -- ---- legal
 
 -- the table of kinds, where names can be given
-form-named : (most : ℕ) (e : Entry) → formOk (Named most) e ≡ namedFormOk e
+pub form-named : (most : ℕ) (e : Entry) → formOk (Named most) e ≡ namedFormOk e
 unfolding formOk namedFormOk nameOk numberOk
 form-named most e =
     bool-cases (isNamed e)

@@ -28,11 +28,11 @@ none-given e h =
     absurd (omega tests))
     (λ q. q)
 
-form-same : (e : Entry) → isNamed e ≡ false → namedFormOk e ≡ formOk Description e
+pub form-same : (e : Entry) → isNamed e ≡ false → namedFormOk e ≡ formOk Description e
 unfolding namedFormOk
 form-same e q = rw q
 
-given-plain : (most : ℕ) (e : Entry) → isNamed e ≡ false → nameGiven most e ≡ true
+pub given-plain : (most : ℕ) (e : Entry) → isNamed e ≡ false → nameGiven most e ≡ true
 unfolding nameGiven
 given-plain most e q = rw q
 
