@@ -70,6 +70,13 @@ module _ {σ : Schema} {most : ℕ} {s : List ℕ} {t : List ℕ} (R : Ready σ 
     pub all-goes : (p : ℕ → Bool) → p k ≡ true → allWhere (buckets σ most s) p b k ≡ allWhere (buckets σ most s) p b j
     all-goes p y = all-yes (buckets σ most s) p b k z y ∙ skip-goes (R .index .chains) b S z e (allWhere (buckets σ most s) p b) (skip-all (buckets σ most s) p b)
 
+    -- the last to come to alone decides
+    pub all-last : (p : ℕ → Bool) → j ≡ 0 → allWhere (buckets σ most s) p b k ≡ p k
+    all-last p q =
+        bool-cases (p k)
+        (λ y. all-goes p y ∙ all-ends (buckets σ most s) p b q ∙ sym y)
+        (λ y. all-no (buckets σ most s) p b k z (S .bucket z) y ∙ sym y)
+
 -- an entry on it is there
 pub has-entry : {σ : Schema} {most : ℕ} {s : List ℕ} {t : List ℕ} {k : ℕ} → Ready σ most s t → k ≤ length (entriesOf s) → k ≢ 0 → Has s k
 has-entry R h z = record { some = omega arith; within = h; few = omega (arith, R .index .below, R .index .sized); whole = R .whole }

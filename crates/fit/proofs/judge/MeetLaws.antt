@@ -3,12 +3,14 @@
 use Prim.Native.Nat.{_-_, _<_, suc, zero, ℕ, _%_}
 use lib.Dec.{eqb}
 use lib.ListN.{getD, length}
-use mathlib.Core.Bool.{Bool, _&&_, _||_, false, not, true}
+use mathlib.Core.Bool.{Bool, _&&_, _||_, cond, false, not, true}
 use mathlib.Core.List.{List}
 use mathlib.Core.Logic.{_≢_}
 use mathlib.Core.Path.{_∙_, _≡_, ap, refl, sym}
 use native.Mathlib.Numerals.{sub-one}
+use native.Mathlib.Omega.{arith}
 use Rattle.base.proofs.Tests.{bool-cases, ne-eqb, or-one}
+use Rattle.base.specs.Chain.{OnChain}
 use Rattle.blocks.specs.Entries.{nth}
 use Rattle.blocks.specs.Owners.{ownerOf}
 use Rattle.blocks.specs.declared.Entry.{Entry}
@@ -16,7 +18,7 @@ use Rattle.blocks.specs.declared.Schema.the-variants.{Specimen}
 use Rattle.fit.proofs.groups.GroupLaws.{full-here, owned-else, owned-here}
 use Rattle.fit.proofs.index.BucketLaws.{all-bucket, code-full, elsewhere, marked-tells}
 use Rattle.fit.specs.code.Bare.{Marked, bare, bareFits, demands}
-use Rattle.fit.specs.code.Groups.{fitsPlace, groupsBy, hasBare, isGroup, meetsAtom, meetsEntry}
+use Rattle.fit.specs.code.Groups.{Rests, fitsPlace, groupFits, groupsBy, hasBare, isGroup, meetsAtom, meetsEntry, ownFits}
 use Rattle.fit.specs.code.Index.{bucketOf, hashOf, isOf}
 use Rattle.meaning.specs.Owned.{allOwned, allWhere}
 
@@ -30,10 +32,6 @@ unfolding meetsEntry meetsAtom
 meets-atoms zero s d g e z a k h = absurd (z refl)
 meets-atoms (suc left) s d g e z a k h = h ∙ rw (a, meetsAtom, meetsEntry, ne-eqb (λ q. k (ap (λ (y : Entry). y .kind) a ∙ q)))
 
--- group k, where it is one by link l and owns something, fits the place that entry e owns, followed down for so many levels
-abbrev groupFits : ℕ → List Entry → List Entry → ℕ → ℕ → ℕ → Bool
-groupFits left s d e l k = not (isGroup s l k) || (bare s k || fitsPlace left s d k e)
-
 meets-groups : (left : ℕ) (s d : List Entry) (g e : ℕ) {x : Entry} {l : ℕ} → left ≢ 0 → x ≡ nth d e → x .kind ≡ 5 → l ≡ x .name
     → meetsEntry left s d g e ≡ ((bareFits d e || not (hasBare s g l)) && allOwned (groupFits (left - 1) s d e l) s g (length s))
 unfolding meetsEntry groupsBy
@@ -42,10 +40,6 @@ meets-groups (suc left) s d g e z a k n =
     let kind : nth d e .kind ≡ 5 = sym (ap (λ (y : Entry). y .kind) a) ∙ k in
     let name : nth d e .name ≡ _ = sym (n ∙ ap (λ (y : Entry). y .name) a) in
     rw (meetsEntry, kind, name, groupsBy, sub-one)
-
--- the same for the groups that g owns; others pass
-abbrev pub ownFits : ℕ → List Entry → List Entry → ℕ → ℕ → ℕ → ℕ → Bool
-ownFits left s d e g l k = not (eqb (ownerOf s k) g) || groupFits left s d e l k
 
 -- whether the groups that own nothing fail, by the mark of the place
 pub bare-told : {most : ℕ} {marks : List ℕ} (s d : List Entry) (g e l : ℕ) → Marked demands d (length d) most marks → e < most → {r : Bool}
@@ -75,3 +69,27 @@ module _ (s : List Entry) (left : ℕ) (d : List Entry) (e g l k : ℕ) {x : Ent
       → ownFits left s d e g l k ≡ f
   group-decides most at more q h =
       let y = owned-here s g 7 l k a b q in rw (y .0, y .1, full-here most s g l k more (y .0) (y .1) at) (sym h)
+
+-- ---- what the number tells of an entry that owns no place
+
+pub atom-met : {r : ℕ} (met : Bool) → r ≡ cond met 0 65535 → r ≡ 0 → met ≡ true
+atom-met true q z = refl
+atom-met false q z = absurd (omega (arith, q))
+
+pub atom-not : {r : ℕ} (met : Bool) → r ≡ cond met 0 65535 → r ≡ 65535 → met ≡ false
+atom-not true q z = absurd (omega (arith, q))
+atom-not false q z = refl
+
+pub atom-none : {A : Type 0} {r : ℕ} (met : Bool) → r ≡ cond met 0 65535 → r ≢ 0 → r ≢ 65535 → A
+atom-none true q z n = absurd (z q)
+atom-none false q z n = absurd (n q)
+
+-- the group on which it rests: the entry's link is the one that was read
+pub rests-on : {most left : ℕ} {s d : List Entry} {g e l m h : ℕ} → l ≡ m → Rests most left s d g e l h → Rests most left s d g e m h
+rests-on q R = rw q at R
+
+-- The entries from e back that a place owns, judged for group g and so many levels, tell the answer.
+pub record Left (s d : List Entry) (answer : Bool) (left g e : ℕ) : Type 0 where
+  pub place : ℕ
+  pub on : OnChain (ownerOf d) place e (length d)
+  pub tells : answer ≡ allOwned (meetsEntry left s d g) d place e
