@@ -1,7 +1,8 @@
 /* The stack that each call of the library takes: the call runs on a stack filled with a pattern, and what is no longer the
  * pattern afterwards was used. Each call gets the inputs that lead furthest down: all entries out of order, so that the sort
  * halves to the end, and chains of owners of the greatest depth, as many as a specimen holds, by a link that leads to one item
- * only. The list has the most pairs, all with the property that is asked for last. */
+ * only. Each place of the description that these are fitted to has an entry before the 'every', so that each level takes a call.
+ * The list has the most pairs, all with the property that is asked for last. */
 #define _GNU_SOURCE
 #include <stdio.h>
 #include <string.h>
@@ -11,7 +12,8 @@
 
 enum { STACK = 1 << 18, PATTERN = 0xa5, BLOCKS = 16, ENTRIES = 63 * BLOCKS, CHAIN = 33, SINGLE = 32768, PAIRS = 64 };
 
-static uint8_t stack[STACK], wide[512 * BLOCKS], chain[512], groups[1024 * BLOCKS], out[1024 * BLOCKS], pairs[4 * PAIRS];
+static uint8_t stack[STACK], wide[512 * BLOCKS], chain[512], places[1024], groups[1024 * BLOCKS], out[1024 * BLOCKS];
+static uint8_t pairs[4 * PAIRS];
 static ucontext_t here, there;
 static uint64_t answer;
 
@@ -50,6 +52,10 @@ static void make_inputs(void) {
         put_entry(wide, n, 3, 0, n * 397 % 1009, 1);
     for (unsigned n = 1; n <= CHAIN; n++)
         put_entry(chain, n, 5, n - 1, n == 1 ? 1 : SINGLE, 0);
+    for (unsigned n = 1; n <= CHAIN; n++) {
+        put_entry(places, 2 * n - 1, 2, 2 * n - 2, 7, 0);
+        put_entry(places, 2 * n, 5, 2 * n - 2, n == 1 ? 1 : SINGLE, 0);
+    }
     for (unsigned n = 1; n <= 2 * ENTRIES; n++) {
         unsigned first = n % CHAIN == 1;
         put_entry(groups, n, 7, first ? 0 : n - 1, first ? 1 : SINGLE, 0);
@@ -63,16 +69,17 @@ static void make_inputs(void) {
     put_entry(chain, CHAIN + 3, 4, CHAIN - 1, 1, 9);
     close_blocks(wide, ENTRIES);
     close_blocks(chain, CHAIN + 3);
+    close_blocks(places, 2 * CHAIN);
     close_blocks(groups, 2 * ENTRIES);
 }
 
 static void read_description(void) { answer = gx_read_description(wide, sizeof wide); }
 static void read_specimen(void) { answer = gx_read_specimen(groups, sizeof groups); }
-static void fit(void) { answer = gx_fit(groups, sizeof groups, chain, sizeof chain); }
-static void fit_counted(void) { answer = gx_fit_counted(groups, sizeof groups, chain, sizeof chain); }
+static void fit(void) { answer = gx_fit(groups, sizeof groups, places, sizeof places); }
+static void fit_counted(void) { answer = gx_fit_counted(groups, sizeof groups, places, sizeof places); }
 static void normal(void) { answer = gx_normal(wide, sizeof wide, out, sizeof out); }
 static void compare(void) { answer = gx_compare(wide, sizeof wide, chain, sizeof chain, out, sizeof out); }
-static void fit_with(void) { answer = gx_fit_with(pairs, sizeof pairs, NULL, 0, groups, sizeof groups, chain, sizeof chain); }
+static void fit_with(void) { answer = gx_fit_with(pairs, sizeof pairs, NULL, 0, groups, sizeof groups, places, sizeof places); }
 static void normal_with(void) { answer = gx_normal_with(pairs, sizeof pairs, NULL, 0, wide, sizeof wide, out, sizeof out); }
 static void compare_with(void) {
     answer = gx_compare_with(pairs, sizeof pairs, NULL, 0, wide, sizeof wide, chain, sizeof chain, out, sizeof out);

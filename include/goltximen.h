@@ -70,11 +70,11 @@
  *
  *     gx_read_description   24,744 bytes
  *     gx_read_specimen      24,744 bytes
- *     gx_fit                78,676 bytes
- *     gx_fit_counted        69,940 bytes
+ *     gx_fit                78,696 bytes
+ *     gx_fit_counted        69,960 bytes
  *     gx_normal             72,264 bytes
  *     gx_compare            69,000 bytes
- *     gx_fit_with           78,708 bytes
+ *     gx_fit_with           78,728 bytes
  *     gx_normal_with        72,312 bytes
  *     gx_compare_with       69,064 bytes
  *
