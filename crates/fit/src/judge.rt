@@ -1,4 +1,4 @@
-// Fitting a place and the groups that must fit it, which call each other. Each pair of a group and a place is come to at most once, by the
+// Fitting a place and meeting an 'every' entry, which call each other, the remaining depth falling; other entries need no call. Each pair of a group and a place is come to at most once, by the
 // pair of their owners, and costs a look in a bucket for each entry of the place. All groups' looks for one entry go over each entry of the
 // specimen at most once, and over the first group found once more. So the time grows at most with the product of the two inputs' numbers of
 // entries, 2,016 · 1,008, at some nanoseconds each, and is far less where groups are few or have places of their own.
@@ -42,7 +42,8 @@ fn rest_of(met: bool) -> usize
 }
 
 // Whether the items of group g meet entry e of the description: 0 if they do, 65,535 if not, and else the last of the groups on which that
-// rests, which must all fit the place that e owns. It calls nothing that calls it, so that the tables are at hand in the loop that calls it.
+// rests, which must all fit the place that e owns: `meets_every` goes on from there. It calls nothing that calls it, so that the tables are at
+// hand in the loop that calls it.
 fn meets_entry(
     s: &[u8],
     si: &[u16],
@@ -127,15 +128,15 @@ pub(crate) fn fits_place(
             next = last_of(di, e);
             continue;
         }
-        if !groups_fit(s, si, rows, ri, d, di, dm, most, used, g, e, h, left, adds) {
+        if !meets_every(s, si, rows, ri, d, di, dm, most, used, g, e, h, left, adds) {
             break false;
         }
     }
 }
 
-// Whether the groups of g by the link of entry e of the description, from number h back in their bucket, fit the place that e owns. A level of
-// depth takes at most two frames of the stack, this function's and the former's.
-pub(crate) fn groups_fit(
+// Whether group g meets 'every' entry e of the description by its groups from number h back in their bucket: whether those by the entry's link
+// fit the place that e owns. A level of depth takes at most two frames of the stack, this function's and the former's.
+pub(crate) fn meets_every(
     s: &[u8],
     si: &[u16],
     rows: &[u64],

@@ -1,4 +1,4 @@
--- `fits_place` and `groups_fit` meet their contracts. Each call goes to fewer levels, or from a place to the groups of its entries at the same
+-- `fits_place` and `meets_every` meet their contracts. Each call goes to fewer levels, or from a place to the groups of its entries at the same
 -- level. The counter of additions comes back as it was.
 use Prim.Native.Nat.{ℕ, _+_, _*_, _-_, _<_, _≤_}
 use native.Mathlib.Omega.{arith}
@@ -22,10 +22,10 @@ use Rattle.fit.specs.code.Groups.{fitsPlace, groupsFit, meetsEntry, ownF
 use Rattle.fit.specs.code.Index.{bucketOf, hashOf, isOf}
 use Rattle.fit.proofs.judge.fits_place.Reads as fits-place
 use Rattle.fit.proofs.judge.fits_place.Kinds as fits-place-kinds
-use Rattle.fit.proofs.judge.+fits_place+groups_fit.Lts-fits_place as fits-place-lts
-use Rattle.fit.proofs.judge.groups_fit.Reads as groups-fit
-use Rattle.fit.proofs.judge.groups_fit.Kinds as groups-fit-kinds
-use Rattle.fit.proofs.judge.+fits_place+groups_fit.Lts-groups_fit as groups-fit-lts
+use Rattle.fit.proofs.judge.+fits_place+meets_every.Lts-fits_place as fits-place-lts
+use Rattle.fit.proofs.judge.meets_every.Reads as meets-every
+use Rattle.fit.proofs.judge.meets_every.Kinds as meets-every-kinds
+use Rattle.fit.proofs.judge.+fits_place+meets_every.Lts-meets_every as meets-every-lts
 use Rattle.blocks.proofs.Entry.link.Reads as link-reads
 use Rattle.fit.proofs.entries.entry_at.Reads as entry-at-reads
 use Rattle.fit.proofs.groups.is_group.Reads as is-group-reads
@@ -33,14 +33,14 @@ use Rattle.fit.proofs.index.last_of.Reads as last-of-reads
 use Rattle.fit.proofs.index.previous_of.Reads as previous-of-reads
 use Rattle.fit.proofs.judge.neither.Reads as neither-reads
 use Rattle.fit.proofs.judge.meets_entry.Reads as meets-entry-reads
-use Rattle.fit.proofs.judge.+fits_place+groups_fit.{statement}
-use Rattle.fit.proofs.judge.+fits_place+groups_fit.Tie.{close}
+use Rattle.fit.proofs.judge.+fits_place+meets_every.{statement}
+use Rattle.fit.proofs.judge.+fits_place+meets_every.Tie.{close}
 
 abbrev μ-fits-place : Measures 8 fits-place-kinds.ps ℕ
 μ-fits-place κs a = 2 * a .1 .1 .1 .1 .1 .1 .1 .1 .1 .1 .1 .0 + 1
 
-abbrev μ-groups-fit : Measures 8 groups-fit-kinds.ps ℕ
-μ-groups-fit κs a = 2 * a .1 .1 .1 .1 .1 .1 .1 .1 .1 .1 .1 .1 .0
+abbrev μ-meets-every : Measures 8 meets-every-kinds.ps ℕ
+μ-meets-every κs a = 2 * a .1 .1 .1 .1 .1 .1 .1 .1 .1 .1 .1 .1 .0
 
 abbrev fits-place-at : ℕ → In 8 fits-place-kinds.ps
 fits-place-at t = and 8 fits-place-kinds.ps (is 8 fits-place-kinds.ps μ-fits-place t) fits-place.Pre
@@ -48,11 +48,11 @@ fits-place-at t = and 8 fits-place-kinds.ps (is 8 fits-place-kinds.ps μ-fits-pl
 abbrev fits-place-below : ℕ → In 8 fits-place-kinds.ps
 fits-place-below t = and 8 fits-place-kinds.ps (falls 8 fits-place-kinds.ps _<_ μ-fits-place t) fits-place.Pre
 
-abbrev groups-fit-at : ℕ → In 8 groups-fit-kinds.ps
-groups-fit-at t = and 8 groups-fit-kinds.ps (is 8 groups-fit-kinds.ps μ-groups-fit t) groups-fit.Pre
+abbrev meets-every-at : ℕ → In 8 meets-every-kinds.ps
+meets-every-at t = and 8 meets-every-kinds.ps (is 8 meets-every-kinds.ps μ-meets-every t) meets-every.Pre
 
-abbrev groups-fit-below : ℕ → In 8 groups-fit-kinds.ps
-groups-fit-below t = and 8 groups-fit-kinds.ps (falls 8 groups-fit-kinds.ps _<_ μ-groups-fit t) groups-fit.Pre
+abbrev meets-every-below : ℕ → In 8 meets-every-kinds.ps
+meets-every-below t = and 8 meets-every-kinds.ps (falls 8 meets-every-kinds.ps _<_ μ-meets-every t) meets-every.Pre
 
 -- what each knows of the functions that it calls
 abbrev fits-place-calls : ℕ → fits-place-lts.Claims
@@ -65,12 +65,12 @@ fits-place-calls t = (
   meets-entry-reads.Learnt,
   neither-reads.Asked,
   neither-reads.Learnt,
-  groups-fit-below t,
-  groups-fit.Post,
+  meets-every-below t,
+  meets-every.Post,
 )
 
-abbrev groups-fit-calls : ℕ → groups-fit-lts.Claims
-groups-fit-calls t = (
+abbrev meets-every-calls : ℕ → meets-every-lts.Claims
+meets-every-calls t = (
   entry-at-reads.Asked,
   entry-at-reads.Learnt,
   link-reads.Asked,
@@ -205,8 +205,8 @@ fits-place-loop-again-2 t c =
       omega (arith, r .on .bound, R .index .below, R .index .sized),
     )
 
-fits-place-groups-fit-requires : (t : ℕ) → fits-place-lts.Need-groups-fit-requires (fits-place-calls t) (fits-place-at t) fits-place.Post fits-place-Inv-loop fits-place-μ-loop
-fits-place-groups-fit-requires t c κs =
+fits-place-meets-every-requires : (t : ℕ) → fits-place-lts.Need-meets-every-requires (fits-place-calls t) (fits-place-at t) fits-place.Post fits-place-Inv-loop fits-place-μ-loop
+fits-place-meets-every-requires t c κs =
     let l = c .before .before .before .before .before .before .before .before .before .before in
     let a = l .before .before .before .before .before .before .before .before .before in
     let I = a .pre .1 .1 .index in
@@ -228,7 +228,7 @@ fits-place-loop-again-3 t c =
     let I = a .pre .1 .1 .index in
     let i = l .loop .inv in
     let z = c .before .before .before .before .before .before .before .before .before .before .before .if1 .left in
-    let f = c .before .groups-fit .ensures in (
+    let f = c .before .meets-every .ensures in (
       record {
         place = i .0 .place;
         on = walk-goes (I .chains) _ (i .0 .on) z (c .before .before .before .before .before .before .before .before .before .before .previous-of .ensures);
@@ -261,70 +261,70 @@ fits-place-returns-3 t c =
     let a = l .before .before .before .before .before .before .before .before .before in
     let i = l .loop .inv in
     let z = c .before .before .before .before .before .before .before .before .before .before .before .if1 .left in
-    let f = c .before .groups-fit .ensures in (
+    let f = c .before .meets-every .ensures in (
       sym (i .0 .tells ∙ all-no (ownerOf (entriesOf (a .args .d .now))) (meetsEntry (l .loop .left) (entriesOf (a .args .s .now)) (entriesOf (a .args .d .now)) (l .loop .g)) _ _ z (i .0 .on .bucket z) ((c .before .before .before .before .before .before .before .before .meets-entry .ensures .2 (c .before .before .before .before .before .before .before .if2 .left) (c .before .before .before .before .before .before .if3 .left)) .tells ∙ refuted (f .0) (c .if5 .taken))),
       f .1 ∙ c .before .before .before .before .before .before .before .before .meets-entry .ensures .3 ∙ i .1,
     )
 
 -- ---- the groups of an entry: what those left ask is what all ask, and nothing was added
 
-abbrev groups-fit-Inv-loop : groups-fit-lts.InvT-loop
-groups-fit-Inv-loop s si rows links d di marks most used g e h₀ left adds₀ link h₁ adds h =
+abbrev meets-every-Inv-loop : meets-every-lts.InvT-loop
+meets-every-Inv-loop s si rows links d di marks most used g e h₀ left adds₀ link h₁ adds h =
     OnChain (bucketOf Specimen most (entriesOf s)) (hashOf most g 7 (nth (entriesOf d) e .name)) h (length (entriesOf s))
     × (groupsFit most left (entriesOf s) (entriesOf d) g e (nth (entriesOf d) e .name) h₀ ≡ groupsFit most left (entriesOf s) (entriesOf d) g e (nth (entriesOf d) e .name) h)
     × (adds ≡ adds₀)
 
-abbrev groups-fit-μ-loop : groups-fit-lts.MeasureT-loop
-groups-fit-μ-loop s si rows links d di marks most used g e h₀ left adds₀ link h₁ adds h = h
+abbrev meets-every-μ-loop : meets-every-lts.MeasureT-loop
+meets-every-μ-loop s si rows links d di marks most used g e h₀ left adds₀ link h₁ adds h = h
 
-groups-fit-entry-at-requires : (t : ℕ) → groups-fit-lts.Need-entry-at-requires (groups-fit-calls t) (groups-fit-at t) groups-fit.Post groups-fit-Inv-loop groups-fit-μ-loop
-groups-fit-entry-at-requires t c κs =
+meets-every-entry-at-requires : (t : ℕ) → meets-every-lts.Need-entry-at-requires (meets-every-calls t) (meets-every-at t) meets-every.Post meets-every-Inv-loop meets-every-μ-loop
+meets-every-entry-at-requires t c κs =
     let a = c .before .before .before .before .before .before .before in
     has-entry (a .pre .1 .1) (a .pre .1 .8) (λ z. omega (arith, a .pre .1 .7))
 
-groups-fit-loop-holds : (t : ℕ) → groups-fit-lts.Need-loop-holds (groups-fit-calls t) (groups-fit-at t) groups-fit.Post groups-fit-Inv-loop groups-fit-μ-loop
-groups-fit-loop-holds t c =
+meets-every-loop-holds : (t : ℕ) → meets-every-lts.Need-loop-holds (meets-every-calls t) (meets-every-at t) meets-every.Post meets-every-Inv-loop meets-every-μ-loop
+meets-every-loop-holds t c =
     let a = c .before .before .before .before .before .before .before .before .before in
     (a .pre .1 .10, refl, refl)
 
-groups-fit-previous-of-requires : (t : ℕ) → groups-fit-lts.Need-previous-of-requires (groups-fit-calls t) (groups-fit-at t) groups-fit.Post groups-fit-Inv-loop groups-fit-μ-loop
-groups-fit-previous-of-requires t c κs =
+meets-every-previous-of-requires : (t : ℕ) → meets-every-lts.Need-previous-of-requires (meets-every-calls t) (meets-every-at t) meets-every.Post meets-every-Inv-loop meets-every-μ-loop
+meets-every-previous-of-requires t c κs =
     let l = c .before in
     let a = l .before .before .before .before .before .before .before .before .before .before in
     let R = a .pre .1 .0 .ready in
     let i = l .loop .inv in
     omega (arith, i .0 .bound, R .index .below, R .index .size)
 
-groups-fit-entry-at-requires-2 : (t : ℕ) → groups-fit-lts.Need-entry-at-requires-2 (groups-fit-calls t) (groups-fit-at t) groups-fit.Post groups-fit-Inv-loop groups-fit-μ-loop
-groups-fit-entry-at-requires-2 t c κs =
+meets-every-entry-at-requires-2 : (t : ℕ) → meets-every-lts.Need-entry-at-requires-2 (meets-every-calls t) (meets-every-at t) meets-every.Post meets-every-Inv-loop meets-every-μ-loop
+meets-every-entry-at-requires-2 t c κs =
     let l = c .before .before in
     let a = l .before .before .before .before .before .before .before .before .before .before in
     let R = a .pre .1 .0 .ready in
     let i = l .loop .inv in
     has-entry R (i .0 .bound) (c .before .if1 .left)
 
-groups-fit-sub-fits-place : (t : ℕ) → groups-fit-lts.Need-sub-fits-place (groups-fit-calls t) (groups-fit-at t) groups-fit.Post groups-fit-Inv-loop groups-fit-μ-loop
-groups-fit-sub-fits-place t c =
+meets-every-sub-fits-place : (t : ℕ) → meets-every-lts.Need-sub-fits-place (meets-every-calls t) (meets-every-at t) meets-every.Post meets-every-Inv-loop meets-every-μ-loop
+meets-every-sub-fits-place t c =
     omega (arith, c .before .before .before .before .before .before .before .before .before .before .before .before .before .before .before .pre .1 .9)
 
-groups-fit-fits-place-requires : (t : ℕ) → groups-fit-lts.Need-fits-place-requires (groups-fit-calls t) (groups-fit-at t) groups-fit.Post groups-fit-Inv-loop groups-fit-μ-loop
-groups-fit-fits-place-requires t c κs =
+meets-every-fits-place-requires : (t : ℕ) → meets-every-lts.Need-fits-place-requires (meets-every-calls t) (meets-every-at t) meets-every.Post meets-every-Inv-loop meets-every-μ-loop
+meets-every-fits-place-requires t c κs =
     let l = c .before .before .before .before .before .before in
     let a = l .before .before .before .before .before .before .before .before .before .before in
     let R = a .pre .1 .0 .ready in
     let i = l .loop .inv in
     (omega (arith, a .pre .0, a .pre .1 .9), (a .pre .1 .0, a .pre .1 .1, a .pre .1 .2, omega (arith, i .0 .bound, R .index .below, R .index .sized), a .pre .1 .4, omega (arith, a .pre .1 .5), a .pre .1 .6))
 
-groups-fit-loop-less : (t : ℕ) → groups-fit-lts.Need-loop-less (groups-fit-calls t) (groups-fit-at t) groups-fit.Post groups-fit-Inv-loop groups-fit-μ-loop
-groups-fit-loop-less t c =
+meets-every-loop-less : (t : ℕ) → meets-every-lts.Need-loop-less (meets-every-calls t) (meets-every-at t) meets-every.Post meets-every-Inv-loop meets-every-μ-loop
+meets-every-loop-less t c =
     let l = c .before .before .before .before .before .before .before .before in
     let a = l .before .before .before .before .before .before .before .before .before .before in
     let R = a .pre .1 .0 .ready in
     let i = l .loop .inv in
     walk-falls (R .index .chains) _ (i .0) (c .before .before .before .before .before .before .before .if1 .left) (c .before .before .before .before .before .before .previous-of .ensures)
 
-groups-fit-loop-again : (t : ℕ) → groups-fit-lts.Need-loop-again (groups-fit-calls t) (groups-fit-at t) groups-fit.Post groups-fit-Inv-loop groups-fit-μ-loop
-groups-fit-loop-again t c =
+meets-every-loop-again : (t : ℕ) → meets-every-lts.Need-loop-again (meets-every-calls t) (meets-every-at t) meets-every.Post meets-every-Inv-loop meets-every-μ-loop
+meets-every-loop-again t c =
     let l = c .before .before .before .before .before .before .before .before in
     let a = l .before .before .before .before .before .before .before .before .before .before in
     let R = a .pre .1 .0 .ready in
@@ -340,16 +340,16 @@ groups-fit-loop-again t c =
       f .1 ∙ i .2,
     )
 
-groups-fit-loop-less-2 : (t : ℕ) → groups-fit-lts.Need-loop-less-2 (groups-fit-calls t) (groups-fit-at t) groups-fit.Post groups-fit-Inv-loop groups-fit-μ-loop
-groups-fit-loop-less-2 t c =
+meets-every-loop-less-2 : (t : ℕ) → meets-every-lts.Need-loop-less-2 (meets-every-calls t) (meets-every-at t) meets-every.Post meets-every-Inv-loop meets-every-μ-loop
+meets-every-loop-less-2 t c =
     let l = c .before .before .before .before .before in
     let a = l .before .before .before .before .before .before .before .before .before .before in
     let R = a .pre .1 .0 .ready in
     let i = l .loop .inv in
     walk-falls (R .index .chains) _ (i .0) (c .before .before .before .before .if1 .left) (c .before .before .before .previous-of .ensures)
 
-groups-fit-loop-again-2 : (t : ℕ) → groups-fit-lts.Need-loop-again-2 (groups-fit-calls t) (groups-fit-at t) groups-fit.Post groups-fit-Inv-loop groups-fit-μ-loop
-groups-fit-loop-again-2 t c =
+meets-every-loop-again-2 : (t : ℕ) → meets-every-lts.Need-loop-again-2 (meets-every-calls t) (meets-every-at t) meets-every.Post meets-every-Inv-loop meets-every-μ-loop
+meets-every-loop-again-2 t c =
     let l = c .before .before .before .before .before in
     let a = l .before .before .before .before .before .before .before .before .before .before in
     let R = a .pre .1 .0 .ready in
@@ -364,15 +364,15 @@ groups-fit-loop-again-2 t c =
       i .2,
     )
 
-groups-fit-returns : (t : ℕ) → groups-fit-lts.Need-returns (groups-fit-calls t) (groups-fit-at t) groups-fit.Post groups-fit-Inv-loop groups-fit-μ-loop
-groups-fit-returns t c =
+meets-every-returns : (t : ℕ) → meets-every-lts.Need-returns (meets-every-calls t) (meets-every-at t) meets-every.Post meets-every-Inv-loop meets-every-μ-loop
+meets-every-returns t c =
     let l = c .before in
     let a = l .before .before .before .before .before .before .before .before .before .before in
     let i = l .loop .inv in
     (sym (i .1 ∙ all-ends (bucketOf Specimen (a .args .most) (entriesOf (a .args .s .now))) (ownFits (a .args .left - 1) (entriesOf (a .args .s .now)) (entriesOf (a .args .d .now)) (a .args .e) (a .args .g) (nth (entriesOf (a .args .d .now)) (a .args .e) .name)) _ (c .if1 .taken)), i .2)
 
-groups-fit-returns-2 : (t : ℕ) → groups-fit-lts.Need-returns-2 (groups-fit-calls t) (groups-fit-at t) groups-fit.Post groups-fit-Inv-loop groups-fit-μ-loop
-groups-fit-returns-2 t c =
+meets-every-returns-2 : (t : ℕ) → meets-every-lts.Need-returns-2 (meets-every-calls t) (meets-every-at t) meets-every.Post meets-every-Inv-loop meets-every-μ-loop
+meets-every-returns-2 t c =
     let l = c .before .before .before .before .before .before .before .before in
     let a = l .before .before .before .before .before .before .before .before .before .before in
     let i = l .loop .inv in
@@ -385,19 +385,19 @@ groups-fit-returns-2 t c =
       f .1 ∙ i .2,
     )
 
-pub +fits-place+groups-fit-spec : {M : Type 1} → statement M
-+fits-place+groups-fit-spec =
-    close μ-fits-place μ-groups-fit
+pub +fits-place+meets-every-spec : {M : Type 1} → statement M
++fits-place+meets-every-spec =
+    close μ-fits-place μ-meets-every
     (λ t. fits-place-lts.spec (fits-place-calls t) (fits-place-at t) fits-place.Post fits-place-Inv-loop fits-place-μ-loop
     (fits-place-last-of-requires t) (fits-place-loop-holds t) (fits-place-previous-of-requires t)
     (fits-place-meets-entry-requires t) (fits-place-loop-less t) (fits-place-loop-again t)
     (fits-place-previous-of-requires-2 t) (λ c κs. search needs) (fits-place-sub-left t)
     (fits-place-last-of-requires-2 t) (fits-place-loop-less-2 t) (fits-place-loop-again-2 t)
-    (fits-place-groups-fit-requires t) (fits-place-loop-less-3 t) (fits-place-loop-again-3 t) (fits-place-returns t)
+    (fits-place-meets-every-requires t) (fits-place-loop-less-3 t) (fits-place-loop-again-3 t) (fits-place-returns t)
     (fits-place-returns-2 t) (fits-place-returns-3 t))
-    (λ t. groups-fit-lts.spec (groups-fit-calls t) (groups-fit-at t) groups-fit.Post groups-fit-Inv-loop groups-fit-μ-loop
-    (groups-fit-entry-at-requires t) (λ c κs. search needs) (groups-fit-loop-holds t)
-    (groups-fit-previous-of-requires t) (groups-fit-entry-at-requires-2 t) (λ c κs. search needs)
-    (groups-fit-sub-fits-place t) (groups-fit-fits-place-requires t) (groups-fit-loop-less t)
-    (groups-fit-loop-again t) (groups-fit-loop-less-2 t) (groups-fit-loop-again-2 t) (groups-fit-returns t)
-    (groups-fit-returns-2 t))
+    (λ t. meets-every-lts.spec (meets-every-calls t) (meets-every-at t) meets-every.Post meets-every-Inv-loop meets-every-μ-loop
+    (meets-every-entry-at-requires t) (λ c κs. search needs) (meets-every-loop-holds t)
+    (meets-every-previous-of-requires t) (meets-every-entry-at-requires-2 t) (λ c κs. search needs)
+    (meets-every-sub-fits-place t) (meets-every-fits-place-requires t) (meets-every-loop-less t)
+    (meets-every-loop-again t) (meets-every-loop-less-2 t) (meets-every-loop-again-2 t) (meets-every-returns t)
+    (meets-every-returns-2 t))
