@@ -1,6 +1,6 @@
 -- With a dictionary that is not of length 0: the answers for what is unfolded, from the buffers that it stands in.
 -- Assumes nothing.
-use Prim.Native.Nat.{_%_, _*_, _+_, _<_, _≤_, ℕ}
+use Prim.Native.Nat.{_%_, _*_, _+_, _-_, _<_, _≤_, ℕ}
 use lib.Dec.{eqb, ltb}
 use lib.ListN.{drop, length, take}
 use lib.Seq.{take-at}
@@ -8,7 +8,7 @@ use mathlib.Core.Bool.{false}
 use mathlib.Core.List.{List, [], _++_, _∷_}
 use mathlib.Core.Path.{_∙_, _≡_, ap, refl, sym}
 use native.Mathlib.Omega.{arith}
-use Rattle.base.proofs.Tests.{bool-cases, tests}
+use Rattle.base.proofs.Tests.{bool-cases, ge-ltb, tests}
 use Rattle.blocks.proofs.Refusing.Readings.{reading-cases, refused-finding}
 use Rattle.blocks.proofs.RoundTrip.Decoding.{length-encode}
 use Rattle.blocks.specs.Encoding.{blocksFor, encode}
@@ -33,7 +33,7 @@ use Rattle.names.specs.Unfold.{unfoldedBy}
 use Rattle.normal.specs.Answer.{normaliseOf, normalisedOf}
 use Rattle.normal.specs.declared.NormalAnswer.the-variants as answered
 use Rattle.pairs.specs.Pairs.{pairsReading}
-use Rattle.unfolding.specs.Answer.{bothOf, bufferOf, secondBuffer}
+use Rattle.unfolding.specs.Answer.{bothBy, bothOf, secondAfter, unfoldAt, unfoldedAt}
 use Rattle.unfolding.specs.declared.Unfolded.the-variants as unfolded
 
 -- ---- what stands in a buffer
@@ -57,13 +57,28 @@ module _ (D : List ℕ) (i : ℕ) (s : List ℕ) {n : ℕ} (e : unfoldingOf D i 
   pub unfolded-few : n ≤ 1008
   unfolded-few = both-accepted (λ m k q w. omega (arith, unfolded-count, small-of (unfoldedBy (dictionaryOf D) (entriesOf s)) (taken-not-large (dictionaryOf D) i s w) .size))
 
+  -- a buffer of 16 blocks is never too short
+  room : (buffer : List ℕ) → 8192 ≤ length buffer → 512 * blocksFor plain n ≤ length buffer
+  unfolding blocksFor
+  room buffer h = omega (arith, unfolded-few)
+
   -- the blocks of so many entries are the plain description
-  pub buffer-plain : (buffer : List ℕ) {after : List ℕ} → after ≡ bufferOf D i s buffer → take (512 * blocksFor plain n) after ≡ plainOf D s
-  unfolding bufferOf plainOf
-  buffer-plain buffer q =
+  pub buffer-plain : (buffer : List ℕ) → 8192 ≤ length buffer → {after : List ℕ} {k : ℕ} → after ≡ unfoldedAt D i s buffer → k ≡ 512 * blocksFor plain n
+      → take (k - 0) after ≡ plainOf D s
+  unfolding unfoldAt unfoldedAt plainOf
+  buffer-plain buffer h q g =
+      let z : 512 * blocksFor plain n - 0 ≡ 512 * blocksFor plain n = omega arith in
       let es = unfoldedBy (dictionaryOf D) (entriesOf s) in
       let size : length (encode es) ≡ 512 * blocksFor plain n = length-encode es ∙ ap (λ (k : ℕ). 512 * blocksFor plain k) (sym unfolded-count) in
-      rw (q, e) (take-at (encode es) (drop (length (encode es)) buffer) (512 * blocksFor plain n) size)
+      rw (g, z, q, e, ge-ltb (room buffer h)) (take-at (encode es) (drop (length (encode es)) buffer) (512 * blocksFor plain n) size)
+
+-- what is answered for a buffer is what is read
+pub at-buffer : (D : List ℕ) (i : ℕ) (s buffer : List ℕ) → 8192 ≤ length buffer → unfoldAt D i s buffer ≡ unfoldingOf D i s
+unfolding unfoldAt
+at-buffer D i s buffer h =
+    reading-cases (unfoldingOf D i s)
+    (λ k j p q. rw q)
+    (λ n q. rw (q, ge-ltb (room D i s q buffer h)))
 
 sent-plain : (D s : List ℕ) → 0 < length D → sentOf D s ≡ plainOf D s
 unfolding sentOf
@@ -89,8 +104,8 @@ normal-list P D d out e = (rw e, rw e)
 -- ---- the comparison
 
 module _ (P D : List ℕ) (some : 0 < length D) (T : ListTaken P) (c d out : List ℕ) where
-  pub comparison-refused : {k i p : ℕ} → bothOf D c d ≡ unfolded.Refused k i p → (comparison.Refused k i p ≡ compareNamed P D c d out) × (out ≡ outputNamed P D c d out)
-  unfolding compareNamed outputNamed bothOf
+  pub comparison-refused : {k i p : ℕ} → bothBy (unfoldingOf D 1 c) (unfoldingOf D 2 d) ≡ unfolded.Refused k i p → (comparison.Refused k i p ≡ compareNamed P D c d out) × (out ≡ outputNamed P D c d out)
+  unfolding compareNamed outputNamed
   comparison-refused {k} {i} {p} e =
       let t = T .taken in
       reading-cases (unfoldingOf D 1 c)
@@ -102,8 +117,7 @@ module _ (P D : List ℕ) (some : 0 < length D) (T : ListTaken P) (c d out : Lis
       (λ m h. let z : unfolded.Both n m ≡ unfolded.Refused k i p = rw (f, h) at e in let y : _≡_ {A = ℕ} 0 1 = cc in absurd (omega arith)))
 
   -- both are accepted
-  pub both-taken : {n m : ℕ} → bothOf D c d ≡ unfolded.Both n m → (unfoldingOf D 1 c ≡ Accepted n) × (unfoldingOf D 2 d ≡ Accepted m)
-  unfolding bothOf
+  pub both-taken : {n m : ℕ} → bothBy (unfoldingOf D 1 c) (unfoldingOf D 2 d) ≡ unfolded.Both n m → (unfoldingOf D 1 c ≡ Accepted n) × (unfoldingOf D 2 d ≡ Accepted m)
   both-taken {n} {m} e =
       reading-cases (unfoldingOf D 1 c)
       (λ k i p f. let z : unfolded.Refused k i p ≡ unfolded.Both n m = rw f at e in let y : _≡_ {A = ℕ} 0 1 = cc in absurd (omega arith))
@@ -117,10 +131,15 @@ module _ (P D : List ℕ) (some : 0 < length D) (T : ListTaken P) (c d out : Lis
   unfolding compareNamed outputNamed
   comparison-goes e f = let t = T .taken in let x = sent-plain D c some in let y = sent-plain D d some in (rw (t, e, f, x, y), rw (t, e, f, x, y))
 
-  -- the second buffer, where the first is accepted
-  pub second-is : {n : ℕ} → unfoldingOf D 1 c ≡ Accepted n → (b : List ℕ) → secondBuffer D c d b ≡ bufferOf D 2 d b
-  unfolding secondBuffer
-  second-is e b = rw e
+-- what is answered for two buffers, and what the second has where the first is accepted
+module _ (D c d a b : List ℕ) (ha : 8192 ≤ length a) (hb : 8192 ≤ length b) where
+  pub both-buffers : bothOf D c d a b ≡ bothBy (unfoldingOf D 1 c) (unfoldingOf D 2 d)
+  unfolding bothOf
+  both-buffers = rw (at-buffer D 1 c a ha, at-buffer D 2 d b hb)
+
+  pub second-is : {n : ℕ} → unfoldingOf D 1 c ≡ Accepted n → secondAfter D c d a b ≡ unfoldedAt D 2 d b
+  unfolding secondAfter
+  second-is e = rw (at-buffer D 1 c a ha, e)
 
 pub comparison-list : (P D c d out : List ℕ) {k i p : ℕ} → pairsReading P ≡ Refused k i p
     → (comparison.Refused k i p ≡ compareNamed P D c d out) × (out ≡ outputNamed P D c d out)

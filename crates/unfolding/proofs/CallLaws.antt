@@ -24,7 +24,7 @@ use Rattle.names.specs.NamedReading.{dictionaryOf, dictionaryReading, namedRead
 use Rattle.names.specs.Promise.{LegalNamed}
 use Rattle.names.specs.Unfold.{unfoldedBy}
 use Rattle.unfolding.proofs.RowLaws.{row-bytes, rows-length}
-use Rattle.unfolding.specs.Answer.{bothOf, bufferOf, over, secondBuffer, shortBy, unfoldOf, unfoldedOf}
+use Rattle.unfolding.specs.Answer.{bothOf, over, secondAfter, shortBy, unfoldAt, unfoldedAt}
 use Rattle.unfolding.specs.code.Known.{MeasuredBy}
 use Rattle.unfolding.specs.code.Rows.{entriesIn, entryOfRow}
 use Rattle.unfolding.specs.declared.Measured.the-variants.{Refused, Taken}
@@ -138,41 +138,18 @@ module _ (D : List ℕ) (i : ℕ) (s : List ℕ) {r : Reading} (e : r ≡ dictio
   unfolding unfoldingOf
   dictionary-goes q = rw (← e, q)
 
--- a buffer of 16 blocks is never too short
-pub never-short : (K : List (List Entry)) (i : ℕ) (s out : List ℕ) → 8192 ≤ length out → shortBy out (namedUnfolding K i s) ≡ namedUnfolding K i s
-unfolding blocksFor
-never-short K i s out h =
-    reading-cases (namedUnfolding K i s)
-    (λ k j p q. rw q)
-    (λ n q. let f = unfolds-few K i s refl q in rw (q, ge-ltb (room n out f h)))
-  where
-    room : (n : ℕ) (out : List ℕ) → n ≤ 1008 → 8192 ≤ length out → 512 * blocksFor plain n ≤ length out
-    room n out f h = omega arith
-
 -- ---- the answers
 
-module _ (D s out : List ℕ) where
-  pub unfold-stops : {k j p : ℕ} → unfoldingOf D 1 s ≡ reading.Refused k j p → (reading.Refused k j p ≡ unfoldOf D s out) × (out ≡ unfoldedOf D s out)
-  unfolding unfoldOf unfoldedOf
+module _ (D : List ℕ) (i : ℕ) (s out : List ℕ) where
+  pub unfold-stops : {k j p : ℕ} → unfoldingOf D i s ≡ reading.Refused k j p → (reading.Refused k j p ≡ unfoldAt D i s out) × (out ≡ unfoldedAt D i s out)
+  unfolding unfoldAt unfoldedAt
   unfold-stops e = (rw e, rw e)
 
-  pub unfold-goes : {r : Reading} {after : List ℕ} → unfoldingOf D 1 s ≡ namedUnfolding (dictionaryOf D) 1 s → r ≡ shortBy out (namedUnfolding (dictionaryOf D) 1 s)
-      → after ≡ unlessRefused (λ k i p. out) r (over (plainOf D s) out) → (r ≡ unfoldOf D s out) × (after ≡ unfoldedOf D s out)
-  unfolding unfoldOf unfoldedOf
-  unfold-goes {r} e q w = let a : r ≡ unfoldOf D s out = q ∙ ap (shortBy out) (sym e) in (a, w ∙ ap (λ (x : Reading). unlessRefused (λ k i p. out) x (over (plainOf D s) out)) a)
-
-module _ (D : List ℕ) (i : ℕ) (s out : List ℕ) where
-  pub buffer-stops : {k j p : ℕ} → unfoldingOf D i s ≡ reading.Refused k j p → out ≡ bufferOf D i s out
-  unfolding bufferOf
-  buffer-stops e = rw e
-
-  -- what is written to a buffer
-  pub buffer-goes : {r : Reading} {after : List ℕ} → 8192 ≤ length out → unfoldingOf D i s ≡ namedUnfolding (dictionaryOf D) i s
-      → r ≡ shortBy out (namedUnfolding (dictionaryOf D) i s) → after ≡ unlessRefused (λ k i p. out) r (over (plainOf D s) out)
-      → (r ≡ unfoldingOf D i s) × (after ≡ bufferOf D i s out)
-  unfolding bufferOf
-  buffer-goes {r} h e q w =
-      let a : r ≡ unfoldingOf D i s = q ∙ never-short (dictionaryOf D) i s out h ∙ sym e in
+  pub unfold-goes : {r : Reading} {after : List ℕ} → unfoldingOf D i s ≡ namedUnfolding (dictionaryOf D) i s → r ≡ shortBy out (namedUnfolding (dictionaryOf D) i s)
+      → after ≡ unlessRefused (λ k i p. out) r (over (plainOf D s) out) → (r ≡ unfoldAt D i s out) × (after ≡ unfoldedAt D i s out)
+  unfolding unfoldAt unfoldedAt
+  unfold-goes {r} e q w =
+      let a : r ≡ unfoldAt D i s out = q ∙ ap (shortBy out) (sym e) in
       (a, w ∙ ap (λ (x : Reading). unlessRefused (λ k i p. out) x (over (plainOf D s) out)) a)
 
 -- how many descriptions there are
@@ -184,25 +161,25 @@ dictionary-count D e = e ∙ sym (length-map (partsOf D) entriesOf)
 module _ (D c d a b : List ℕ) where
   -- nothing is unfolded
   pub both-stops : {k j p : ℕ} → unfoldingOf D 1 c ≡ reading.Refused k j p
-      → (unfolded.Refused k j p ≡ bothOf D c d) × ((a ≡ bufferOf D 1 c a) × (b ≡ secondBuffer D c d b))
-  unfolding bothOf bufferOf secondBuffer
+      → (unfolded.Refused k j p ≡ bothOf D c d a b) × ((a ≡ unfoldedAt D 1 c a) × (b ≡ secondAfter D c d a b))
+  unfolding bothOf unfoldAt unfoldedAt secondAfter
   both-stops e = (rw e, (rw e, rw e))
 
   -- the first is refused
-  pub both-first : {r : Reading} {k j p : ℕ} → r ≡ unfoldingOf D 1 c → r ≡ reading.Refused k j p → (unfolded.Refused k j p ≡ bothOf D c d) × (b ≡ secondBuffer D c d b)
-  unfolding bothOf secondBuffer
+  pub both-first : {r : Reading} {k j p : ℕ} → r ≡ unfoldAt D 1 c a → r ≡ reading.Refused k j p → (unfolded.Refused k j p ≡ bothOf D c d a b) × (b ≡ secondAfter D c d a b)
+  unfolding bothOf secondAfter
   both-first e q = let f = sym e ∙ q in (rw f, rw f)
 
-  module _ {r : Reading} {n : ℕ} (e : r ≡ unfoldingOf D 1 c) (q : r ≡ reading.Accepted n) {after : List ℕ} (w : after ≡ bufferOf D 2 d b) where
-    there : after ≡ secondBuffer D c d b
-    unfolding secondBuffer
+  module _ {r : Reading} {n : ℕ} (e : r ≡ unfoldAt D 1 c a) (q : r ≡ reading.Accepted n) {after : List ℕ} (w : after ≡ unfoldedAt D 2 d b) where
+    there : after ≡ secondAfter D c d a b
+    unfolding secondAfter
     there = let f = sym e ∙ q in w ∙ rw f
 
     -- the second is
-    pub both-second : {t : Reading} {k j p : ℕ} → t ≡ unfoldingOf D 2 d → t ≡ reading.Refused k j p → (unfolded.Refused k j p ≡ bothOf D c d) × (after ≡ secondBuffer D c d b)
+    pub both-second : {t : Reading} {k j p : ℕ} → t ≡ unfoldAt D 2 d b → t ≡ reading.Refused k j p → (unfolded.Refused k j p ≡ bothOf D c d a b) × (after ≡ secondAfter D c d a b)
     unfolding bothOf
     both-second g h = let f = sym e ∙ q in let f′ = sym g ∙ h in (rw (f, f′), there)
 
-    pub both-unfolded : {t : Reading} {m : ℕ} → t ≡ unfoldingOf D 2 d → t ≡ reading.Accepted m → (unfolded.Both n m ≡ bothOf D c d) × (after ≡ secondBuffer D c d b)
+    pub both-unfolded : {t : Reading} {m : ℕ} → t ≡ unfoldAt D 2 d b → t ≡ reading.Accepted m → (unfolded.Both n m ≡ bothOf D c d a b) × (after ≡ secondAfter D c d a b)
     unfolding bothOf
     both-unfolded g h = let f = sym e ∙ q in let f′ = sym g ∙ h in (rw (f, f′), there)

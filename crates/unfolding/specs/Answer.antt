@@ -18,34 +18,31 @@ use Rattle.unfolding.specs.declared.Unfolded.{Unfolded}
 abbrev pub over : List ℕ → List ℕ → List ℕ
 over bytes out = bytes ++ drop (length bytes) out
 
--- ---- into a buffer that has room for every description
-
--- the buffer after a description, unless something is refused
-unfoldable pub bufferOf : List ℕ → ℕ → List ℕ → List ℕ → List ℕ
-bufferOf D i s out = unlessRefused (λ k i p. out) (unfoldingOf D i s) (over (plainOf D s) out)
-
--- two descriptions, inputs 1 and 2: the first refusal, or how many entries each has once unfolded
-abbrev pub bothBy : Reading → Reading → Unfolded
-bothBy (Refused k i p) r = unfolded.Refused k i p
-bothBy (Accepted n) (Refused k i p) = unfolded.Refused k i p
-bothBy (Accepted n) (Accepted m) = unfolded.Both n m
-
-unfoldable pub bothOf : List ℕ → List ℕ → List ℕ → Unfolded
-bothOf D c d = bothBy (unfoldingOf D 1 c) (unfoldingOf D 2 d)
-
--- the second buffer: it stays where the first description is refused
-unfoldable pub secondBuffer : List ℕ → List ℕ → List ℕ → List ℕ → List ℕ
-secondBuffer D c d out = unlessRefused (λ k i p. out) (unfoldingOf D 1 c) (bufferOf D 2 d out)
-
--- ---- the unfolding, to any output
+-- ---- one description
 
 -- 7 exactly where the output is shorter than what would be written
 abbrev pub shortBy : List ℕ → Reading → Reading
 shortBy out (Refused k i p) = Refused k i p
 shortBy out (Accepted n) = cond (ltb (length out) (512 * blocksFor plain n)) (Refused 7 0 0) (Accepted n)
 
-unfoldable pub unfoldOf : List ℕ → List ℕ → List ℕ → Reading
-unfoldOf D s out = shortBy out (unfoldingOf D 1 s)
+-- unfolding input i to an output: a refusal, or how many entries are written; and the output after it
+unfoldable pub unfoldAt : List ℕ → ℕ → List ℕ → List ℕ → Reading
+unfoldAt D i s out = shortBy out (unfoldingOf D i s)
 
-unfoldable pub unfoldedOf : List ℕ → List ℕ → List ℕ → List ℕ
-unfoldedOf D s out = unlessRefused (λ k i p. out) (unfoldOf D s out) (over (plainOf D s) out)
+unfoldable pub unfoldedAt : List ℕ → ℕ → List ℕ → List ℕ → List ℕ
+unfoldedAt D i s out = unlessRefused (λ k i p. out) (unfoldAt D i s out) (over (plainOf D s) out)
+
+-- ---- two descriptions
+
+-- inputs 1 and 2, to two outputs: the first refusal, or how many entries are written to each
+abbrev pub bothBy : Reading → Reading → Unfolded
+bothBy (Refused k i p) r = unfolded.Refused k i p
+bothBy (Accepted n) (Refused k i p) = unfolded.Refused k i p
+bothBy (Accepted n) (Accepted m) = unfolded.Both n m
+
+unfoldable pub bothOf : List ℕ → List ℕ → List ℕ → List ℕ → List ℕ → Unfolded
+bothOf D c d a b = bothBy (unfoldAt D 1 c a) (unfoldAt D 2 d b)
+
+-- the second output: it stays where the first is not written
+unfoldable pub secondAfter : List ℕ → List ℕ → List ℕ → List ℕ → List ℕ → List ℕ
+secondAfter D c d a b = unlessRefused (λ k i p. b) (unfoldAt D 1 c a) (unfoldedAt D 2 d b)

@@ -1,4 +1,4 @@
-// The calls: into a buffer that has room for every description, into two, and to any output.
+// The calls: one description, and two under one dictionary.
 ghost use mathlib.Core.Path.{_≡_};
 ghost use Prim.Native.Nat.{ℕ};
 ghost use lib.ListN.{length};
@@ -6,9 +6,9 @@ ghost use Rattle.blocks.specs.Encoding.{bytesWritten, written};
 ghost use Rattle.blocks.specs.Entries.{entriesOf};
 ghost use Rattle.blocks.specs.Reading.{unlessRefused};
 ghost use Rattle.blocks.specs.declared.Reading.{Reading};
-ghost use Rattle.names.specs.NamedReading.{dictionaryOf, dictionaryReading, namedUnfolding, plainOf, unfoldingOf};
+ghost use Rattle.names.specs.NamedReading.{dictionaryOf, dictionaryReading, namedUnfolding, plainOf};
 ghost use Rattle.names.specs.Unfold.{unfoldedBy};
-ghost use Rattle.unfolding.specs.Answer.{bothOf, bufferOf, over, secondBuffer, shortBy, unfoldOf, unfoldedOf};
+ghost use Rattle.unfolding.specs.Answer.{bothOf, over, secondAfter, shortBy, unfoldAt, unfoldedAt};
 ghost use Rattle.unfolding.specs.code.Known.{Known, Ready};
 ghost use Rattle.unfolding.specs.code.Rows.{entriesIn};
 use crate::Measured;
@@ -86,25 +86,11 @@ fn write_unfolded(
     }
 }
 
-// The unfolding: reads a dictionary and a description, input 1, and writes the plain description that it stands for in blocks from the
-// start of the output; returns its number of entries. Later bytes stay. Where anything is refused, or the output is shorter than what would
-// be written, the refusal is returned and no byte changes.
-pub fn unfold(dictionary: &[u8], d: &[u8], out: &mut [u8]) -> Reading
-    ensures { λ r. ⌜ (r ≡ unfoldOf (now (dictionary .entry)) (now (d .entry)) (now (out .entry))) × (now (out .exit) ≡ unfoldedOf (now (dictionary .entry)) (now (d .entry)) (now (out .entry))) ⌝ }
-{
-    let mut size = [0u16; 65];
-    let mut levels = [0u8; 65];
-    let mut rows = [0u64; 1008];
-    let reading = read_dictionary(dictionary, &mut size, &mut levels, &mut rows);
-    match reading {
-        Reading::Refused(number, i, place) => Reading::Refused(number, i, place),
-        Reading::Accepted(most) => write_unfolded(dictionary, most, &size, &levels, d, 1, out),
-    }
-}
-
-// The same for an input of any number, into a buffer that has room for every description: for a call that goes on from there.
-pub fn unfold_into(dictionary: &[u8], d: &[u8], input: u16, out: &mut [u8; 8192]) -> Reading
-    ensures { λ r. ⌜ (r ≡ unfoldingOf (now (dictionary .entry)) input (now (d .entry))) × (now (out .exit) ≡ bufferOf (now (dictionary .entry)) input (now (d .entry)) (now (out .entry))) ⌝ }
+// Reads a dictionary and a description, an input of any number, and writes the plain description that it stands for in blocks from the start
+// of an output; returns its number of entries. Later bytes stay. Where anything is refused, or the output is shorter than what would be
+// written, the refusal is returned and no byte changes. An output of 8,192 bytes is never too short.
+pub fn unfold_into(dictionary: &[u8], d: &[u8], input: u16, out: &mut [u8]) -> Reading
+    ensures { λ r. ⌜ (r ≡ unfoldAt (now (dictionary .entry)) input (now (d .entry)) (now (out .entry))) × (now (out .exit) ≡ unfoldedAt (now (dictionary .entry)) input (now (d .entry)) (now (out .entry))) ⌝ }
 {
     let mut size = [0u16; 65];
     let mut levels = [0u8; 65];
@@ -118,6 +104,13 @@ pub fn unfold_into(dictionary: &[u8], d: &[u8], input: u16, out: &mut [u8; 8192]
     }
 }
 
+// The unfolding: the same for input 1.
+pub fn unfold(dictionary: &[u8], d: &[u8], out: &mut [u8]) -> Reading
+    ensures { λ r. ⌜ (r ≡ unfoldAt (now (dictionary .entry)) 1 (now (d .entry)) (now (out .entry))) × (now (out .exit) ≡ unfoldedAt (now (dictionary .entry)) 1 (now (d .entry)) (now (out .entry))) ⌝ }
+{
+    unfold_into(dictionary, d, 1, out)
+}
+
 // Two descriptions, inputs 1 and 2, under a dictionary that is accepted.
 fn unfold_two(
     dictionary: &[u8],
@@ -126,13 +119,13 @@ fn unfold_two(
     levels: &[u8; 65],
     c: &[u8],
     d: &[u8],
-    a: &mut [u8; 8192],
-    b: &mut [u8; 8192],
+    a: &mut [u8],
+    b: &mut [u8],
 ) -> Unfolded
     requires { ⌜ Known (dictionaryOf (now dictionary)) (now size) (now levels) × Ready (now dictionary) (now size) × (most ≡ length (dictionaryOf (now dictionary)))
         × (dictionaryReading (now dictionary) ≡ Reading.Accepted most) ⌝ }
-    ensures { λ r. ⌜ (r ≡ bothOf (now (dictionary .entry)) (now (c .entry)) (now (d .entry))) × (now (a .exit) ≡ bufferOf (now (dictionary .entry)) 1 (now (c .entry)) (now (a .entry)))
-        × (now (b .exit) ≡ secondBuffer (now (dictionary .entry)) (now (c .entry)) (now (d .entry)) (now (b .entry))) ⌝ }
+    ensures { λ r. ⌜ (r ≡ bothOf (now (dictionary .entry)) (now (c .entry)) (now (d .entry)) (now (a .entry)) (now (b .entry))) × (now (a .exit) ≡ unfoldedAt (now (dictionary .entry)) 1 (now (c .entry)) (now (a .entry)))
+        × (now (b .exit) ≡ secondAfter (now (dictionary .entry)) (now (c .entry)) (now (d .entry)) (now (a .entry)) (now (b .entry))) ⌝ }
 {
     let first = write_unfolded(dictionary, most, size, levels, c, 1, a);
     match first {
@@ -147,16 +140,10 @@ fn unfold_two(
     }
 }
 
-// Unfolds two descriptions, inputs 1 and 2, into two buffers; the dictionary is read once.
-pub fn unfold_both(
-    dictionary: &[u8],
-    c: &[u8],
-    d: &[u8],
-    a: &mut [u8; 8192],
-    b: &mut [u8; 8192],
-) -> Unfolded
-    ensures { λ r. ⌜ (r ≡ bothOf (now (dictionary .entry)) (now (c .entry)) (now (d .entry))) × (now (a .exit) ≡ bufferOf (now (dictionary .entry)) 1 (now (c .entry)) (now (a .entry)))
-        × (now (b .exit) ≡ secondBuffer (now (dictionary .entry)) (now (c .entry)) (now (d .entry)) (now (b .entry))) ⌝ }
+// Unfolds two descriptions, inputs 1 and 2, to two outputs; the dictionary is read once.
+pub fn unfold_both(dictionary: &[u8], c: &[u8], d: &[u8], a: &mut [u8], b: &mut [u8]) -> Unfolded
+    ensures { λ r. ⌜ (r ≡ bothOf (now (dictionary .entry)) (now (c .entry)) (now (d .entry)) (now (a .entry)) (now (b .entry))) × (now (a .exit) ≡ unfoldedAt (now (dictionary .entry)) 1 (now (c .entry)) (now (a .entry)))
+        × (now (b .exit) ≡ secondAfter (now (dictionary .entry)) (now (c .entry)) (now (d .entry)) (now (a .entry)) (now (b .entry))) ⌝ }
 {
     let mut size = [0u16; 65];
     let mut levels = [0u8; 65];
