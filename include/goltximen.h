@@ -68,15 +68,15 @@
  *
  * Stack. The most that each call took of the caller's stack, on the inputs that lead furthest down (`make stack` measures it):
  *
- *     gx_read_description   24,744 bytes
- *     gx_read_specimen      24,744 bytes
- *     gx_fit                78,696 bytes
- *     gx_fit_counted        69,960 bytes
- *     gx_normal             72,264 bytes
- *     gx_compare            69,000 bytes
- *     gx_fit_with           78,728 bytes
- *     gx_normal_with        72,312 bytes
- *     gx_compare_with       69,064 bytes
+ *     gx_read_description   24,760 bytes
+ *     gx_read_specimen      24,760 bytes
+ *     gx_fit                78,712 bytes
+ *     gx_fit_counted        69,976 bytes
+ *     gx_normal             72,280 bytes
+ *     gx_compare            69,016 bytes
+ *     gx_fit_with           78,744 bytes
+ *     gx_normal_with        72,328 bytes
+ *     gx_compare_with       69,080 bytes
  *
  * The library calls memset and memcpy; a program that binds them at their first call took up to 1,072 bytes more there. A
  * thread with 96 KiB of stack has room for each call.
