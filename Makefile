@@ -44,6 +44,8 @@ outside: lib
 	test "$$(target/c/build | tail -n 1)" = "normal form of 3 entries: 5,0,1,0 3,1,2,1 4,1,2,1"
 	$(CC) $(CFLAGS) examples/excluding.c target/staticlib/libcapi.a -o target/c/excluding
 	test "$$(target/c/excluding)" = "without the list: not contained; under it: contained"
+	$(CC) $(CFLAGS) examples/named.c target/staticlib/libcapi.a -o target/c/named
+	test "$$(target/c/named)" = "6 entries once unfolded: 5,0,1,0 1,1,7,0 2,1,8,0 5,0,2,0 1,4,7,0 2,4,8,0; contained"
 	cargo test --quiet --manifest-path rust/bindings/Cargo.toml
 	cargo test --release --quiet --manifest-path rust/differential/Cargo.toml
 	cargo test --release --quiet --manifest-path rust/bench/Cargo.toml

@@ -1,7 +1,7 @@
 /*
  * Goltximen: soil sample descriptions, what fits them, their normal form, and whether one holds another.
  *
- * The static library is target/staticlib/libcapi.a, for x86-64 Linux; `make lib` builds it. Its nine functions are proved to
+ * The static library is target/staticlib/libcapi.a, for x86-64 Linux; `make lib` builds it. Its ten functions are proved to
  * answer what is said here for all bytes and lengths, to read and write no memory but that of their slices and their own
  * stack, and to return.
  *
@@ -27,8 +27,14 @@
  * links from 32,768 up. So a place of a description with both properties of a pair is impossible, and one with the one of them
  * lacks the other. gx_fit, gx_normal and gx_compare are these calls with no pairs and no dictionary, and stay so.
  *
- * Dictionaries. The same three calls take a dictionary of named descriptions. Until named descriptions come a dictionary has
- * length 0, and any other is refused as 1, input 100, place 0.
+ * Dictionaries. The same three calls and gx_unfold take a dictionary of named descriptions: 0 to 64 descriptions laid end to
+ * end, where the first block and each later one numbered 1 begins a description; of length 0 it has none. In the descriptions
+ * that these calls take, an entry of kind 9 with name n and number 0 stands for the n-th description of the dictionary, put in at
+ * that place. A description of the dictionary may name only earlier ones. gx_unfold writes the plain description that is meant.
+ * All answers and written bytes, numbers of entries included, are those for the unfolded descriptions, and an output is measured
+ * by them too; one of them has at most GX_BYTES(1008) bytes. The limit of 16 blocks is about a description as it is sent. gx_fit,
+ * gx_fit_counted, gx_normal and gx_compare have a dictionary of length 0, so they refuse every name with 13; the two readers take
+ * no dictionary and refuse kind 9 with 4.
  *
  * The answer is one number of 64 bits, answer + 256 * number + 65,536 * first + 4,294,967,296 * second:
  *
@@ -42,12 +48,14 @@
  *     yes, counted    1            0                   additions: the walk   additions: the table
  *     no, counted     2            0                   additions: the walk   additions: the table
  *
- * The refusals, of which the first that applies is answered: 11 before all others, then the dictionary's, then those of input 1,
- * those of input 2, and 7 last. In one input 1, then the lowest block that breaks 2 or 3, 2 before 3, then the lowest entry that
- * breaks 4, 5, 6 or 9, in that order, and 12 after all of these:
+ * The refusals, of which the first that applies is answered: 11 before all others, then the dictionary's, which are 1, 8 and then
+ * those of its descriptions, one after the other, then those of input 1, those of input 2, and 7 last. In one input 1, then the
+ * lowest block that breaks 2 or 3, 2 before 3, then the lowest entry that breaks 4, 13, 5, 6 or 9, in that order, and 12 or 14
+ * after all of these:
  *
  *     number   when                                                                              place
- *     1        an input's length is 0, no multiple of 512, or over the limit                     0
+ *     1        an input's length is 0, no multiple of 512, or over the limit; of a dictionary
+ *              only: it is no multiple of 512                                                    0
  *     2        a block's first check (bytes 510-511) or second (bytes 508-509) is wrong          block
  *     3        a block's number or used count is wrong, or a byte of its unused entries is
  *              not zero                                                                          block
@@ -57,29 +65,35 @@
  *              entry of kind 5 (description) or 7 (specimen)                                     entry
  *     6        an entry's depth is over 32                                                       entry
  *     7        the output is too short                                                           0
+ *     8        a dictionary has more than 64 descriptions                                        0
  *     9        a specimen's group brings its owner a second item by a link from 32,768 up        entry
  *     11       the length of a list of pairs is no multiple of 4, or over 64 pairs               0
  *              otherwise: a pair has a 0 or two equal numbers; the lowest such pair              pair
  *     12       a specimen has an item with both properties of a pair; the lowest entry that
  *              completes one: its owner has the other property from an earlier entry             entry
+ *     13       the name of an entry of kind 9 is 0 or above the number of descriptions in the
+ *              dictionary, or in the dictionary not that of an earlier description               entry
+ *     14       a description, in the dictionary or not, has more than 1,008 entries or an entry
+ *              of depth over 32 once unfolded                                                    0
  *
  * Blocks, entries and pairs count from 1. The input is 1 or 2, in the order of the arguments after pairs and dict; it is 0 for
- * numbers 7 and 11, and 100 for a dictionary.
+ * numbers 7 and 11, 100 for a dictionary and 100 + n for its n-th description.
  *
  * Stack. The most that each call took of the caller's stack, on the inputs that lead furthest down (`make stack` measures it):
  *
  *     gx_read_description   24,760 bytes
  *     gx_read_specimen      24,760 bytes
- *     gx_fit                78,712 bytes
+ *     gx_fit                70,024 bytes
  *     gx_fit_counted        69,976 bytes
- *     gx_normal             72,280 bytes
- *     gx_compare            69,016 bytes
- *     gx_fit_with           78,744 bytes
- *     gx_normal_with        72,328 bytes
- *     gx_compare_with       69,080 bytes
+ *     gx_normal             72,312 bytes
+ *     gx_compare            69,128 bytes
+ *     gx_unfold             61,692 bytes
+ *     gx_fit_with           86,536 bytes
+ *     gx_normal_with        88,856 bytes
+ *     gx_compare_with       94,008 bytes
  *
  * The library calls memset and memcpy; a program that binds them at their first call took up to 1,072 bytes more there. A
- * thread with 96 KiB of stack has room for each call.
+ * thread with 128 KiB of stack has room for each call.
  */
 #ifndef GOLTXIMEN_H
 #define GOLTXIMEN_H
@@ -146,25 +160,35 @@ uint64_t gx_normal(const uint8_t *d, size_t d_len, uint8_t *out, size_t out_len)
 uint64_t gx_compare(const uint8_t *c, size_t c_len, const uint8_t *d, size_t d_len, uint8_t *out, size_t out_len);
 
 /*
- * gx_fit under a list of pairs. What fits is as without a list; but a specimen that does not keep the list is refused with 12,
- * after its other checks and before those of d.
+ * Writes the plain description that d, input 1, stands for with a dictionary, in blocks from the start of out: a count, the
+ * number of entries written; or refused. Each named entry is replaced by the contents of the description that it names, which is
+ * unfolded itself, in their order; what stands at the top there is then owned by the owner of the named entry. Later bytes of out
+ * stay. Refused with 7 where out is shorter than what would be written; GX_BYTES(1008) bytes are always enough. Where refused, out
+ * is unchanged.
+ */
+uint64_t gx_unfold(const uint8_t *dict, size_t dict_len, const uint8_t *d, size_t d_len, uint8_t *out, size_t out_len);
+
+/*
+ * gx_fit under a list of pairs and with a dictionary. What fits is as without a list; but a specimen that does not keep the list
+ * is refused with 12, after its other checks and before those of d.
  */
 uint64_t gx_fit_with(const uint8_t *pairs, size_t pairs_len, const uint8_t *dict, size_t dict_len, const uint8_t *s,
                      size_t s_len, const uint8_t *d, size_t d_len);
 
 /*
- * gx_normal under a list of pairs: in every finite record that keeps the list and the rule on links from 32,768 up, the same
- * items fit both. A place with both properties of a pair is impossible, as one with has and lacks of one property is; a lack is
- * left out where the same place has a property that excludes the one lacked. The normal form is its own under the same list.
- * Refused with 7 as gx_normal is.
+ * gx_normal under a list of pairs and with a dictionary: in every finite record that keeps the list and the rule on links from
+ * 32,768 up, the same items fit both. A place with both properties of a pair is impossible, as one with has and lacks of one
+ * property is; a lack is left out where the same place has a property that excludes the one lacked. The normal form is its own
+ * under the same list. Refused with 7 where out is shorter than d once unfolded.
  */
 uint64_t gx_normal_with(const uint8_t *pairs, size_t pairs_len, const uint8_t *dict, size_t dict_len, const uint8_t *d,
                         size_t d_len, uint8_t *out, size_t out_len);
 
 /*
- * gx_compare under a list of pairs: whether in every finite record that keeps the list and the rule on links from 32,768 up each
- * item that fits the description c, input 1, fits the description d, input 2. The specimen of a not contained keeps both, and
- * gx_fit_with says yes to it for c and no for d under the same list. Refused with 7 as gx_compare is.
+ * gx_compare under a list of pairs and with a dictionary: whether in every finite record that keeps the list and the rule on
+ * links from 32,768 up each item that fits the description c, input 1, fits the description d, input 2. The entry that fails is
+ * counted in d once unfolded. The specimen of a not contained keeps both, and gx_fit_with says yes to it for c and no for d under
+ * the same list and with the same dictionary. Refused with 7 where out is shorter than c and d together once unfolded.
  */
 uint64_t gx_compare_with(const uint8_t *pairs, size_t pairs_len, const uint8_t *dict, size_t dict_len, const uint8_t *c,
                          size_t c_len, const uint8_t *d, size_t d_len, uint8_t *out, size_t out_len);

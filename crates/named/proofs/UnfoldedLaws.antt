@@ -2,7 +2,7 @@
 -- Assumes nothing.
 use Prim.Native.Nat.{_%_, _*_, _+_, _-_, _<_, _≤_, ℕ}
 use lib.Dec.{eqb, ltb}
-use lib.ListN.{drop, length, take}
+use lib.ListN.{drop, length, length-append, take}
 use lib.Seq.{take-at}
 use mathlib.Core.Bool.{false}
 use mathlib.Core.List.{List, [], _++_, _∷_}
@@ -35,12 +35,13 @@ use Rattle.normal.specs.declared.NormalAnswer.the-variants as answered
 use Rattle.pairs.specs.Pairs.{pairsReading}
 use Rattle.unfolding.specs.Answer.{bothBy, bothOf, secondAfter, unfoldAt, unfoldedAt}
 use Rattle.unfolding.specs.declared.Unfolded.the-variants as unfolded
+use Rattle.unfolding.specs.declared.Unfolded.{Unfolded}
 
 -- ---- what stands in a buffer
 
 module _ (D : List ℕ) (i : ℕ) (s : List ℕ) {n : ℕ} (e : unfoldingOf D i s ≡ Accepted n) where
   -- the dictionary and the description are accepted
-  both-accepted : {X : Type 0} → ((m k : ℕ) → dictionaryReading D ≡ Accepted m → namedReading (dictionaryOf D) i s ≡ Accepted k → X) → X
+  pub both-accepted : {X : Type 0} → ((m k : ℕ) → dictionaryReading D ≡ Accepted m → namedReading (dictionaryOf D) i s ≡ Accepted k → X) → X
   unfolding unfoldingOf namedUnfolding
   both-accepted f =
       reading-cases (dictionaryReading D)
@@ -62,6 +63,10 @@ module _ (D : List ℕ) (i : ℕ) (s : List ℕ) {n : ℕ} (e : unfoldingOf D i 
   unfolding blocksFor
   room buffer h = omega (arith, unfolded-few)
 
+  -- the plain description takes as many bytes as its blocks have
+  plain-size : length (encode (unfoldedBy (dictionaryOf D) (entriesOf s))) ≡ 512 * blocksFor plain n
+  plain-size = length-encode (unfoldedBy (dictionaryOf D) (entriesOf s)) ∙ ap (λ (k : ℕ). 512 * blocksFor plain k) (sym unfolded-count)
+
   -- the blocks of so many entries are the plain description
   pub buffer-plain : (buffer : List ℕ) → 8192 ≤ length buffer → {after : List ℕ} {k : ℕ} → after ≡ unfoldedAt D i s buffer → k ≡ 512 * blocksFor plain n
       → take (k - 0) after ≡ plainOf D s
@@ -69,8 +74,13 @@ module _ (D : List ℕ) (i : ℕ) (s : List ℕ) {n : ℕ} (e : unfoldingOf D i 
   buffer-plain buffer h q g =
       let z : 512 * blocksFor plain n - 0 ≡ 512 * blocksFor plain n = omega arith in
       let es = unfoldedBy (dictionaryOf D) (entriesOf s) in
-      let size : length (encode es) ≡ 512 * blocksFor plain n = length-encode es ∙ ap (λ (k : ℕ). 512 * blocksFor plain k) (sym unfolded-count) in
-      rw (g, z, q, e, ge-ltb (room buffer h)) (take-at (encode es) (drop (length (encode es)) buffer) (512 * blocksFor plain n) size)
+      rw (g, z, q, e, ge-ltb (room buffer h)) (take-at (encode es) (drop (length (encode es)) buffer) (512 * blocksFor plain n) plain-size)
+
+  -- and they end within the buffer
+  pub buffer-ends : (buffer : List ℕ) → 8192 ≤ length buffer → {after : List ℕ} {k : ℕ} → after ≡ unfoldedAt D i s buffer → k ≡ 512 * blocksFor plain n
+      → k ≤ length after
+  unfolding unfoldAt unfoldedAt plainOf
+  buffer-ends buffer h q g = rw (g, q, e, ge-ltb (room buffer h)) (simp length-append (omega (arith, plain-size)))
 
 -- what is answered for a buffer is what is read
 pub at-buffer : (D : List ℕ) (i : ℕ) (s buffer : List ℕ) → 8192 ≤ length buffer → unfoldAt D i s buffer ≡ unfoldingOf D i s
@@ -80,7 +90,7 @@ at-buffer D i s buffer h =
     (λ k j p q. rw q)
     (λ n q. rw (q, ge-ltb (room D i s q buffer h)))
 
-sent-plain : (D s : List ℕ) → 0 < length D → sentOf D s ≡ plainOf D s
+pub sent-plain : (D s : List ℕ) → 0 < length D → sentOf D s ≡ plainOf D s
 unfolding sentOf
 sent-plain D s h = let z : eqb (length D) 0 ≡ false = omega tests in rw z
 
@@ -116,8 +126,15 @@ module _ (P D : List ℕ) (some : 0 < length D) (T : ListTaken P) (c d out : Lis
       let a : k ≡ k′ = cc in let b : i ≡ i′ = cc in let g : p ≡ p′ = cc in (rw (t, f, h, a, b, g), rw (t, f, h)))
       (λ m h. let z : unfolded.Both n m ≡ unfolded.Refused k i p = rw (f, h) at e in let y : _≡_ {A = ℕ} 0 1 = cc in absurd (omega arith)))
 
+  pub comparison-goes : {n m : ℕ} → unfoldingOf D 1 c ≡ Accepted n → unfoldingOf D 2 d ≡ Accepted m
+      → (compareOf P (plainOf D c) (plainOf D d) out ≡ compareNamed P D c d out) × (outputOf P (plainOf D c) (plainOf D d) out ≡ outputNamed P D c d out)
+  unfolding compareNamed outputNamed
+  comparison-goes e f = let t = T .taken in let x = sent-plain D c some in let y = sent-plain D d some in (rw (t, e, f, x, y), rw (t, e, f, x, y))
+
+-- what is answered for two buffers
+module _ (D c d : List ℕ) where
   -- both are accepted
-  pub both-taken : {n m : ℕ} → bothBy (unfoldingOf D 1 c) (unfoldingOf D 2 d) ≡ unfolded.Both n m → (unfoldingOf D 1 c ≡ Accepted n) × (unfoldingOf D 2 d ≡ Accepted m)
+  both-taken : {n m : ℕ} → bothBy (unfoldingOf D 1 c) (unfoldingOf D 2 d) ≡ unfolded.Both n m → (unfoldingOf D 1 c ≡ Accepted n) × (unfoldingOf D 2 d ≡ Accepted m)
   both-taken {n} {m} e =
       reading-cases (unfoldingOf D 1 c)
       (λ k i p f. let z : unfolded.Refused k i p ≡ unfolded.Both n m = rw f at e in let y : _≡_ {A = ℕ} 0 1 = cc in absurd (omega arith))
@@ -126,20 +143,29 @@ module _ (P D : List ℕ) (some : 0 < length D) (T : ListTaken P) (c d out : Lis
       (λ m′ h. let z : unfolded.Both n′ m′ ≡ unfolded.Both n m = rw (f, h) at e in
       let a : n′ ≡ n = cc in let b : m′ ≡ m = cc in (f ∙ rw a, h ∙ rw b)))
 
-  pub comparison-goes : {n m : ℕ} → unfoldingOf D 1 c ≡ Accepted n → unfoldingOf D 2 d ≡ Accepted m
-      → (compareOf P (plainOf D c) (plainOf D d) out ≡ compareNamed P D c d out) × (outputOf P (plainOf D c) (plainOf D d) out ≡ outputNamed P D c d out)
-  unfolding compareNamed outputNamed
-  comparison-goes e f = let t = T .taken in let x = sent-plain D c some in let y = sent-plain D d some in (rw (t, e, f, x, y), rw (t, e, f, x, y))
+  module _ (a b : List ℕ) (ha : 8192 ≤ length a) (hb : 8192 ≤ length b) where
+    pub both-buffers : bothOf D c d a b ≡ bothBy (unfoldingOf D 1 c) (unfoldingOf D 2 d)
+    unfolding bothOf
+    both-buffers = rw (at-buffer D 1 c a ha, at-buffer D 2 d b hb)
 
--- what is answered for two buffers, and what the second has where the first is accepted
-module _ (D c d a b : List ℕ) (ha : 8192 ≤ length a) (hb : 8192 ≤ length b) where
-  pub both-buffers : bothOf D c d a b ≡ bothBy (unfoldingOf D 1 c) (unfoldingOf D 2 d)
-  unfolding bothOf
-  both-buffers = rw (at-buffer D 1 c a ha, at-buffer D 2 d b hb)
+    -- what the second has where the first is accepted
+    second-is : {n : ℕ} → unfoldingOf D 1 c ≡ Accepted n → secondAfter D c d a b ≡ unfoldedAt D 2 d b
+    unfolding secondAfter
+    second-is e = rw (at-buffer D 1 c a ha, e)
 
-  pub second-is : {n : ℕ} → unfoldingOf D 1 c ≡ Accepted n → secondAfter D c d a b ≡ unfoldedAt D 2 d b
-  unfolding secondAfter
-  second-is e = rw (at-buffer D 1 c a ha, e)
+    module _ {r : Unfolded} {a′ b′ : List ℕ} (q : r ≡ bothOf D c d a b) (qa : a′ ≡ unfoldedAt D 1 c a) (qb : b′ ≡ secondAfter D c d a b) {n m : ℕ} (t : r ≡ unfolded.Both n m) where
+      pub both-unfolded : (unfoldingOf D 1 c ≡ Accepted n) × (unfoldingOf D 2 d ≡ Accepted m)
+      both-unfolded = both-taken (sym both-buffers ∙ sym q ∙ t)
+
+      -- they hold the plain descriptions, which end within them
+      pub first-part : {k : ℕ} → k ≡ 512 * blocksFor plain n → (take (k - 0) a′ ≡ plainOf D c) × (k ≤ length a′)
+      first-part g = let e = both-unfolded .0 in (buffer-plain D 1 c e a ha qa g, buffer-ends D 1 c e a ha qa g)
+
+      pub second-part : {k : ℕ} → k ≡ 512 * blocksFor plain m → (take (k - 0) b′ ≡ plainOf D d) × (k ≤ length b′)
+      second-part g =
+          let e = both-unfolded in
+          let y = qb ∙ second-is (e .0) in
+          (buffer-plain D 2 d (e .1) b hb y g, buffer-ends D 2 d (e .1) b hb y g)
 
 pub comparison-list : (P D c d out : List ℕ) {k i p : ℕ} → pairsReading P ≡ Refused k i p
     → (comparison.Refused k i p ≡ compareNamed P D c d out) × (out ≡ outputNamed P D c d out)
@@ -164,7 +190,7 @@ parts-input K (s ∷ ss) {k} {j} {p} e =
     omega (arith, named-input K (101 + length K) s f))
     (λ n f. parts-input (K ++ (entriesOf s ∷ [])) ss (rw f at e))
 
-dictionary-input : (D : List ℕ) {k j p : ℕ} → dictionaryReading D ≡ Refused k j p → 100 ≤ j
+pub dictionary-input : (D : List ℕ) {k j p : ℕ} → dictionaryReading D ≡ Refused k j p → 100 ≤ j
 unfolding dictionaryReading
 dictionary-input D {k} {j} {p} e =
     bool-cases (eqb (length D % 512) 0)

@@ -2,13 +2,15 @@
 -- .. equal those for the unfolded ones".
 -- Assumes nothing.
 use Prim.Native.Nat.{ℕ}
-use mathlib.Core.List.{List}
+use mathlib.Core.List.{List, []}
 use Rattle.blocks.specs.Reading.{unlessRefused}
 use Rattle.clashes.specs.Clash.{specimenReading}
 use Rattle.compare.specs.Answer.{compareOf, outputOf}
 use Rattle.compare.specs.declared.Comparison.the-variants as comparison
 use Rattle.compare.specs.declared.Comparison.{Comparison}
 use Rattle.fit.specs.Answer.{fitOf}
+use Rattle.fit.specs.Counted.{tableAdds, withTable}
+use Rattle.fit.specs.declared.Counted.{Counted}
 use Rattle.fit.specs.declared.FitAnswer.the-variants as fit
 use Rattle.fit.specs.declared.FitAnswer.{FitAnswer}
 use Rattle.names.specs.NamedReading.{dictionaryOf, dictionaryReading, namedUnfolding, sentOf, unfoldingOf}
@@ -52,3 +54,7 @@ fitNamed P D s d =
     (unlessRefused fit.Refused (dictionaryReading D)
     (unlessRefused fit.Refused (specimenReading P s)
     (unlessRefused fit.Refused (namedUnfolding (dictionaryOf D) 2 d) (fitOf P s (sentOf D d)))))
+
+-- with no pairs and no dictionary, and the additions that it took
+abbrev pub countedNamed : List ℕ → List ℕ → Counted
+countedNamed s d = withTable (fitNamed [] [] s d) (tableAdds s d)

@@ -8,4 +8,3 @@ pub use packing::pack_counted;
 pub use packing::pack_fit;
 pub use packing::pack_normal;
 pub use packing::pack_reading;
-pub use packing::pack_refusal;

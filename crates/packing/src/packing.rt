@@ -1,6 +1,6 @@
 // The number of 64 bits that stands for an answer.
 ghost use mathlib.Core.Path.{_≡_};
-ghost use Rattle.packing.specs.Packing.{packAdds, packComparison, packCounted, packFit, packNormal, packReading, packed, refusal};
+ghost use Rattle.packing.specs.Packing.{packAdds, packComparison, packCounted, packFit, packNormal, packReading, packed};
 use blocks::Reading;
 use compare::Comparison;
 use fit::Counted;
@@ -12,13 +12,6 @@ fn pack(answer: u8, number: u8, first: u16, second: u16) -> u64
     ensures { λ r. ⌜ r ≡ packed answer number first second ⌝ }
 {
     answer as u64 + 256 * (number as u64) + 65536 * (first as u64) + 4294967296 * (second as u64)
-}
-
-// A refusal.
-pub fn pack_refusal(number: u8, input: u16, place: u16) -> u64
-    ensures { λ r. ⌜ r ≡ refusal number input place ⌝ }
-{
-    pack(0, number, input, place)
 }
 
 // What reading answers: the entries read, or the refusal.

@@ -14,12 +14,14 @@ use Rattle.blocks.specs.Reading.{readingOf}
 use Rattle.blocks.specs.declared.Reading.the-variants as reading
 use Rattle.blocks.specs.declared.Schema.the-variants.{Description}
 use Rattle.compare.proofs.AnswerLaws.{compared, first-refused, not-contained-ready, not-verdict, second-refused}
-use Rattle.compare.specs.Answer.{compareUnder, outputUnder}
+use Rattle.compare.specs.Answer.{outputUnder}
 use Rattle.compare.specs.declared.Comparison.the-variants as comparison
 use Rattle.lists.proofs.FirstPart.{no-second}
 use Rattle.lists.specs.Parts.{firstPart, secondPart}
 use Rattle.logic.specs.Background.{standing}
 use Rattle.meaning.specs.Failing.{specimenOf}
+use Rattle.named.proofs.SentLaws.{plain-refused, plain-verdict}
+use Rattle.named.specs.Answer.{compareNamed, outputNamed}
 use Rattle.report.proofs.Joined.{alone-parts, joined-parts}
 use Rattle.report.proofs.WrittenLines.{lines-written}
 use Rattle.report.specs.Lines.{entryLines, linesFrom, linesOf}
@@ -28,7 +30,7 @@ use Rattle.report.specs.declared.Line.the-variants.{Contained, NotContai
 
 -- the lines for two descriptions, and for an input, with a given output to write the specimen to
 abbrev pub linesFor : List ℕ → List ℕ → List ℕ → List Line
-linesFor c d out = linesOf (compareUnder standing c d out) (outputUnder standing c d out)
+linesFor c d out = linesOf (compareNamed [] [] c d out) (outputNamed [] [] c d out)
 
 abbrev pub printed : List ℕ → List ℕ → List Line
 printed s out = linesFor (firstPart s) (secondPart s) out
@@ -37,24 +39,27 @@ printed s out = linesFor (firstPart s) (secondPart s) out
 
 module _ (c d out : List ℕ) where
   -- "It prints `contained`"
-  pub contained-lines : compareUnder standing c d out ≡ comparison.Contained → linesFor c d out ≡ Contained ∷ []
+  pub contained-lines : compareNamed [] [] c d out ≡ comparison.Contained → linesFor c d out ≡ Contained ∷ []
   unfolding linesOf linesFrom
   contained-lines e = rw (linesOf, e)
 
   -- "or `refused N input I place P`"
-  pub refused-lines : {k i p : ℕ} → compareUnder standing c d out ≡ comparison.Refused k i p → linesFor c d out ≡ Refused k i p ∷ []
+  pub refused-lines : {k i p : ℕ} → compareNamed [] [] c d out ≡ comparison.Refused k i p → linesFor c d out ≡ Refused k i p ∷ []
   unfolding linesOf linesFrom
   refused-lines e = rw (linesOf, e)
 
   -- "or `not contained E` and one line for each specimen entry": of the specimen that the comparison's theorems speak of
-  pub not-contained-lines : {j k : ℕ} → compareUnder standing c d out ≡ comparison.NotContained j k
+  pub not-contained-lines : {j k : ℕ} → compareNamed [] [] c d out ≡ comparison.NotContained j k
       → linesFor c d out ≡ NotContained j ∷ entryLines 1 (specimenOf standing (entriesOf c) (entriesOf d))
   unfolding linesOf outputUnder
   not-contained-lines {j} {k} e =
       let shown = specimenOf standing (entriesOf c) (entriesOf d) in
-      let v = sym (compared standing c d out (not-contained-ready standing c d out e)) ∙ e in
+      let plain = plain-verdict c d out e in
+      let v = sym (compared standing c d out (not-contained-ready standing c d out (plain .0))) ∙ plain .0 in
       let l : length shown ≡ k = not-verdict standing (entriesOf c) (entriesOf d) v .2 in
-      rw (linesOf, outputUnder, e, ← l, lines-written shown)
+      let o : outputNamed [] [] c d out ≡ outputUnder standing c d out = plain .1 in
+      let w = plain .0 in
+      rw (linesOf, e, o, outputUnder, w, ← l, lines-written shown)
 
 -- ---- by the input
 
@@ -78,12 +83,14 @@ pub short-printed : (s out : List ℕ) → length s < 1024 → length s ≢ 512 
 short-printed s out h n =
     let none = no-second s (λ k b. let w = b .whole in let l = b .later in omega arith) in
     refused-lines (firstPart s) (secondPart s) out
-    (first-refused standing (firstPart s) (secondPart s) out (ap (readingOf Description 1) (none .0) ∙ length-refused 1 s (length-wrong s h n)))
+    (plain-refused (firstPart s) (secondPart s) out (λ z. omega arith)
+    (first-refused standing (firstPart s) (secondPart s) out (ap (readingOf Description 1) (none .0) ∙ length-refused 1 s (length-wrong s h n))))
 
 -- "A valid C alone: `refused 1 input 2 place 0`"
 pub alone-printed : (c out : List ℕ) {n : ℕ} → readingOf Description 1 c ≡ reading.Accepted n → printed c out ≡ Refused 1 2 0 ∷ []
 alone-printed c out e =
     let parts = alone-parts 1 c e in
     refused-lines (firstPart c) (secondPart c) out
+    (plain-refused (firstPart c) (secondPart c) out (λ z. omega arith)
     (second-refused standing (firstPart c) (secondPart c) out (ap (readingOf Description 1) (parts .0) ∙ e)
-    (ap (readingOf Description 2) (parts .1) ∙ length-refused 2 [] (length-wrong [] (omega arith) (λ z. omega arith))))
+    (ap (readingOf Description 2) (parts .1) ∙ length-refused 2 [] (length-wrong [] (omega arith) (λ z. omega arith)))))

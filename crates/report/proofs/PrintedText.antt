@@ -3,7 +3,7 @@
 use Prim.Native.Nat.{_+_, _<_, _≤_, suc, ℕ}
 use lib.ListN.{drop, length, length-append, length-replicate, take}
 use lib.Seq.{take-append-seam}
-use mathlib.Core.List.{List, _++_, append-assoc, append-nil}
+use mathlib.Core.List.{List, [], _++_, append-assoc, append-nil}
 use mathlib.Core.Logic.{_≢_}
 use mathlib.Core.Path.{_∙_, _≡_, ap, ap₂, refl, sym}
 use native.Mathlib.Omega.{arith}
@@ -13,13 +13,13 @@ use Rattle.blocks.specs.Reading.{readingOf}
 use Rattle.blocks.specs.declared.Entry.{Entry}
 use Rattle.blocks.specs.declared.Reading.the-variants as reading
 use Rattle.blocks.specs.declared.Schema.the-variants.{Description}
-use Rattle.compare.specs.Answer.{compareUnder}
 use Rattle.compare.specs.declared.Comparison.{Comparison}
 use Rattle.compare.specs.declared.Comparison.the-variants as comparison
 use Rattle.lists.proofs.FirstPart.{parts-join}
 use Rattle.lists.specs.Parts.{firstPart, secondPart}
 use Rattle.logic.specs.Background.{standing}
 use Rattle.meaning.specs.Failing.{specimenOf}
+use Rattle.named.specs.Answer.{compareNamed}
 use Rattle.report.proofs.Printed.{alone-printed, contained-lines, linesFor, not-contained-lines, printed, refused-lines, short-printed}
 use Rattle.report.specs.Lines.{entryLine, entryLines, linesFrom, linesOf, specimenLines}
 use Rattle.report.specs.Promise.{Prints, Writes, lent}
@@ -57,18 +57,18 @@ output-room s h =
 
 module _ (c d out : List ℕ) where
   -- "It prints `contained`"
-  pub contained-text : compareUnder standing c d out ≡ comparison.Contained → linesText (linesFor c d out) ≡ ascii "contained\n"
+  pub contained-text : compareNamed [] [] c d out ≡ comparison.Contained → linesText (linesFor c d out) ≡ ascii "contained\n"
   unfolding linesText lineText lineWords
   contained-text e = ap linesText (contained-lines c d out e)
 
   -- "or `refused N input I place P`"
-  pub refused-text : {k i p : ℕ} → compareUnder standing c d out ≡ comparison.Refused k i p
+  pub refused-text : {k i p : ℕ} → compareNamed [] [] c d out ≡ comparison.Refused k i p
       → linesText (linesFor c d out) ≡ ascii "refused " ++ (decimal k ++ (ascii " input " ++ (decimal i ++ (ascii " place " ++ (decimal p ++ ascii "\n")))))
   unfolding linesText lineText lineWords
   refused-text {k} {i} {p} e = ap linesText (refused-lines c d out e) ∙ rw append-nil (simp append-assoc)
 
   -- "or `not contained E` and one line for each specimen entry"
-  pub not-contained-text : {j k : ℕ} → compareUnder standing c d out ≡ comparison.NotContained j k
+  pub not-contained-text : {j k : ℕ} → compareNamed [] [] c d out ≡ comparison.NotContained j k
       → linesText (linesFor c d out) ≡ ascii "not contained " ++ (decimal j ++ (ascii "\n" ++ linesText (entryLines 1 (specimenOf standing (entriesOf c) (entriesOf d)))))
   unfolding linesText lineText lineWords
   not-contained-text e = ap linesText (not-contained-lines c d out e) ∙ simp append-assoc

@@ -9,6 +9,7 @@ use Rattle.blocks.proofs.RoundTrip.Decoding.{length-encode}
 use Rattle.blocks.specs.Encoding.{blocksFor, encode}
 use Rattle.blocks.specs.declared.Entry.{Entry}
 use Rattle.compare.proofs.AnswerLaws.{empty-list, not-contained-ready}
+use Rattle.named.proofs.SentLaws.{plain-answered}
 use Rattle.compare.proofs.Cases.{lines-right}
 use Rattle.logic.specs.Background.{standing}
 use Rattle.meaning.specs.StarredCases.{compares, lines, outside}
@@ -63,7 +64,10 @@ second-example out h =
     let answer = sym (empty .0) ∙ right .0 in
     let output = sym (empty .1) ∙ right .1 in
     let ready = not-contained-ready standing c d out answer in
-    let shown : linesFor c d out ≡ NotContained 3 ∷ entryLines 1 shown₂ = rw (linesOf, answer, output, lines-written shown₂) in
+    let named = plain-answered c d out answer in
+    let said = named .0 in
+    let written = named .1 ∙ output in
+    let shown : linesFor c d out ≡ NotContained 3 ∷ entryLines 1 shown₂ = rw (linesOf, said, written, lines-written shown₂) in
     ap linesText (joined-printed c d out (ready .first-read) (ready .second-read) ∙ shown) ∙ lines-text
 
 -- so the program prints this

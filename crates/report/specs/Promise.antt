@@ -4,10 +4,9 @@ use Prim.Native.Nat.{_*_, _+_, _-_, _<_, _≤_, suc, zero, ℕ}
 use lib.ListN.{drop, getD, length, replicate, take}
 use mathlib.Core.List.{List, [], _++_, _∷_}
 use mathlib.Core.Path.{_≡_}
-use Rattle.compare.specs.Answer.{compareUnder, outputUnder}
 use Rattle.compare.specs.declared.Comparison.{Comparison}
 use Rattle.lists.specs.Parts.{Begins, firstPart, secondPart}
-use Rattle.logic.specs.Background.{standing}
+use Rattle.named.specs.Answer.{compareNamed, outputNamed}
 use Rattle.report.specs.Lines.{specimenLines}
 use Rattle.report.specs.Text.{inputBytes, lineOf, lineText}
 
@@ -51,6 +50,7 @@ lent = replicate inputBytes 0
 pub record Prints (s t : List ℕ) : Type 0 where
   pub answer : Comparison
   pub blocks : List ℕ
-  pub answered : answer ≡ compareUnder standing (firstPart s) (secondPart s) lent
-  pub shown : blocks ≡ outputUnder standing (firstPart s) (secondPart s) lent
+  -- "the program passes length 0, and no pairs"
+  pub answered : answer ≡ compareNamed [] [] (firstPart s) (secondPart s) lent
+  pub shown : blocks ≡ outputNamed [] [] (firstPart s) (secondPart s) lent
   pub written : Writes answer blocks 0 (suc (specimenLines answer)) t

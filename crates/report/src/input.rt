@@ -1,9 +1,9 @@
 // The program's input: how much is read of it, and the comparison of its two descriptions.
 ghost use mathlib.Core.Path.{_≡_};
+ghost use mathlib.Core.List.{[]};
 ghost use lib.ListN.{replicate};
-ghost use Rattle.compare.specs.Answer.{compareUnder, outputUnder};
 ghost use Rattle.lists.specs.Parts.{firstPart, secondPart};
-ghost use Rattle.logic.specs.Background.{standing};
+ghost use Rattle.named.specs.Answer.{compareNamed, outputNamed};
 ghost use Rattle.report.specs.Text.{inputBytes};
 use compare::Comparison;
 
@@ -14,11 +14,12 @@ pub fn input_buffer() -> [u8; 16385]
     [0u8; 16385]
 }
 
-// Compares the first description of an input with the second, with no pairs, and writes the specimen from the start of the output.
+// Compares the first description of an input with the second, with no pairs and no dictionary, and writes the specimen from the start of
+// the output.
 pub fn compare_parts(s: &[u8], out: &mut [u8]) -> Comparison
-    ensures { λ r. ⌜ (r ≡ compareUnder standing (firstPart (now (s .entry))) (secondPart (now (s .entry))) (now (out .entry)))
-        × (now (out .exit) ≡ outputUnder standing (firstPart (now (s .entry))) (secondPart (now (s .entry))) (now (out .entry))) ⌝ }
+    ensures { λ r. ⌜ (r ≡ compareNamed [] [] (firstPart (now (s .entry))) (secondPart (now (s .entry))) (now (out .entry)))
+        × (now (out .exit) ≡ outputNamed [] [] (firstPart (now (s .entry))) (secondPart (now (s .entry))) (now (out .entry))) ⌝ }
 {
     let first = lists::part_length(s);
-    compare::compare(&s[0..0], &s[0..first], &s[first..s.len()], out)
+    named::compare_sent(&s[0..0], &s[0..first], &s[first..s.len()], out)
 }

@@ -1,11 +1,11 @@
-// Reads vectors from standard input, at most 1,000, makes the call of each, and prints a line for each: the vector's number, the call,
+// Reads vectors from standard input, at most 1,500, makes the call of each, and prints a line for each: the vector's number, the call,
 // the answer, and for a call with an output a digest of all the output's bytes. The vectors, and the lines to be printed, are made by
 // the version of other hands (rust/reference), which `make vectors` runs.
 //
 // A vector is a header of eight words, low byte first, and then the bytes of its list of pairs, its dictionary and its two inputs. The words:
-// the call (1 read a description, 2 read a specimen, 3 fit, 4 normal form, 5 compare), the lengths of these four, the length of the output,
-// and two that are 0. No length is above 17,408, 34 blocks. Each byte of the output is 165 before the call. Until descriptions have names,
-// a call with a dictionary that is not empty is refused as 1, input 100, after the list.
+// the call (1 read a description, 2 read a specimen, 3 fit, 4 normal form, 5 compare, 6 unfold), the lengths of these four, the length of the
+// output, and two that are 0. No dictionary is longer than 33,792 bytes, 66 blocks, and nothing else than 17,408, 34 blocks. Each byte of the
+// output is 165 before the call.
 ghost use lib.ListN.{length};
 ghost use Prim.Native.Nat.{_≤_};
 use blocks::Reading;
@@ -51,6 +51,15 @@ fn print_fit(answer: FitAnswer) {
     }
 }
 
+// Prints what unfolding answers.
+fn print_unfolded(answer: Reading) {
+    io::write_all(STDOUT_FILENO, b" unfold");
+    match answer {
+        Reading::Accepted(entries) => print_field(b" ", entries as u64),
+        Reading::Refused(number, input, place) => print_refusal(number, input, place),
+    }
+}
+
 // Prints what normalising answers.
 fn print_normal(answer: NormalAnswer) {
     io::write_all(STDOUT_FILENO, b" normal form");
@@ -86,50 +95,40 @@ fn print_digest(out: &[u8]) {
     print_field(b" output ", digest);
 }
 
-// Normalises a description under a list, and prints the answer and the digest of the output.
-fn run_normal(pairs: &[u8], d: &[u8], out: &mut [u8]) {
-    print_normal(normal::normalise(pairs, d, out));
+// Normalises a description, and prints the answer and the digest of the output.
+fn run_normal(pairs: &[u8], dictionary: &[u8], d: &[u8], out: &mut [u8]) {
+    print_normal(named::normalise(pairs, dictionary, d, out));
     print_digest(out);
 }
 
-// Compares two descriptions under a list, and prints the answer and the digest of the output.
-fn run_compare(pairs: &[u8], c: &[u8], d: &[u8], out: &mut [u8]) {
-    print_comparison(compare::compare(pairs, c, d, out));
+// Compares two descriptions, and prints the answer and the digest of the output.
+fn run_compare(pairs: &[u8], dictionary: &[u8], c: &[u8], d: &[u8], out: &mut [u8]) {
+    print_comparison(named::compare(pairs, dictionary, c, d, out));
     print_digest(out);
 }
 
-// Makes a call and prints its answer.
-fn run_call(call: u16, pairs: &[u8], first: &[u8], second: &[u8], out: &mut [u8]) {
+// Unfolds a description, and prints the answer and the digest of the output.
+fn run_unfold(dictionary: &[u8], d: &[u8], out: &mut [u8]) {
+    print_unfolded(unfolding::unfold(dictionary, d, out));
+    print_digest(out);
+}
+
+// Makes a call and prints its answer. The readers take neither a list nor a dictionary.
+fn run_call(
+    call: u16,
+    pairs: &[u8],
+    dictionary: &[u8],
+    first: &[u8],
+    second: &[u8],
+    out: &mut [u8],
+) {
     match call {
         1 => print_reading(b" description", reading::read_description(first)),
         2 => print_reading(b" specimen", reading::read_specimen(first)),
-        3 => print_fit(fit::fit(pairs, first, second)),
-        4 => run_normal(pairs, first, out),
-        _ => run_compare(pairs, first, second, out),
-    }
-}
-
-// What a call with a dictionary that is not empty is refused with: the list's refusal, or 1.
-fn named_refusal(pairs: &[u8]) -> Reading {
-    let list = pairs::read_pairs(pairs);
-    match list {
-        Reading::Refused(number, input, place) => Reading::Refused(number, input, place),
-        Reading::Accepted(_) => Reading::Refused(1, 100, 0),
-    }
-}
-
-// Prints that refusal for a call, and the digest of its output, if it has one.
-fn print_named(call: u16, pairs: &[u8], out: &[u8]) {
-    match call {
-        3 => print_reading(b" fit", named_refusal(pairs)),
-        4 => {
-            print_reading(b" normal form", named_refusal(pairs));
-            print_digest(out);
-        }
-        _ => {
-            print_reading(b" compare", named_refusal(pairs));
-            print_digest(out);
-        }
+        3 => print_fit(named::fit(pairs, dictionary, first, second)),
+        4 => run_normal(pairs, dictionary, first, out),
+        5 => run_compare(pairs, dictionary, first, second, out),
+        _ => run_unfold(dictionary, first, out),
     }
 }
 
@@ -150,32 +149,22 @@ fn read_input(buffer: &mut [u8], bytes: u16) -> usize
     n
 }
 
-// Makes the call of a vector, or prints its refusal where the dictionary is not empty. The readers take no dictionary.
-fn run_with(call: u16, pairs: &[u8], named: usize, first: &[u8], second: &[u8], out: &mut [u8]) {
-    if 2 < call {
-        if named != 0 {
-            print_named(call, pairs, out);
-            return;
-        }
-    }
-    run_call(call, pairs, first, second, out);
-}
-
 // Reads the rest of a vector with this header, makes its call, and prints the answer.
 fn run_vector(header: &[u8]) {
     let mut pairs = [0u8; 17408];
     let pairs_length = read_input(&mut pairs, blocks::word(header, 2));
+    let mut dictionary = [0u8; 33792];
+    let dictionary_length = read_input(&mut dictionary, blocks::word(header, 4));
     let mut first = [0u8; 17408];
-    let named = read_input(&mut first, blocks::word(header, 4));
     let first_length = read_input(&mut first, blocks::word(header, 6));
     let mut second = [0u8; 17408];
     let second_length = read_input(&mut second, blocks::word(header, 8));
     let mut out = [165u8; 17408];
     let out_length = within(blocks::word(header, 10), &out);
-    run_with(
+    run_call(
         blocks::word(header, 0),
         &pairs[0..pairs_length],
-        named,
+        &dictionary[0..dictionary_length],
         &first[0..first_length],
         &second[0..second_length],
         &mut out[0..out_length],
@@ -196,7 +185,7 @@ fn next_vector(n: u64) -> bool {
 
 fn main() {
     let mut n: u64 = 1;
-    while n <= 1000 {
+    while n <= 1500 {
         if !next_vector(n) {
             break;
         }

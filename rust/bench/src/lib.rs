@@ -4,4 +4,5 @@
 
 pub mod excluding;
 pub mod inputs;
+pub mod naming;
 pub mod plain;

@@ -62,7 +62,7 @@ fn under(pairs: &[u8]) -> Under<'_> {
 }
 
 /// The times of two calls with an output of this length, which write the same.
-fn writing<A, B>(
+pub fn writing<A, B>(
     length: usize,
     mut product: impl FnMut(&mut [u8]) -> A,
     mut plain: impl FnMut(&mut [u8]) -> B,

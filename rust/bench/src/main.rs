@@ -3,6 +3,7 @@
 #![forbid(unsafe_code)]
 
 mod listed;
+mod named;
 
 use std::hint::black_box;
 use std::time::Instant;
@@ -89,6 +90,7 @@ fn main() {
         times,
     );
     listed::rows();
+    named::rows();
 }
 
 /// The best times of two calls in nanoseconds; the two take turns.

@@ -1,4 +1,4 @@
-//! The nine functions of the library as C declares them, behind calls that take slices. All unsafe code is here.
+//! The ten functions of the library as C declares them, behind calls that take slices. All unsafe code is here.
 //!
 //! The library is proved to read and write nothing but the memory that its pointers and lengths name, whatever bytes stand
 //! there, and its own stack. Each call below lends it the memory of whole slices for the time of the call. The borrow
@@ -45,6 +45,14 @@ extern "C" {
         dict_len: usize,
         c: *const u8,
         c_len: usize,
+        d: *const u8,
+        d_len: usize,
+        out: *mut u8,
+        out_len: usize,
+    ) -> u64;
+    fn gx_unfold(
+        dict: *const u8,
+        dict_len: usize,
         d: *const u8,
         d_len: usize,
         out: *mut u8,
@@ -141,6 +149,20 @@ pub(crate) fn compare_with(pairs: &[u8], dict: &[u8], c: &[u8], d: &[u8], out: &
     }
 }
 
+pub(crate) fn unfold(dict: &[u8], d: &[u8], out: &mut [u8]) -> u64 {
+    // SAFETY: the pointers and lengths are those of three slices, and the third is ours alone.
+    unsafe {
+        gx_unfold(
+            dict.as_ptr(),
+            dict.len(),
+            d.as_ptr(),
+            d.len(),
+            out.as_mut_ptr(),
+            out.len(),
+        )
+    }
+}
+
 #[cfg(test)]
 mod tests {
     use super::*;
@@ -170,6 +192,7 @@ mod tests {
             assert_eq!(gx_fit_with(no, 0, no, 0, no, 0, no, 0), EMPTY);
             assert_eq!(gx_normal_with(no, 0, no, 0, no, 0, none, 0), EMPTY);
             assert_eq!(gx_compare_with(no, 0, no, 0, no, 0, no, 0, none, 0), EMPTY);
+            assert_eq!(gx_unfold(no, 0, no, 0, none, 0), EMPTY);
         }
     }
 }

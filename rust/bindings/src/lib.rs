@@ -11,12 +11,13 @@
 //! items by such a link.
 //!
 //! [`Under`] has the same calls under a list of properties that exclude each other, such as clay and sand. What they promise is
-//! about records that keep the list as well. [`fit()`], [`normal_form`] and [`compare`] are the calls with no list.
+//! about records that keep the list as well. It also has the dictionary whose descriptions may be named by others, and [`unfold()`]
+//! puts them in where they are named. [`fit()`], [`normal_form`] and [`compare`] are the calls with no list and no dictionary.
 //!
 //! `k` entries take `512 * k.div_ceil(63).max(1)` bytes, `GX_BYTES(k)` of the C header: a call that writes `k` entries writes
 //! just those bytes, from the start of the output.
 //!
-//! A thread with 96 KiB of stack has room for each call; `include/goltximen.h` has what was measured.
+//! A thread with 128 KiB of stack has room for each call; `include/goltximen.h` has what was measured.
 //!
 //! ```
 //! use goltximen::{compare, Comparison};
@@ -44,9 +45,11 @@ mod ffi;
 mod packed;
 mod refusal;
 mod under;
+mod unfold;
 
 pub use refusal::{Reason, Refusal};
 pub use under::Under;
+pub use unfold::unfold;
 
 /// The fit answer.
 #[derive(Clone, Copy, Debug, PartialEq, Eq, Hash)]

@@ -5,18 +5,19 @@ use std::fmt;
 
 /// Why an input or an output is refused: a number of the table of refusals.
 ///
-/// The calls of today answer 1 to 7, 9, 11 and 12. The other numbers belong to calls that are still to come; they stand here so
+/// The calls of today answer 1 to 9 and 11 to 14. The other numbers belong to calls that are still to come; they stand here so
 /// that a match over the reasons stays whole when those come.
 #[derive(Clone, Copy, Debug, PartialEq, Eq, Hash)]
 #[repr(u8)]
 pub enum Reason {
-    /// 1: the input's length is 0, no multiple of 512, or over the limit; or a dictionary is not of length 0.
+    /// 1: the input's length is 0, no multiple of 512, or over the limit; a dictionary may have length 0, and has no limit but 8.
     Length = 1,
     /// 2: a block's first or second check is wrong.
     Check = 2,
     /// 3: a block's number or its used count is wrong, or a byte of its unused entries is not zero.
     Frame = 3,
-    /// 4: an entry's kind is not allowed, its byte 1 is not zero, or its name or number is outside the table.
+    /// 4: an entry's kind is not allowed, its byte 1 is not zero, or its name or number is outside the table. Kind 9 is allowed in
+    /// the descriptions of calls that take a dictionary, also of length 0, and there its name is left to 13.
     Form = 4,
     /// 5: an entry's owner is neither 0, the top, nor an earlier entry that may own: one of kind 5 in a description, of kind
     /// 7 in a specimen.
@@ -25,7 +26,7 @@ pub enum Reason {
     Depth = 6,
     /// 7: the output is too short.
     Output = 7,
-    /// 8: a list has more than 64 descriptions.
+    /// 8: a dictionary has more than 64 descriptions.
     TooMany = 8,
     /// 9: a group of a specimen brings its owner a second item by a link that leads to one item only, one from 32,768 up.
     SecondItem = 9,
@@ -35,9 +36,10 @@ pub enum Reason {
     Pairs = 11,
     /// 12: a specimen has an item with both properties of a pair of the list.
     BothOfAPair = 12,
-    /// 13: the name of a named description is 0, above the dictionary's count, or in the dictionary not an earlier one.
+    /// 13: the name of an entry of kind 9 is 0, above the dictionary's count, or in the dictionary not that of an earlier
+    /// description.
     Name = 13,
-    /// 14: a description has more than 1,008 entries or a depth over 32 once its named descriptions are put in.
+    /// 14: a description, in the dictionary or not, has more than 1,008 entries or a depth over 32 once it is unfolded.
     Unfolded = 14,
     /// 15: an entry of the shorter stored form does not follow an 'every' that can own it.
     Order = 15,
@@ -96,7 +98,7 @@ pub struct Refusal {
     /// Why.
     pub reason: Reason,
     /// The input, 1 or 2 in the order of the call's arguments; 0 where the output is too short or the list of pairs is refused;
-    /// 100 for a dictionary.
+    /// 100 for a dictionary, and 100 + n for its n-th description.
     pub input: u16,
     /// The block or the entry, counted from 1 in that input, or the pair in the list; 0 where the reason has no place.
     pub place: u16,

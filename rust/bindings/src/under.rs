@@ -1,4 +1,4 @@
-//! The calls under a list of properties that exclude each other.
+//! The calls under a list of properties that exclude each other, with a dictionary of named descriptions.
 
 use crate::{ffi, packed, Comparison, Fit, Refusal};
 
@@ -10,8 +10,12 @@ use crate::{ffi, packed, Comparison, Fit, Refusal};
 /// 32,768 up never lead to two items. So a place of a description with both properties of a pair is impossible, and one with
 /// the one of them lacks the other.
 ///
-/// Until named descriptions come a dictionary has length 0, and any other is refused as 1 of input 100, after the list and before
-/// the inputs.
+/// A dictionary is up to 64 descriptions laid end to end: the first block, and each later one numbered 1, begins one. In it and in
+/// the descriptions of a call, an entry of kind 9 with name n and number 0 stands for its n-th description, put in at that place; a
+/// description of the dictionary may name only earlier ones. All answers and written bytes, entry numbers and the lengths of
+/// outputs among them, are those for the descriptions that [`unfold`](crate::unfold()) writes. The dictionary is checked after the
+/// list and before the inputs, as input 100 and its n-th description as 100 + n, whether it is named or not. Of length 0 it has no
+/// descriptions, and each entry of kind 9 is refused as 13.
 ///
 /// The default has no pairs and no dictionary: its calls are [`fit()`](crate::fit()), [`normal_form`](crate::normal_form()) and
 /// [`compare`](crate::compare()).
@@ -38,6 +42,15 @@ use crate::{ffi, packed, Comparison, Fit, Refusal};
 /// let wrong = Under { pairs: &[7, 0, 8, 0, 9, 0, 9, 0], ..Under::default() };
 /// let refusal = Refusal { reason: Reason::Pairs, input: 0, place: 2 };
 /// assert_eq!(wrong.compare(&[], &[], &mut []), Err(refusal));
+///
+/// // "as described under number 1": with a dictionary of that one description it has clay, and lacks sand.
+/// let mut named = [0u8; 512];
+/// (named[0], named[2], named[4], named[8]) = (1, 1, 9, 1);
+/// (named[508], named[510]) = (35, 47);
+/// let with = Under { dictionary: &clay, ..under };
+/// assert_eq!(with.compare(&named, &no_sand, &mut out), Ok(Comparison::Contained));
+/// let refusal = Refusal { reason: Reason::Name, input: 1, place: 1 };
+/// assert_eq!(under.compare(&named, &no_sand, &mut out), Err(refusal));
 /// ```
 #[derive(Clone, Copy, Debug, Default, PartialEq, Eq, Hash)]
 pub struct Under<'a> {
@@ -48,7 +61,8 @@ pub struct Under<'a> {
 }
 
 impl Under<'_> {
-    /// Whether the top item of a specimen, input 1, fits a description, input 2. What fits is as without a list.
+    /// Whether the top item of a specimen, input 1, fits a description, input 2. What fits is as without a list. A specimen has no
+    /// entries of kind 9.
     ///
     /// ```
     /// use goltximen::{fit, Fit, Under};
@@ -99,7 +113,8 @@ impl Under<'_> {
     /// # Errors
     ///
     /// The refusal of the list, of the dictionary, and of the description, the first that applies; then
-    /// [`Reason::Output`](crate::Reason::Output) where the output is shorter than the description. The output is then unchanged.
+    /// [`Reason::Output`](crate::Reason::Output) where the output is shorter than the unfolded description. The output is then
+    /// unchanged.
     pub fn normal_form(&self, description: &[u8], out: &mut [u8]) -> Result<u16, Refusal> {
         packed::count(ffi::normal_with(
             self.pairs,
@@ -110,7 +125,7 @@ impl Under<'_> {
     }
 
     /// Compares two descriptions: whether in every finite record that keeps the list and the rule that links from 32,768 up never
-    /// lead to two items, each item that fits `c`, input 1, fits `d`, input 2.
+    /// lead to two items, each item that fits `c`, input 1, fits `d`, input 2. The entry that fails is counted in `d` unfolded.
     ///
     /// Where one does not, the blocks of a specimen that shows it are written from the start of the output: it keeps the list and
     /// the rule, and [`Under::fit`] under the same list says yes to it for `c` and no for `d`. Later bytes stay. Where the answer
@@ -119,7 +134,8 @@ impl Under<'_> {
     /// # Errors
     ///
     /// The refusal of the list, of the dictionary, of `c`, and of `d`, the first that applies; then
-    /// [`Reason::Output`](crate::Reason::Output) where the output is shorter than both together. The output is then unchanged.
+    /// [`Reason::Output`](crate::Reason::Output) where the output is shorter than both together, unfolded. The output is then
+    /// unchanged.
     pub fn compare(&self, c: &[u8], d: &[u8], out: &mut [u8]) -> Result<Comparison, Refusal> {
         packed::comparison(ffi::compare_with(self.pairs, self.dictionary, c, d, out))
     }

@@ -2,7 +2,8 @@
 //!
 //! Each function here makes one call of the proved library and of the reference on the same bytes. It gives the answer if both
 //! agree and all else that the paper says of the answer is so, and otherwise the difference. Those that are made under a list are
-//! the plain calls where the list and the dictionary are empty: then these are made too, and have to give the same.
+//! the plain calls where the list and the dictionary are empty: then these are made too, and have to give the same. Those that are
+//! made with a dictionary are made again with none, on the unfolded descriptions, and have to give the same.
 
 use std::fmt;
 
@@ -12,7 +13,7 @@ use reference::{encode, Comparison, Entry, Refusal};
 use crate::chance::Chance;
 use crate::damage::Sort;
 use crate::excluding::Given;
-use crate::length_of;
+use crate::{length_of, MOST_DESCRIPTION};
 
 /// What both answered.
 #[derive(Clone, Copy, Debug, PartialEq, Eq, PartialOrd, Ord)]
@@ -96,6 +97,31 @@ impl Case<'_> {
         self.ensure(so, "the call without a list answers otherwise")
     }
 
+    /// A difference unless the call gives the same without the dictionary on the unfolded descriptions, if none is refused.
+    fn ensure_unfolded<const N: usize>(
+        &self,
+        descriptions: [&[u8]; N],
+        same: impl FnOnce(Under, [&[u8]; N]) -> bool,
+    ) -> Result<(), Difference> {
+        let dictionary = self.under.dictionary;
+        if dictionary.is_empty() {
+            return Ok(());
+        }
+        let unfolded = descriptions.map(|d| unfolded(dictionary, d));
+        if unfolded.iter().any(Option::is_none) {
+            return Ok(());
+        }
+        let alone = Under {
+            dictionary: &[],
+            ..self.under
+        };
+        let plain = unfolded.each_ref().map(|d| d.as_deref().unwrap_or(&[]));
+        self.ensure(
+            same(alone, plain),
+            "the call on what is unfolded answers otherwise",
+        )
+    }
+
     /// The answer that both gave.
     fn same<T: PartialEq + fmt::Debug>(&self, proved: T, plain: T) -> Result<T, Difference> {
         if proved == plain {
@@ -123,6 +149,21 @@ fn given(under: Under) -> Given {
         pairs: under.pairs.to_vec(),
         dictionary: under.dictionary.to_vec(),
     }
+}
+
+/// The blocks of a description once it is unfolded, by the library, or none if it or the dictionary is refused.
+fn unfolded(dictionary: &[u8], d: &[u8]) -> Option<Vec<u8>> {
+    let mut out = vec![0; length_of(MOST_DESCRIPTION)];
+    let entries = goltximen::unfold(dictionary, d, &mut out).ok()?;
+    out.truncate(length_of(entries));
+    Some(out)
+}
+
+/// The blocks that a call goes by: those of the description once it is unfolded. As they are if it is refused.
+pub fn plain(under: Under, d: &[u8]) -> Vec<u8> {
+    let named = !under.dictionary.is_empty();
+    let unfolded = named.then(|| unfolded(under.dictionary, d)).flatten();
+    unfolded.unwrap_or_else(|| d.to_vec())
 }
 
 /// An output of noise, and what the two make of it.
@@ -246,6 +287,7 @@ pub fn fit(under: Under, specimen: &[u8], description: &[u8]) -> Result<Answer, 
     let Under { pairs, dictionary } = under;
     let proved = under.fit(specimen, description);
     case.ensure_plain(|| goltximen::fit(specimen, description) == proved)?;
+    case.ensure_unfolded([description], |alone, [d]| alone.fit(specimen, d) == proved)?;
     let proved = proved
         .map(|fit| fit == goltximen::Fit::Yes)
         .map_err(in_form);
@@ -308,14 +350,18 @@ pub fn normal_form(
     let mut run = Run::new(chance, length);
     let proved = under.normal_form(d, &mut run.proved);
     case.ensure_plain(|| run.repeats(&proved, |out| goltximen::normal_form(d, out)))?;
+    case.ensure_unfolded([d], |alone, [d]| {
+        run.repeats(&proved, |out| alone.normal_form(d, out))
+    })?;
     let proved = proved.map(usize::from).map_err(in_form);
-    let plain = reference::normal_with(under.pairs, under.dictionary, d, &mut run.plain);
-    let answer = case.same(proved, plain)?;
+    let other = reference::normal_with(under.pairs, under.dictionary, d, &mut run.plain);
+    let answer = case.same(proved, other)?;
     case.same_output(&run, answer.map_or(0, length_of))?;
     let Ok(entries) = answer else {
         return Ok(answer.map_or_else(refused, Answer::Count));
     };
-    let most = goltximen::read_description(d).map_or(0, usize::from);
+    let plain_d = plain(under, d);
+    let most = goltximen::read_description(&plain_d).map_or(0, usize::from);
     case.ensure(entries <= most, "more entries than the original")?;
     let written = run.proved.get(..length_of(entries)).unwrap_or(&[]);
     let mut again = chance.noise(written.len());
@@ -348,6 +394,9 @@ pub fn compare(
     let mut run = Run::new(chance, length);
     let proved = under.compare(c, d, &mut run.proved);
     case.ensure_plain(|| run.repeats(&proved, |out| goltximen::compare(c, d, out)))?;
+    case.ensure_unfolded([c, d], |alone, [c, d]| {
+        run.repeats(&proved, |out| alone.compare(c, d, out))
+    })?;
     let proved = proved.map(comparison).map_err(in_form);
     let plain = reference::compare_with(under.pairs, under.dictionary, c, d, &mut run.plain);
     let answer = case.same(proved, plain)?;
@@ -362,6 +411,52 @@ pub fn compare(
     shows(&case, specimen, entries)?;
     first_that_fails(&case, entry)?;
     Ok(Answer::NotContained(entry, entries))
+}
+
+/// The unfolding, with an output of this length. What is written is a plain description, which is its own unfolding; a description
+/// that names nothing is written as it is.
+///
+/// # Errors
+///
+/// The difference.
+pub fn unfold(
+    chance: &mut Chance,
+    dictionary: &[u8],
+    d: &[u8],
+    length: usize,
+) -> Result<Answer, Difference> {
+    let case = Case {
+        call: "unfold",
+        under: Under {
+            pairs: &[],
+            dictionary,
+        },
+        inputs: &[d],
+    };
+    let mut run = Run::new(chance, length);
+    let proved = goltximen::unfold(dictionary, d, &mut run.proved).map_err(in_form);
+    let other = reference::unfold(dictionary, d, &mut run.plain);
+    let answer = case.same(proved, other)?;
+    case.same_output(&run, answer.map_or(0, length_of))?;
+    let Ok(entries) = answer else {
+        return Ok(answer.map_or_else(refused, Answer::Count));
+    };
+    let written = run.proved.get(..length_of(entries)).unwrap_or(&[]);
+    case.ensure(
+        read_description(written)? == Answer::Count(entries),
+        "what is written is no plain description of so many entries",
+    )?;
+    let named = reference::decode(d).iter().any(|e| e.kind == 9);
+    case.ensure(named || written == d, "nothing is named, and bytes change")?;
+    for dictionary in [dictionary, &[]] {
+        let mut again = chance.noise(written.len());
+        let count = goltximen::unfold(dictionary, written, &mut again).map_err(in_form);
+        case.ensure(
+            count == Ok(entries) && again == written,
+            "what is written is not its own unfolding",
+        )?;
+    }
+    Ok(Answer::Count(entries))
 }
 
 /// An answer of the library in the reference's form.
@@ -385,7 +480,10 @@ fn shows(case: &Case, specimen: &[u8], entries: usize) -> Result<(), Difference>
         count == Answer::Count(entries),
         "the specimen is not accepted with this number of entries",
     )?;
-    let most = [c, d].map(|input| goltximen::read_description(input).map_or(0, usize::from));
+    let most = [c, d].map(|input| {
+        let read = goltximen::read_description(&plain(case.under, input));
+        read.map_or(0, usize::from)
+    });
     case.ensure(
         entries <= most[0] + most[1],
         "the specimen has more entries than C and D together",
@@ -400,19 +498,20 @@ fn shows(case: &Case, specimen: &[u8], entries: usize) -> Result<(), Difference>
     )
 }
 
-/// The entries of D before the one that fails are a description that C is contained in, and with it they are not.
+/// The entries of D, unfolded, before the one that fails are a description that C is contained in, and with it they are not.
 fn first_that_fails(case: &Case, entry: usize) -> Result<(), Difference> {
     let &[c, d] = case.inputs else {
         return Ok(());
     };
-    let entries = reference::decode(d);
+    let plain_d = plain(case.under, d);
+    let entries = reference::decode(&plain_d);
     let before = entry
         .checked_sub(1)
         .and_then(|before| entries.get(..before));
     let Some(before) = before else {
         return Err(case.difference("D has no entry with this number"));
     };
-    let mut out = vec![0; c.len() + d.len()];
+    let mut out = vec![0; plain(case.under, c).len() + plain_d.len()];
     let holds = case.under.compare(c, &encode(before), &mut out);
     case.ensure(
         holds == Ok(goltximen::Comparison::Contained),
@@ -436,7 +535,8 @@ pub fn contained(
     d: &[Entry],
 ) -> Result<Answer, Difference> {
     let (c, d) = (encode(c), encode(d));
-    let answer = compare(chance, under, &c, &d, c.len() + d.len())?;
+    let length = plain(under, &c).len() + plain(under, &d).len();
+    let answer = compare(chance, under, &c, &d, length)?;
     let case = Case {
         call: "compare",
         under,
@@ -457,7 +557,7 @@ pub fn contained(
 pub fn same_normal_form(under: Under, d: &[Entry], other: &[Entry]) -> Result<(), Difference> {
     let written = |entries: &[Entry]| {
         let d = encode(entries);
-        let mut out = vec![0; d.len()];
+        let mut out = vec![0; plain(under, &d).len()];
         let count = under.normal_form(&d, &mut out).map(usize::from);
         out.truncate(length_of(count.unwrap_or(0)));
         (count, out)

@@ -1,4 +1,4 @@
-//! Bytes with one fault or several, for refusals 1 to 6 and 9.
+//! Bytes with one fault or several, for refusals 1 to 6, 9 and 13.
 
 use reference::notation::entry;
 use reference::{encode, Entry};
@@ -37,7 +37,7 @@ impl Sort {
 /// The entries as bytes, with one to four faults.
 pub fn damaged(chance: &mut Chance, sort: Sort, entries: &[Entry]) -> Vec<u8> {
     let mut entries = entries.to_vec();
-    let mut faults: Vec<usize> = (0..=chance.below(4)).map(|_| chance.below(20)).collect();
+    let mut faults: Vec<usize> = (0..=chance.below(4)).map(|_| chance.below(22)).collect();
     faults.sort_unstable();
     for fault in &faults {
         match fault {
@@ -45,6 +45,7 @@ pub fn damaged(chance: &mut Chance, sort: Sort, entries: &[Entry]) -> Vec<u8> {
             4..=6 => break_owner(chance, &mut entries),
             7..=8 => break_depth(chance, sort, &mut entries),
             9..=10 => lead_to_two(chance, sort, &mut entries),
+            20..=21 => break_name(chance, sort, &mut entries),
             _ => (),
         }
     }
@@ -146,6 +147,39 @@ pub fn lead_to_two(chance: &mut Chance, sort: Sort, entries: &mut Vec<Entry>) {
             let other = any_owner(chance, sort, entries);
             entries.extend([one, entry(7, other, link, 0)]);
         }
+    }
+}
+
+/// A named entry at the end or instead of an entry that owns nothing: of a name that is there or not, 0, with a number, at any owner,
+/// or itself the owner of the next.
+pub fn break_name(chance: &mut Chance, sort: Sort, entries: &mut Vec<Entry>) {
+    entries.truncate(sort.most() - 2);
+    let owner = any_owner(chance, sort, entries);
+    let name = chance.one_of([0, 1, 1, 2, 3, 64, 65, 65_535]);
+    let named = entry(9, owner, name, 0);
+    let at = chance.below(entries.len());
+    match chance.below(5) {
+        0 => entries.push(Entry {
+            number: chance.one_of([1, 256, 65_535]),
+            ..named
+        }),
+        1 => entries.push(Entry {
+            owner: word(entries.len()) + chance.up_to(2),
+            ..named
+        }),
+        2 => {
+            entries.push(named);
+            entries.push(entry(1, word(entries.len()), 7, 0));
+        }
+        _ => match entries.get_mut(at) {
+            Some(e) if e.kind != sort.owner_kind() => {
+                *e = Entry {
+                    owner: e.owner,
+                    ..named
+                }
+            }
+            _ => entries.push(named),
+        },
     }
 }
 

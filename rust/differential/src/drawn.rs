@@ -9,8 +9,9 @@ use crate::chance::Chance;
 use crate::damage::{damaged, Sort};
 use crate::draw::{self, Shape};
 use crate::excluding::{self, Given};
+use crate::naming::{self, Dictionary};
 use crate::vectors::{Answer, Vector, MOST_LENGTH};
-use crate::{derived, length_of, BLOCK, MOST_DESCRIPTION, MOST_SPECIMEN};
+use crate::{derived, length_of, BLOCK, BLOCK_ENTRIES, MOST_DESCRIPTION, MOST_SPECIMEN};
 
 /// What the vectors are drawn from.
 const SEED: u64 = 9803;
@@ -60,7 +61,7 @@ const BY_THE_LIST: &str = " by the list";
 
 /// The sorts of answers under a list, and how many are wanted of each. The answers that the list does not change are wanted too,
 /// but fewer of them.
-const LISTED: [(&str, usize); 25] = [
+const LISTED: [(&str, usize); 22] = [
     ("fit yes", 6),
     ("fit no", 6),
     ("fit refused 12 input 1 later by the list", 12),
@@ -79,14 +80,54 @@ const LISTED: [(&str, usize); 25] = [
     ("compare refused 7 input 0", 4),
     ("fit refused 11 input 0 by the list", 3),
     ("fit refused 11 input 0 later by the list", 4),
-    ("fit refused 1 input 100 by the list", 3),
     ("normal form refused 11 input 0 by the list", 3),
     ("normal form refused 11 input 0 later by the list", 4),
-    ("normal form refused 1 input 100 by the list", 3),
     ("compare refused 11 input 0 by the list", 3),
     ("compare refused 11 input 0 later by the list", 4),
-    ("compare refused 1 input 100 by the list", 3),
 ];
+
+/// What a sort of answer with a dictionary is followed by if the call without it gives another line.
+const BY_THE_NAMES: &str = " by the names";
+
+/// The sorts of answers with a dictionary, and how many are wanted of each.
+const NAMING: [(&str, usize); 33] = [
+    ("unfold", 2),
+    ("unfold by the names", 16),
+    ("unfold refused 7 input 0 by the names", 6),
+    ("unfold refused 4 input 1 later", 2),
+    ("unfold refused 5 input 1 later by the names", 2),
+    ("unfold refused 13 input 1", 2),
+    ("unfold refused 13 input 1 later", 3),
+    ("unfold refused 14 input 1 by the names", 4),
+    ("unfold refused 1 input 100 by the names", 2),
+    ("unfold refused 2 input 101 by the names", 2),
+    ("unfold refused 3 input 101 by the names", 2),
+    ("unfold refused 4 input 102 later by the names", 2),
+    ("unfold refused 13 input 101 by the names", 2),
+    ("unfold refused 13 input 102 later by the names", 2),
+    ("unfold refused 14 input 104 by the names", 2),
+    ("normal form by the names", 12),
+    ("normal form refused 7 input 0 by the names", 4),
+    ("normal form refused 13 input 1 later", 2),
+    ("normal form refused 14 input 1 by the names", 2),
+    ("normal form refused 13 input 102 later by the names", 2),
+    ("compare contained by the names", 12),
+    ("compare not contained by the names", 12),
+    ("compare refused 7 input 0 by the names", 4),
+    ("compare refused 13 input 1 later", 2),
+    ("compare refused 13 input 2 later", 2),
+    ("compare refused 14 input 1 by the names", 2),
+    ("compare refused 14 input 2 by the names", 2),
+    ("compare refused 1 input 100 by the names", 2),
+    ("compare refused 4 input 102 later by the names", 2),
+    ("fit yes by the names", 8),
+    ("fit no by the names", 8),
+    ("fit refused 13 input 2 later", 2),
+    ("fit refused 1 input 100 by the names", 2),
+];
+
+/// The most bytes of the dictionary of a drawn vector.
+const MOST_DRAWN_DICTIONARY: usize = 4 * BLOCK;
 
 /// The sort of a vector's answer, divided by the place if it is a refusal.
 fn sort(vector: &Vector) -> String {
@@ -99,6 +140,12 @@ fn listed_sort(vector: &Vector) -> String {
     let without = vector.clone().given(Given::default());
     let changed = without.line(1) != vector.line(1);
     sort(vector) + if changed { BY_THE_LIST } else { "" }
+}
+
+/// The sort of the answer of a vector with a dictionary, and whether it is the dictionary's doing.
+fn naming_sort(vector: &Vector) -> String {
+    let changed = vector.clone().with(&[]).line(1) != vector.line(1);
+    sort(vector) + if changed { BY_THE_NAMES } else { "" }
 }
 
 /// How many vectors are wanted of each sort of answer.
@@ -131,7 +178,7 @@ pub fn drawn() -> Vec<Vector> {
     kept(SEED, wanted(), any, sort)
 }
 
-/// The drawn vectors under lists, right and wrong, and with dictionaries.
+/// The drawn vectors under lists, right and wrong.
 pub fn listed() -> Vec<Vector> {
     let wanted = LISTED.map(|(sort, times)| (sort.to_string(), times));
     kept(SEED + 2, wanted.into(), under_a_list, listed_sort)
@@ -151,7 +198,8 @@ fn kept(
             break;
         }
         let vector = any(&mut chance);
-        if vector.first.len() + vector.second.len() > MOST_BYTES {
+        let inputs = vector.first.len() + vector.second.len();
+        if inputs > MOST_BYTES || vector.given.dictionary.len() > MOST_DRAWN_DICTIONARY {
             continue;
         }
         match wanted.get_mut(&sort(&vector)) {
@@ -163,7 +211,7 @@ fn kept(
     vectors
 }
 
-/// A drawn vector of a call that takes a list, with a list drawn for its entries; now and then a wrong one, or a dictionary.
+/// A drawn vector of a call that takes a list, with a list drawn for its entries; now and then a wrong one.
 fn under_a_list(chance: &mut Chance) -> Vector {
     let vector = match chance.below(8) {
         0..=1 => normal_form(chance),
@@ -181,10 +229,80 @@ fn under_a_list(chance: &mut Chance) -> Vector {
     if chance.once_in(10) {
         given.pairs = excluding::wrong(chance, &given.pairs);
     }
-    if chance.once_in(12) {
-        given.dictionary = excluding::dictionary(chance);
-    }
     vector.given(given)
+}
+
+/// The drawn vectors with dictionaries, right and wrong.
+pub fn naming() -> Vec<Vector> {
+    let wanted = NAMING.map(|(sort, times)| (sort.to_string(), times));
+    kept(SEED + 3, wanted.into(), with_names, naming_sort)
+}
+
+/// A drawn vector of a call that takes a dictionary, with descriptions that name what is in it; now and then with a slip, too much
+/// once unfolded, or damaged.
+fn with_names(chance: &mut Chance) -> Vector {
+    let shape = shape(chance);
+    let count = 1 + chance.below(4);
+    let dictionary = Dictionary::of_drawn(chance, &shape, count, 5);
+    let bytes = match chance.once_in(4) {
+        true => {
+            let slip = chance.below(naming::SLIPS);
+            naming::slipped(chance, &dictionary, slip)
+        }
+        false => dictionary.bytes(),
+    };
+    let plain = description(chance);
+    let c = dictionary.naming(chance, &plain);
+    let d = match chance.below(3) {
+        0 => derived::weaker(chance, &c),
+        1 => derived::missed(chance, &c),
+        _ => derived::reordered(chance, &c),
+    };
+    let [c, d] = [c, d].map(|entries| match chance.below(12) {
+        0 => damaged(chance, Sort::Description, &entries),
+        1 => encode(&overfull(chance, &dictionary, &entries)),
+        _ => encode(&entries),
+    });
+    let needed = |d: &[u8]| unfolded(&bytes, d).len();
+    let vector = match chance.below(5) {
+        0..=1 => {
+            let output = around(chance, needed(&c));
+            Vector::unfold(c, output)
+        }
+        2 => {
+            let output = around(chance, needed(&c));
+            Vector::normal_form(c, output)
+        }
+        3 => {
+            let output = around(chance, needed(&c) + needed(&d));
+            Vector::compare(c, d, output)
+        }
+        _ => {
+            let alone = encode(&specimen(chance));
+            let nothing = encode(&[entry(6, 0, 0, 0)]);
+            let made = shown(&unfolded(&bytes, &c), &nothing);
+            Vector::fit(made.unwrap_or(alone), chance.one_of([&c, &d]).clone())
+        }
+    };
+    vector.with(&bytes)
+}
+
+/// The description once it is unfolded, by the reference; as it is if it or the dictionary is refused.
+fn unfolded(dictionary: &[u8], d: &[u8]) -> Vec<u8> {
+    let mut out = vec![0; length_of(MOST_DESCRIPTION)];
+    match reference::unfold(dictionary, d, &mut out) {
+        Ok(entries) => out[..length_of(entries)].to_vec(),
+        Err(_) => d.to_vec(),
+    }
+}
+
+/// The description with names until it comes to too much, if any name comes to something.
+fn overfull(chance: &mut Chance, dictionary: &Dictionary, d: &[Entry]) -> Vec<Entry> {
+    let mut d = d.to_vec();
+    while d.len() < 4 * BLOCK_ENTRIES && !dictionary.extent(&d).is_too_much() {
+        d.push(naming::named(0, dictionary.any_name(chance)));
+    }
+    d
 }
 
 /// A comparison with a description that is weaker but for lacks that the list implies.

@@ -157,16 +157,6 @@ fn bad_pair(chance: &mut Chance) -> (u16, u16) {
     chance.one_of([(0, name), (name, 0), (0, 0), (name, name), (name, name)])
 }
 
-/// A dictionary of length above 0.
-pub fn dictionary(chance: &mut Chance) -> Vec<u8> {
-    let length = chance.one_of([1, 2, 511, 512, 513, 1024]);
-    let whole = reference::encode(&[entry(1, 0, 7, 0)]);
-    match length {
-        512 => whole,
-        _ => chance.noise(length),
-    }
-}
-
 /// The description with a few lacks that the list implies where it already says has: it means the same under the list.
 pub fn with_implied_lacks(chance: &mut Chance, pairs: &[u8], d: &[Entry]) -> Vec<Entry> {
     let mut d = d.to_vec();

@@ -3,7 +3,8 @@
 //! Drawn descriptions and specimens are handed to both. Answers, places and every byte of the outputs have to be the same. What
 //! the paper says of an answer is looked at as well, without the reference: a specimen has to show its 'not contained', a normal
 //! form has to be its own normal form, and 'contained' has to be true in small records. Records and specimens keep the rule that links
-//! from 32,768 up never lead to two items, and the list of properties that exclude each other which a call is given.
+//! from 32,768 up never lead to two items, and the list of properties that exclude each other which a call is given. A call with a
+//! dictionary has to give what the call without one gives for the unfolded descriptions.
 //!
 //! | Module | Subject |
 //! |---|---|
@@ -11,9 +12,10 @@
 //! | [`draw`] | accepted descriptions and specimens of many shapes, with links on both sides of 32,768 |
 //! | [`derived`] | descriptions made from others: weaker, in another order, wrong by one entry |
 //! | [`excluding`] | lists of properties that exclude each other, right and wrong, and what is made for them |
+//! | [`naming`] | dictionaries, right, wrong and hostile, and descriptions that name what is in them |
 //! | [`damage`] | bytes with one fault or several |
 //! | [`exchange`] | two entries of one block exchanged, and whether the checks tell |
-//! | [`agree`] | the calls on both sides, compared, under a list and without |
+//! | [`agree`] | the calls on both sides, compared, under a list and without, with a dictionary and without |
 //! | [`small`] | small records, to look for an item by trying all |
 //! | [`rounds`] | rounds of cases, and how often each answer came |
 //! | [`vectors`] | calls with their bytes, and the line that the reference gives for each |
@@ -32,6 +34,7 @@ pub mod drawn;
 pub mod exchange;
 pub mod excluding;
 pub mod named;
+pub mod naming;
 pub mod rounds;
 pub mod small;
 pub mod vectors;

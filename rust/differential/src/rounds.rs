@@ -13,19 +13,39 @@ use crate::derived;
 use crate::draw::{self, Names, Shape};
 use crate::exchange;
 use crate::excluding::{self, Given};
-use crate::small::{confirm, confirm_fit, Pool, Size};
+use crate::naming::{self, Dictionary};
+use crate::small::{confirm, confirm_fit, confirm_unfolded, Pool, Size};
+use crate::{MOST_DEPTH, MOST_DESCRIPTION};
 
 /// What a round gives: nothing, or the difference that it found.
 pub type Found = Result<(), Difference>;
 
-/// How often each answer came of each call, under a list of pairs and without one.
+/// Whether a call was given a list of pairs and a dictionary, of length above 0.
+#[derive(Clone, Copy, Debug, Default, PartialEq, Eq, PartialOrd, Ord)]
+struct With {
+    list: bool,
+    names: bool,
+}
+
+impl With {
+    fn of(given: &Given) -> With {
+        With {
+            list: !given.pairs.is_empty(),
+            names: !given.dictionary.is_empty(),
+        }
+    }
+}
+
+/// How often each answer came of each call, with a list of pairs, with a dictionary, with both and without.
 #[derive(Clone, Debug, Default)]
-pub struct Tally(BTreeMap<(&'static str, bool, String), u64>);
+pub struct Tally(BTreeMap<(&'static str, With, String), u64>);
 
 impl Tally {
     /// Counts an answer.
-    fn add(&mut self, call: &'static str, listed: bool, answer: Answer) {
+    fn add(&mut self, call: &'static str, with: With, answer: Answer) {
         let name = match answer {
+            // The descriptions of a dictionary together.
+            Answer::Refused(number, 101..) => format!("refused {number} input 100 + n"),
             Answer::Refused(number, input) => format!("refused {number} input {input}"),
             Answer::Count(_) => "count".to_string(),
             Answer::Yes => "yes".to_string(),
@@ -33,28 +53,42 @@ impl Tally {
             Answer::Contained => "contained".to_string(),
             Answer::NotContained(..) => "not contained".to_string(),
         };
-        *self.0.entry((call, listed, name)).or_insert(0) += 1;
+        *self.0.entry((call, with, name)).or_insert(0) += 1;
     }
 
-    /// How often this answer came of this call, with a list and without.
+    /// How often this answer came of this call, with whatever it was given.
     pub fn count(&self, call: &'static str, answer: &str) -> u64 {
-        let [listed, plain] = [true, false].map(|listed| (call, listed, answer.to_string()));
-        let count = |key| self.0.get(key).copied().unwrap_or(0);
-        count(&listed) + count(&plain)
+        self.count_where(call, answer, |_| true)
     }
 
     /// How often this answer came of this call under a list.
     pub fn count_listed(&self, call: &'static str, answer: &str) -> u64 {
-        let key = (call, true, answer.to_string());
-        self.0.get(&key).copied().unwrap_or(0)
+        self.count_where(call, answer, |with| with.list)
+    }
+
+    /// How often this answer came of this call with a dictionary.
+    pub fn count_named(&self, call: &'static str, answer: &str) -> u64 {
+        self.count_where(call, answer, |with| with.names)
+    }
+
+    fn count_where(&self, call: &str, answer: &str, wanted: fn(&With) -> bool) -> u64 {
+        let each = self.0.iter();
+        each.filter(|((of, with, name), _)| *of == call && name == answer && wanted(with))
+            .map(|(_, count)| count)
+            .sum()
     }
 }
 
 impl fmt::Display for Tally {
     fn fmt(&self, f: &mut fmt::Formatter<'_>) -> fmt::Result {
-        for ((call, listed, answer), count) in &self.0 {
-            let under = if *listed { "under a list" } else { "" };
-            writeln!(f, "{call:<17} {under:<13} {answer:<19} {count:>10}")?;
+        for ((call, with, answer), count) in &self.0 {
+            let given = match (with.list, with.names) {
+                (false, false) => "",
+                (true, false) => "list",
+                (false, true) => "names",
+                (true, true) => "list and names",
+            };
+            writeln!(f, "{call:<17} {given:<14} {answer:<24} {count:>10}")?;
         }
         Ok(())
     }
@@ -86,6 +120,8 @@ pub struct Rounds {
     pub tally: Tally,
     /// What the calls of a round are given before their inputs.
     given: Given,
+    /// The dictionary that the descriptions of a round are drawn for.
+    dictionary: Dictionary,
     pools: [(Names, Pool); 3],
 }
 
@@ -97,6 +133,7 @@ impl Rounds {
             chance: Chance::from_seed(seed),
             tally: Tally::default(),
             given: Given::default(),
+            dictionary: Dictionary::default(),
             pools: [Names::Low, Names::Middle, Names::High].map(|names| (names, pool(names))),
         }
     }
@@ -108,34 +145,60 @@ impl Rounds {
     /// The difference.
     pub fn any(&mut self) -> Found {
         match self.chance.below(64) {
-            0..=19 => self.pair(),
-            20..=27 => self.normal(),
-            28..=37 => self.fits(),
-            38..=48 => self.damage(),
-            49..=51 => self.lists(),
-            52..=54 => self.exchange(),
-            55..=57 => self.outputs(),
-            58..=62 => self.small(),
+            0..=17 => self.pair(),
+            18..=24 => self.normal(),
+            25..=33 => self.fits(),
+            34..=43 => self.damage(),
+            44..=45 => self.lists(),
+            46..=48 => self.dictionaries(),
+            49..=51 => self.exchange(),
+            52..=54 => self.outputs(),
+            55..=57 => self.unfolds(),
+            58..=61 => self.small(),
+            62 => self.hostile(),
             _ => self.full(),
         }
     }
 
     fn description(&mut self) -> Vec<Entry> {
         let shape = draw::shape(&mut self.chance);
-        draw::description(&mut self.chance, &shape)
+        self.shaped(&shape)
     }
 
-    /// Gives the calls to come a list drawn for these entries; half of the time an empty one.
+    /// A description of this shape, which may name what is in the round's dictionary.
+    fn shaped(&mut self, shape: &Shape) -> Vec<Entry> {
+        let plain = draw::description(&mut self.chance, shape);
+        self.dictionary.naming(&mut self.chance, &plain)
+    }
+
+    /// Draws a dictionary for the descriptions to come; two times of three there is none.
+    fn draw_dictionary(&mut self) {
+        self.dictionary = Dictionary::default();
+        if self.chance.once_in(3) {
+            let shape = draw::shape(&mut self.chance);
+            let most = self.chance.one_of([6, 6, 40]);
+            self.dictionary = Dictionary::drawn(&mut self.chance, &shape, most);
+        }
+    }
+
+    /// Gives the calls to come a list drawn for these entries, half of the time an empty one, and the round's dictionary.
     fn give_list(&mut self, entries: &[Entry]) {
         self.given = Given::default();
+        self.given.dictionary = self.dictionary.bytes();
         if self.chance.once_in(2) {
-            self.given.pairs = excluding::drawn(&mut self.chance, entries);
+            let named = self.dictionary.descriptions.concat();
+            self.given.pairs = excluding::drawn(&mut self.chance, &[entries, &named].concat());
         }
+    }
+
+    /// The bytes of a description once it is unfolded.
+    fn needed(&self, d: &[u8]) -> usize {
+        agree::plain(self.given.under(), d).len()
     }
 
     /// Counts an answer of a call that takes a list.
     fn count(&mut self, call: &'static str, answer: Answer) -> Answer {
-        self.tally.add(call, !self.given.pairs.is_empty(), answer);
+        self.tally.add(call, With::of(&self.given), answer);
         answer
     }
 
@@ -147,7 +210,7 @@ impl Rounds {
     fn compare_entries(&mut self, c: &[Entry], d: &[Entry]) -> Result<Answer, Difference> {
         let (c, d) = (encode(c), encode(d));
         let longer = self.chance.one_of([0, 0, 1, 511, 513]);
-        self.compare(&c, &d, c.len() + d.len() + longer)
+        self.compare(&c, &d, self.needed(&c) + self.needed(&d) + longer)
     }
 
     fn contained(&mut self, c: &[Entry], d: &[Entry]) -> Found {
@@ -166,6 +229,17 @@ impl Rounds {
         Ok(self.count("normal form", answer))
     }
 
+    /// Unfolds with the dictionary that is given; the list plays no part.
+    fn unfold(&mut self, d: &[u8], length: usize) -> Result<Answer, Difference> {
+        let answer = agree::unfold(&mut self.chance, &self.given.dictionary, d, length)?;
+        let with = With {
+            list: false,
+            ..With::of(&self.given)
+        };
+        self.tally.add("unfold", with, answer);
+        Ok(answer)
+    }
+
     /// Reads the bytes as a description and as a specimen.
     ///
     /// # Errors
@@ -176,8 +250,9 @@ impl Rounds {
             agree::read_description(bytes)?,
             agree::read_specimen(bytes)?,
         );
-        self.tally.add("read description", false, description);
-        self.tally.add("read specimen", false, specimen);
+        self.tally
+            .add("read description", With::default(), description);
+        self.tally.add("read specimen", With::default(), specimen);
         Ok(())
     }
 
@@ -187,6 +262,7 @@ impl Rounds {
     ///
     /// The difference.
     pub fn pair(&mut self) -> Found {
+        self.draw_dictionary();
         let c = self.description();
         let other = self.description();
         self.give_list(&[&c[..], &other].concat());
@@ -197,13 +273,14 @@ impl Rounds {
     /// A description compared with weaker ones, and with ones that miss by an entry.
     fn weaker_and_missed(&mut self, c: &[Entry]) -> Found {
         let chance = &mut self.chance;
-        let mut d = derived::weaker(chance, c);
+        let mut d = self.dictionary.within(&derived::weaker(chance, c));
         if chance.once_in(2) {
             d = derived::reordered(chance, &d);
         }
         let missed = derived::missed(chance, &d);
         let past = derived::past_at_most_0(chance, c);
         let implied = excluding::with_implied_lacks(chance, &self.given.pairs, &d);
+        let implied = self.dictionary.within(&implied);
         self.contained(c, &implied)?;
         self.contained(c, &d)?;
         self.compare_entries(c, &missed)?;
@@ -218,6 +295,7 @@ impl Rounds {
     ///
     /// The difference.
     pub fn normal(&mut self) -> Found {
+        self.draw_dictionary();
         let d = self.description();
         self.give_list(&d);
         self.normal_of(&d)
@@ -226,8 +304,9 @@ impl Rounds {
     fn normal_of(&mut self, d: &[Entry]) -> Found {
         let bytes = encode(d);
         let longer = self.chance.one_of([0, 1, 511, 512, 1500]);
-        self.normal_form(&bytes, bytes.len() + longer)?;
-        let mut out = vec![0; bytes.len()];
+        let needed = self.needed(&bytes);
+        self.normal_form(&bytes, needed + longer)?;
+        let mut out = vec![0; needed];
         let under = self.given.under();
         let entries = under.normal_form(&bytes, &mut out).map_or(0, usize::from);
         let normal = reference::decode(out.get(..crate::length_of(entries)).unwrap_or(&[]));
@@ -235,7 +314,7 @@ impl Rounds {
         self.contained(&normal, d)?;
         let chance = &mut self.chance;
         let more = excluding::with_implied_lacks(chance, &self.given.pairs, d);
-        let other = derived::reordered(chance, &more);
+        let other = derived::reordered(chance, &self.dictionary.within(&more));
         agree::same_normal_form(self.given.under(), d, &other)
     }
 
@@ -246,8 +325,9 @@ impl Rounds {
     ///
     /// The difference.
     pub fn fits(&mut self) -> Found {
+        self.draw_dictionary();
         let shape = draw::shape(&mut self.chance);
-        let d = draw::description(&mut self.chance, &shape);
+        let d = self.shaped(&shape);
         let alone = draw::specimen(&mut self.chance, &shape);
         self.give_list(&[&d[..], &alone].concat());
         self.fit(&encode(&alone), &encode(&d))?;
@@ -266,7 +346,7 @@ impl Rounds {
     /// fits'.
     fn specimen_for(&mut self, d: &[Entry]) -> Vec<Entry> {
         let (d, nothing) = (encode(d), encode(&[entry(6, 0, 0, 0)]));
-        let mut out = vec![0; d.len() + nothing.len()];
+        let mut out = vec![0; self.needed(&d) + nothing.len()];
         let entries = match self.given.under().compare(&d, &nothing, &mut out) {
             Ok(goltximen::Comparison::NotContained { entries, .. }) => usize::from(entries),
             _ => return Vec::new(),
@@ -280,9 +360,10 @@ impl Rounds {
     ///
     /// The difference.
     pub fn damage(&mut self) -> Found {
+        self.draw_dictionary();
         let shape = draw::shape(&mut self.chance);
+        let entries = self.shaped(&shape);
         let chance = &mut self.chance;
-        let entries = draw::description(chance, &shape);
         let good = encode(&entries);
         let bad = damaged(chance, Sort::Description, &entries);
         let worse = damaged(chance, Sort::Description, &entries);
@@ -293,7 +374,8 @@ impl Rounds {
         self.read(&bad)?;
         self.read(&bad_specimen)?;
         for (c, d) in [(&bad, &good), (&good, &bad), (&bad, &worse)] {
-            let length = self.chance.one_of([0, c.len() + d.len()]);
+            let both = self.needed(c) + self.needed(d);
+            let length = self.chance.one_of([0, both]);
             self.compare(c, d, length)?;
         }
         for (s, d) in [
@@ -303,12 +385,14 @@ impl Rounds {
         ] {
             self.fit(s, d)?;
         }
-        let length = self.chance.one_of([0, bad.len()]);
+        let needed = self.needed(&bad);
+        let length = self.chance.one_of([0, needed]);
         self.normal_form(&bad, length)?;
+        self.unfold(&bad, length)?;
         Ok(())
     }
 
-    /// Lists that are refused and dictionaries, alone and together, in each call with inputs that are accepted or damaged.
+    /// Lists that are refused and dictionaries with slips, alone and together, in each call with inputs that are accepted or damaged.
     ///
     /// # Errors
     ///
@@ -323,7 +407,9 @@ impl Rounds {
         let bad = damaged(chance, Sort::Description, &entries);
         let bad_specimen = damaged(chance, Sort::Specimen, &properties);
         let wrong = excluding::wrong(chance, &right);
-        let dictionary = excluding::dictionary(chance);
+        let names = Dictionary::drawn(chance, &shape, 6);
+        let slip = chance.below(naming::SLIPS);
+        let dictionary = naming::slipped(chance, &names, slip);
         for (pairs, dictionary) in [
             (&wrong, &Vec::new()),
             (&right, &dictionary),
@@ -343,6 +429,116 @@ impl Rounds {
         Ok(())
     }
 
+    /// A dictionary with each slip in turn, in each call with inputs that name what is in it and are accepted or damaged.
+    ///
+    /// # Errors
+    ///
+    /// The difference.
+    pub fn dictionaries(&mut self) -> Found {
+        let shape = draw::shape(&mut self.chance);
+        self.dictionary = Dictionary::drawn(&mut self.chance, &shape, 6);
+        let entries = self.shaped(&shape);
+        let chance = &mut self.chance;
+        let properties = draw::specimen(chance, &shape);
+        let (d, s) = (encode(&entries), encode(&properties));
+        let bad = damaged(chance, Sort::Description, &entries);
+        let bad_specimen = damaged(chance, Sort::Specimen, &properties);
+        for slip in 0..naming::SLIPS {
+            self.given = Given {
+                pairs: Vec::new(),
+                dictionary: naming::slipped(&mut self.chance, &self.dictionary, slip),
+            };
+            for (s, d) in [(&s, &d), (&bad_specimen, &bad)] {
+                let needed = self.needed(d);
+                let length = self.chance.one_of([0, 2 * needed]);
+                self.fit(s, d)?;
+                self.normal_form(d, length)?;
+                self.compare(d, d, length)?;
+                self.unfold(d, length)?;
+            }
+        }
+        Ok(())
+    }
+
+    /// Unfolding with outputs of lengths around the one that is needed, of descriptions that stay within the limits and of ones
+    /// with a name too many.
+    ///
+    /// # Errors
+    ///
+    /// The difference.
+    pub fn unfolds(&mut self) -> Found {
+        let shape = draw::shape(&mut self.chance);
+        let most = self.chance.one_of([6, 40, 200]);
+        self.dictionary = Dictionary::drawn(&mut self.chance, &shape, most);
+        let d = self.description();
+        self.give_list(&[]);
+        let bytes = encode(&d);
+        let needed = self.needed(&bytes);
+        for length in [0, 1, needed - 1, needed, needed + 1, needed + 512] {
+            self.unfold(&bytes, length)?;
+        }
+        self.too_many_names(d)
+    }
+
+    /// The description with names added at any owner until it is too much, or a few more.
+    fn too_many_names(&mut self, mut d: Vec<Entry>) -> Found {
+        let due = |extent: naming::Extent| match extent.is_too_much() {
+            true => Answer::Refused(14, 1),
+            false => Answer::Count(extent.entries),
+        };
+        let owners: Vec<u16> = (1..)
+            .zip(&d)
+            .filter(|(_, e)| e.kind == 5)
+            .map(|e| e.0)
+            .collect();
+        for _ in 0..self.chance.below(40) {
+            let name = self.dictionary.any_name(&mut self.chance);
+            if name == 0 || d.len() == MOST_DESCRIPTION {
+                break;
+            }
+            let owner = self.chance.any(&owners).unwrap_or(0);
+            let depth = derived::way(&d, owner).len();
+            d.push(naming::named(
+                if depth > MOST_DEPTH { 0 } else { owner },
+                name,
+            ));
+        }
+        let bytes = encode(&d);
+        let answer = self.unfold(&bytes, crate::length_of(MOST_DESCRIPTION))?;
+        if answer != due(self.dictionary.extent(&d)) {
+            let under = self.given.under();
+            return Err(agree::found(
+                "unfold: 14 goes by another size",
+                under,
+                &[&d],
+            ));
+        }
+        self.normal_form(&bytes, crate::length_of(MOST_DESCRIPTION))?;
+        self.fit(&encode(&[]), &bytes)?;
+        self.compare(&bytes, &bytes, 2 * crate::length_of(MOST_DESCRIPTION))?;
+        Ok(())
+    }
+
+    /// Dictionaries that are meant to take long, and descriptions that name each of theirs and the last many times.
+    ///
+    /// # Errors
+    ///
+    /// The difference.
+    pub fn hostile(&mut self) -> Found {
+        self.dictionary = Dictionary::hostile(&mut self.chance);
+        let times = self.chance.one_of([1, 2, 63, 64, MOST_DESCRIPTION]);
+        let last = crate::word(naming::MOST_NAMES);
+        let many = vec![naming::named(0, last); times];
+        let mut below = naming::chain(self.chance.below(MOST_DEPTH + 2));
+        let owner = crate::word(below.len().min(MOST_DEPTH));
+        below.extend((1..=last).map(|name| naming::named(owner, name)));
+        self.give_list(&[]);
+        for d in [many, below] {
+            self.too_many_names(d)?;
+        }
+        Ok(())
+    }
+
     /// Two entries of one block exchanged, in a description and in a specimen: refused or not as distance and word sums say, and
     /// the same in each call.
     ///
@@ -351,6 +547,7 @@ impl Rounds {
     /// The difference.
     pub fn exchange(&mut self) -> Found {
         self.given = Given::default();
+        self.dictionary = Dictionary::default();
         let shape = draw::shape(&mut self.chance);
         let d = draw::description(&mut self.chance, &shape);
         let s = draw::specimen(&mut self.chance, &shape);
@@ -377,7 +574,7 @@ impl Rounds {
         let mut bytes = encode(&entries);
         exchange::exchange(&mut bytes, one, other);
         let answer = agree::exchanged(sort, &bytes, exchange::told(&entries, one, other))?;
-        self.tally.add("exchange", false, answer);
+        self.tally.add("exchange", With::default(), answer);
         Ok(bytes)
     }
 
@@ -387,14 +584,16 @@ impl Rounds {
     ///
     /// The difference.
     pub fn outputs(&mut self) -> Found {
+        self.draw_dictionary();
         let (c, d) = (self.description(), self.description());
         self.give_list(&[&c[..], &d].concat());
         let (c, d) = (encode(&c), encode(&d));
-        let both = c.len() + d.len();
+        let (needed, other) = (self.needed(&c), self.needed(&d));
+        let both = needed + other;
         for length in [
             0,
             1,
-            c.len().max(d.len()),
+            needed.max(other),
             both - 512,
             both - 1,
             both,
@@ -406,13 +605,14 @@ impl Rounds {
         for length in [
             0,
             1,
-            c.len() - 512,
-            c.len() - 1,
-            c.len(),
-            c.len() + 1,
-            c.len() + 512,
+            needed - 512,
+            needed - 1,
+            needed,
+            needed + 1,
+            needed + 512,
         ] {
             self.normal_form(&c, length)?;
+            self.unfold(&c, length)?;
         }
         Ok(())
     }
@@ -432,19 +632,34 @@ impl Rounds {
             names,
             ..draw::SMALL
         };
+        self.dictionary = match chance.once_in(3) {
+            true => {
+                let count = 1 + chance.below(3);
+                Dictionary::of_drawn(chance, &shape, count, 4)
+            }
+            false => Dictionary::default(),
+        };
         let c = draw::description(chance, &shape);
+        let c = self.dictionary.naming(chance, &c);
         let weaker = derived::weaker(chance, &c);
         let missed = derived::missed(chance, &weaker);
         let other = draw::description(chance, &shape);
+        let other = self.dictionary.naming(chance, &other);
         let s = draw::specimen(chance, &shape);
         let more = with_one_more(chance, &s);
         let mut pool = pool.some(chance, 1000);
         pool.add_drawn(chance, size(names, 3), 1000);
         self.give_list(&[&c[..], &missed].concat());
         let pool = pool.keeping(&self.given.pairs);
-        for d in [&weaker, &missed, &other] {
+        let plain = |d: &[Entry]| reference::decode(&agree::plain(self.given.under(), &encode(d)));
+        let plain_c = plain(&c);
+        let plains = [&weaker, &missed, &other].map(|d| plain(d));
+        let few = pool.some(&mut self.chance, 200);
+        confirm_unfolded(&few, &self.dictionary, &c, &plain_c)?;
+        for (d, plain_d) in [&weaker, &missed, &other].into_iter().zip(&plains) {
+            confirm_unfolded(&few, &self.dictionary, d, plain_d)?;
             let answer = self.compare_entries(&c, d)?;
-            confirm(&pool, self.given.under(), &c, d, answer)?;
+            confirm(&pool, self.given.under(), &plain_c, plain_d, answer)?;
         }
         let made = self.specimen_for(&c);
         let changed = changed(&mut self.chance, &made);
@@ -452,7 +667,7 @@ impl Rounds {
             [&s, &made].map(|s| excluding::with_partner(&mut self.chance, &self.given.pairs, s));
         for s in [&s, &more, &made, &changed, &both[0], &both[1]] {
             let answer = self.fit(&encode(s), &encode(&c))?;
-            confirm_fit(self.given.under(), s, &c, answer)?;
+            confirm_fit(self.given.under(), s, &plain_c, answer)?;
         }
         Ok(())
     }
@@ -463,9 +678,9 @@ impl Rounds {
     ///
     /// The difference.
     pub fn full(&mut self) -> Found {
+        self.draw_dictionary();
         let shape = draw::full_shape(&mut self.chance);
-        let c = draw::description(&mut self.chance, &shape);
-        let d = draw::description(&mut self.chance, &shape);
+        let (c, d) = (self.shaped(&shape), self.shaped(&shape));
         let s = draw::full_specimen(&mut self.chance);
         self.give_list(&[&c[..], &d, &s].concat());
         self.normal_of(&c)?;

@@ -4,12 +4,13 @@ use std::collections::BTreeSet;
 
 use goltximen::Under;
 use reference::notation::entry;
-use reference::record::{fits, specimen_record, Record};
+use reference::record::{fits, fits_named, specimen_record, Record};
 use reference::{encode, Entry, Link, Property};
 
 use crate::agree::{found, Answer, Difference};
 use crate::chance::Chance;
 use crate::draw::Names;
+use crate::naming::Dictionary;
 
 /// How many items, properties and links a record has.
 #[derive(Clone, Copy, Debug)]
@@ -249,6 +250,36 @@ pub fn confirm(
         }
         _ => Ok(()),
     }
+}
+
+/// Looks at an unfolding in records: the same items fit the description, by what its names mean, and what is unfolded.
+///
+/// # Errors
+///
+/// The difference.
+pub fn confirm_unfolded(
+    pool: &Pool,
+    dictionary: &Dictionary,
+    d: &[Entry],
+    plain: &[Entry],
+) -> Result<(), Difference> {
+    let same = pool.records.iter().all(|record| {
+        let named = |item| fits_named(record, item, &dictionary.descriptions, d, 0);
+        (0..record.items).all(|item| named(item) == fits(record, item, plain, 0))
+    });
+    if same {
+        return Ok(());
+    }
+    let bytes = dictionary.bytes();
+    let under = Under {
+        pairs: &[],
+        dictionary: &bytes,
+    };
+    Err(found(
+        "unfold: an item of a record fits one of the two",
+        under,
+        &[d, plain],
+    ))
 }
 
 /// The fit answer is the one in the specimen's record, item by item; 9 exactly where this record breaks the rule, and else 12

@@ -14,9 +14,10 @@
 //! | 14-15 | 0 |
 //!
 //! After byte 15 come the list, the dictionary, input 1 and input 2, with nothing between them and nothing before the next header.
-//! The fit answer, the normal form and the comparison are always made with the list and the dictionary, which may be empty; the two
-//! readers take neither. A call without pairs is one with a list of length 0. No length is above [`MOST_LENGTH`]. Each byte of
-//! the output is [`FILL`] before the call.
+//! The fit answer, the normal form and the comparison are always made with the list and the dictionary, which may be empty; the
+//! unfolding is made with the dictionary, and its list has length 0; the two readers take neither. A call without pairs is one with
+//! a list of length 0, and one without a dictionary one with a dictionary of length 0. No length of a dictionary is above
+//! [`MOST_DICTIONARY`], and no other above [`MOST_LENGTH`]. Each byte of the output is [`FILL`] before the call.
 
 use std::fmt;
 
@@ -27,10 +28,12 @@ use crate::{drawn, named, word};
 
 /// Each byte of an output before the call.
 pub const FILL: u8 = 165;
-/// The most bytes of a list, dictionary, input or output of a vector: 34 blocks.
+/// The most bytes of a list, input or output of a vector: 34 blocks.
 pub const MOST_LENGTH: usize = 17_408;
+/// The most bytes of a dictionary of a vector: 66 blocks.
+pub const MOST_DICTIONARY: usize = 33_792;
 /// The most vectors of a list.
-pub const MOST_VECTORS: usize = 1000;
+pub const MOST_VECTORS: usize = 1500;
 /// What the digest of an output stays below, the largest prime below 2^32.
 const MODULUS: u64 = 4_294_967_291;
 
@@ -47,12 +50,14 @@ pub enum Call {
     NormalForm = 4,
     /// Input 1 compared with input 2, under the list and the dictionary.
     Compare = 5,
+    /// Input 1 unfolded, with the dictionary.
+    Unfold = 6,
 }
 
 impl Call {
     /// Whether the call has an output.
     fn writes(self) -> bool {
-        matches!(self, Call::NormalForm | Call::Compare)
+        matches!(self, Call::NormalForm | Call::Compare | Call::Unfold)
     }
 }
 
@@ -64,6 +69,7 @@ impl fmt::Display for Call {
             Call::Fit => "fit",
             Call::NormalForm => "normal form",
             Call::Compare => "compare",
+            Call::Unfold => "unfold",
         })
     }
 }
@@ -75,8 +81,8 @@ pub enum Answer {
     Accepted(usize),
     /// Whether the top item fits.
     Fits(bool),
-    /// A normal form of so many entries.
-    NormalForm(usize),
+    /// So many entries that are written.
+    Wrote(usize),
     /// The answer of the comparison.
     Compared(Comparison),
     /// A refusal.
@@ -88,7 +94,7 @@ impl Answer {
     fn sort(&self) -> String {
         match self {
             Answer::Accepted(_) => " accepted".to_string(),
-            Answer::NormalForm(_) => String::new(),
+            Answer::Wrote(_) => String::new(),
             Answer::Compared(Comparison::NotContained { .. }) => " not contained".to_string(),
             Answer::Refused(Refusal { number, input, .. }) => {
                 format!(" refused {number} input {input}")
@@ -104,7 +110,7 @@ impl fmt::Display for Answer {
             Answer::Accepted(entries) => write!(f, " accepted {entries}"),
             Answer::Fits(true) => f.write_str(" yes"),
             Answer::Fits(false) => f.write_str(" no"),
-            Answer::NormalForm(entries) => write!(f, " {entries}"),
+            Answer::Wrote(entries) => write!(f, " {entries}"),
             Answer::Compared(Comparison::Contained) => f.write_str(" contained"),
             Answer::Compared(Comparison::NotContained { entry, entries }) => {
                 write!(f, " not contained {entry} entries {entries}")
@@ -159,6 +165,11 @@ impl Vector {
         Vector::of(Call::Compare, c, d, output)
     }
 
+    /// The unfolding, with an output of this length.
+    pub fn unfold(description: Vec<u8>, output: usize) -> Vector {
+        Vector::of(Call::Unfold, description, Vec::new(), output)
+    }
+
     fn of(call: Call, first: Vec<u8>, second: Vec<u8>, output: usize) -> Vector {
         Vector {
             call,
@@ -172,6 +183,13 @@ impl Vector {
     /// The same call under a list of these pairs.
     pub fn under(self, pairs: &[(u16, u16)]) -> Vector {
         self.given(Given::pairs(pairs))
+    }
+
+    /// The same call with this dictionary, and its list as it is.
+    pub fn with(self, dictionary: &[u8]) -> Vector {
+        let pairs = self.given.pairs.clone();
+        let dictionary = dictionary.to_vec();
+        self.given(Given { pairs, dictionary })
     }
 
     /// The same call with this list and dictionary.
@@ -207,11 +225,12 @@ impl Vector {
             Call::Specimen => reference::read_specimen(first).map(Answer::Accepted),
             Call::Fit => reference::fit_with(pairs, dict, first, second).map(Answer::Fits),
             Call::NormalForm => {
-                reference::normal_with(pairs, dict, first, &mut out).map(Answer::NormalForm)
+                reference::normal_with(pairs, dict, first, &mut out).map(Answer::Wrote)
             }
             Call::Compare => {
                 reference::compare_with(pairs, dict, first, second, &mut out).map(Answer::Compared)
             }
+            Call::Unfold => reference::unfold(dict, first, &mut out).map(Answer::Wrote),
         };
         (answer.unwrap_or_else(Answer::Refused), out)
     }
@@ -246,10 +265,12 @@ pub fn all() -> Vec<Vector> {
         named::checks(),
         named::single_links(),
         named::excluding::all(),
+        named::naming::all(),
         named::desk(),
         named::report(),
         drawn::drawn(),
         drawn::listed(),
+        drawn::naming(),
         drawn::at_the_limit(),
     ];
     lists.into_iter().flatten().collect()

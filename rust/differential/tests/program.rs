@@ -111,7 +111,10 @@ fn the_five_forms() {
         ("", "4,65535,65535", "contained\n"),
         ("3,32768,2", "6", "contained\n"),
         ("", "6", "not contained 1\n"),
-        ("1,7", "9,7", "refused 4 input 2 place 1\n"),
+        ("1,7", "8,7", "refused 4 input 2 place 1\n"),
+        // The program passes a dictionary of length 0.
+        ("1,7", "9,7", "refused 13 input 2 place 1\n"),
+        ("9,1,1", "9,7", "refused 4 input 1 place 1\n"),
     ] {
         let input = [blocks(c), blocks(d)].concat();
         assert_eq!(same(&program, &input), text);

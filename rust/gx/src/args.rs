@@ -21,6 +21,8 @@ pub enum Command {
     Fit,
     /// The comparison.
     Compare,
+    /// A description without named entries.
+    Unfold,
     /// The question in OWL.
     Owl,
     /// A description from OWL.
@@ -29,13 +31,14 @@ pub enum Command {
 
 impl Command {
     /// All commands, in the order of the help.
-    pub const ALL: [Command; 8] = [
+    pub const ALL: [Command; 9] = [
         Command::Show,
         Command::Write,
         Command::Check,
         Command::Normal,
         Command::Fit,
         Command::Compare,
+        Command::Unfold,
         Command::Owl,
         Command::FromOwl,
     ];
@@ -49,6 +52,7 @@ impl Command {
             Command::Normal => "normal",
             Command::Fit => "fit",
             Command::Compare => "compare",
+            Command::Unfold => "unfold",
             Command::Owl => "owl",
             Command::FromOwl => "from-owl",
         }
@@ -65,6 +69,7 @@ impl Command {
         match self {
             Command::Show => &[
                 "--names",
+                "--dictionary",
                 "--json",
                 "--from",
                 "--sort",
@@ -72,21 +77,46 @@ impl Command {
                 "--numbers",
                 "--out",
             ],
-            Command::Write => &["--names", "--json", "--from", "--sort", "--out"],
-            Command::Check => &["--names", "--json", "--from", "--sort"],
-            Command::Normal => &[
+            Command::Write => &[
+                "--names",
+                "--dictionary",
+                "--json",
+                "--from",
+                "--sort",
+                "--out",
+            ],
+            Command::Check => &[
                 "--names",
                 "--pairs",
+                "--dictionary",
+                "--json",
+                "--from",
+                "--sort",
+            ],
+            Command::Unfold => &[
+                "--names",
+                "--dictionary",
                 "--json",
                 "--from",
                 "--to",
                 "--numbers",
                 "--out",
             ],
-            Command::Fit => &["--names", "--pairs", "--json", "--from"],
+            Command::Normal => &[
+                "--names",
+                "--pairs",
+                "--dictionary",
+                "--json",
+                "--from",
+                "--to",
+                "--numbers",
+                "--out",
+            ],
+            Command::Fit => &["--names", "--pairs", "--dictionary", "--json", "--from"],
             Command::Compare => &[
                 "--names",
                 "--pairs",
+                "--dictionary",
                 "--json",
                 "--from",
                 "--svg",
@@ -94,7 +124,14 @@ impl Command {
                 "--specimen",
                 "--whole",
             ],
-            Command::Owl => &["--names", "--pairs", "--json", "--from", "--out"],
+            Command::Owl => &[
+                "--names",
+                "--pairs",
+                "--dictionary",
+                "--json",
+                "--from",
+                "--out",
+            ],
             Command::FromOwl => &[
                 "--names",
                 "--json",
@@ -129,6 +166,17 @@ pub enum To {
     Blocks,
 }
 
+/// What an input is, or is to be written.
+#[derive(Clone, Copy, Debug, PartialEq, Eq)]
+pub enum Content {
+    /// A description or a specimen.
+    Entries(Sort),
+    /// A list of pairs.
+    Pairs,
+    /// A dictionary.
+    Dictionary,
+}
+
 /// The options.
 #[derive(Clone, Debug, Default, PartialEq, Eq)]
 pub struct Options {
@@ -136,14 +184,14 @@ pub struct Options {
     pub names: Option<PathBuf>,
     /// The list of properties that exclude each other.
     pub pairs: Option<PathBuf>,
+    /// The dictionary of named descriptions.
+    pub dictionary: Option<PathBuf>,
     /// For programs.
     pub json: bool,
     /// The form of the inputs, where it is not told by them.
     pub from: Option<Form>,
-    /// The sort of the inputs, where it is not told by them.
-    pub sort: Option<Sort>,
-    /// The inputs are lists of pairs, or a list is what is to be written.
-    pub list: bool,
+    /// What the inputs are, where it is not told by them.
+    pub sort: Option<Content>,
     /// The form of the output.
     pub to: Option<To>,
     /// Each entry is written with its number.
@@ -170,7 +218,7 @@ pub enum Args {
     /// The version.
     Version,
     /// Something to do.
-    Do(Command, Vec<PathBuf>, Options),
+    Do(Command, Vec<PathBuf>, Box<Options>),
 }
 
 /// Reads the command line, without the program's own name.
@@ -246,6 +294,7 @@ impl<'a> Line<'a> {
             return Err(format!("{word} takes two inputs, and {count} are given"));
         }
         let read = self.files.iter().chain(&self.options.pairs);
+        let read = read.chain(&self.options.dictionary);
         let stdin = read.filter(|file| file.as_os_str() == "-");
         if stdin.count() > 1 {
             return Err("standard input can be read once only".into());
@@ -254,7 +303,7 @@ impl<'a> Line<'a> {
         if files.is_empty() {
             files.push("-".into());
         }
-        Ok(Args::Do(self.command, files, self.options))
+        Ok(Args::Do(self.command, files, Box::new(self.options)))
     }
 
     fn option(&mut self, word: &str) -> Result<(), String> {
@@ -294,6 +343,7 @@ impl<'a> Line<'a> {
         match option {
             "--names" => options.names = Some(value.into()),
             "--pairs" => options.pairs = Some(value.into()),
+            "--dictionary" => options.dictionary = Some(value.into()),
             "--out" => options.out = Some(value.into()),
             "--svg" => options.svg = Some(value.into()),
             "--html" => options.html = Some(value.into()),
@@ -301,11 +351,11 @@ impl<'a> Line<'a> {
             "--class" => options.class = Some(value.to_string_lossy().into_owned()),
             "--from" => options.from = Some(one_of(option, &value, FORMS)?),
             "--sort" => {
-                options.sort = match self.command {
-                    Command::FromOwl => one_of(option, &value, SORTS_FROM_OWL)?,
-                    _ => one_of(option, &value, SORTS)?,
+                let sorts = match self.command {
+                    Command::FromOwl => SORTS_FROM_OWL,
+                    _ => SORTS,
                 };
-                options.list = options.sort.is_none();
+                options.sort = Some(one_of(option, &value, sorts)?);
             }
             _ => options.to = Some(one_of(option, &value, TARGETS)?),
         }
@@ -314,14 +364,16 @@ impl<'a> Line<'a> {
 }
 
 const FORMS: &[(&str, Form)] = &[("blocks", Form::Blocks), ("text", Form::Text)];
-/// The sorts of inputs; a list of pairs is the one that has no entries.
-const SORTS: &[(&str, Option<Sort>)] = &[
-    ("description", Some(Sort::Description)),
-    ("specimen", Some(Sort::Specimen)),
-    ("pairs", None),
+const SORTS: &[(&str, Content)] = &[
+    ("description", Content::Entries(Sort::Description)),
+    ("specimen", Content::Entries(Sort::Specimen)),
+    ("pairs", Content::Pairs),
+    ("dictionary", Content::Dictionary),
 ];
-const SORTS_FROM_OWL: &[(&str, Option<Sort>)] =
-    &[("description", Some(Sort::Description)), ("pairs", None)];
+const SORTS_FROM_OWL: &[(&str, Content)] = &[
+    ("description", Content::Entries(Sort::Description)),
+    ("pairs", Content::Pairs),
+];
 const TARGETS: &[(&str, To)] = &[
     ("text", To::Text),
     ("desk", To::Desk),

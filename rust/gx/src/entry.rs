@@ -15,10 +15,14 @@ impl Link {
     }
 }
 
+/// A description of a dictionary, by its number there.
+#[derive(Clone, Copy, Debug, PartialEq, Eq, PartialOrd, Ord)]
+pub struct Named(pub u16);
+
 /// What the entries of an input stand for.
 #[derive(Clone, Copy, Debug, PartialEq, Eq)]
 pub enum Sort {
-    /// Entries of kinds 1 to 6, in at most 16 blocks.
+    /// Entries of kinds 1 to 6, and of kind 9 where there is a dictionary, in at most 16 blocks.
     Description,
     /// Entries of kinds 1 and 7, in at most 32 blocks.
     Specimen,
@@ -65,13 +69,13 @@ impl Sort {
 /// An entry as it stands in a block.
 #[derive(Clone, Copy, Debug, Default, PartialEq, Eq)]
 pub struct Entry {
-    /// The kind, 1 to 7 in accepted inputs.
+    /// The kind, 1 to 7 and 9 in accepted inputs.
     pub kind: u8,
     /// The byte that is zero in accepted inputs.
     pub zero: u8,
     /// The entry that owns this one, or 0 for the top.
     pub owner: u16,
-    /// The property or link, 0 for kind 6.
+    /// The property, the link or the description of a dictionary, 0 for kind 6.
     pub name: u16,
     /// n for kinds 3 and 4, one less than the count for kind 7, otherwise 0.
     pub number: u16,
@@ -94,6 +98,8 @@ pub enum Says {
     Nothing,
     /// Kind 7, with the count of items.
     Group(Link, u32),
+    /// Kind 9.
+    Named(Named),
     /// A kind that there is not.
     Unknown(u8),
 }
@@ -109,6 +115,7 @@ impl Entry {
             5 => Says::Every(Link(self.name)),
             6 => Says::Nothing,
             7 => Says::Group(Link(self.name), u32::from(self.number) + 1),
+            9 => Says::Named(Named(self.name)),
             kind => Says::Unknown(kind),
         }
     }
@@ -139,6 +146,14 @@ impl Says {
     /// Whether no item meets the entry, since its link leads to one item only: at least 2 or more.
     pub fn is_impossible(self) -> bool {
         matches!(self, Says::AtLeast(link, n) if link.leads_to_one() && n > 1)
+    }
+
+    /// The description of a dictionary that the entry stands for.
+    pub fn named(self) -> Option<Named> {
+        match self {
+            Says::Named(named) => Some(named),
+            _ => None,
+        }
     }
 
     /// The property that the entry speaks of.

@@ -3,6 +3,7 @@
 //!
 //! The entry and the specimen are the library's answer, and so is the normal form in which the supplier's words are looked up.
 
+use crate::background::Background;
 use crate::entry::{Entry, Link, Property, Says};
 use crate::input::Input;
 use crate::library::{self, Compared};
@@ -65,20 +66,21 @@ pub enum Explained {
     NotContained(Box<Failure>),
 }
 
-/// Compares two accepted descriptions under a list and explains the answer.
+/// Compares two accepted descriptions against a background and explains the answer, by their entries once unfolded.
 ///
 /// # Errors
 ///
 /// The library's refusal, which accepted descriptions and lists do not meet.
 pub fn compared(
-    list: &List,
+    background: &Background,
     supplier: &Input,
     service: &Input,
 ) -> Result<Explained, library::Refusal> {
-    match library::compare(list.under(), &supplier.bytes, &service.bytes)? {
+    let (list, under) = (&background.list, background.under());
+    match library::compare(under, &supplier.bytes, &service.bytes)? {
         Compared::Contained => Ok(Explained::Contained),
         Compared::NotContained { entry, specimen } => {
-            let normal = library::normal(list.under(), &supplier.bytes)?;
+            let normal = library::normal(under, &supplier.bytes)?;
             let normal = library::entries(&normal);
             let specimen = library::entries(&specimen);
             let failure = failure(list, supplier, service, entry, &normal, specimen);

@@ -5,7 +5,8 @@ use std::io::Read;
 use std::path::{Path, PathBuf};
 
 use crate::blocks;
-use crate::entry::{Entry, Sort};
+use crate::dictionary::{self, Dictionary, Naming, Origin};
+use crate::entry::{Entry, Named, Sort};
 use crate::library;
 use crate::names::Names;
 use crate::pairs::{self, List};
@@ -32,6 +33,16 @@ impl Form {
             Form::Text
         }
     }
+
+    /// The bytes of a list of pairs may have no zero byte; but a text has no sign before the space other than tabs and the ends
+    /// of lines.
+    fn of_list(bytes: &[u8]) -> Form {
+        let control = |byte: &u8| *byte < b' ' && !b"\t\r\n".contains(byte);
+        match bytes.iter().any(control) {
+            true => Form::Blocks,
+            false => Form::of(bytes),
+        }
+    }
 }
 
 /// How inputs are to be read.
@@ -50,14 +61,18 @@ pub struct Input {
     pub title: String,
     /// The sort it was read as.
     pub sort: Sort,
-    /// The entries.
+    /// The entries; of a description that is asked about, those that it has once unfolded.
     pub entries: Vec<Entry>,
-    /// The blocks.
+    /// The blocks, as they were sent.
     pub bytes: Vec<u8>,
     /// The words: those given, and then those of the text itself.
     pub names: Names,
-    /// Where each entry stands in the text, if the input is one.
+    /// Where each entry stands in the text, if the input is one. What was put in for a named entry stands where that does.
     pub positions: Vec<Position>,
+    /// Where each entry comes from, if named ones were unfolded.
+    pub origins: Vec<Origin>,
+    /// The number of entries as they were sent.
+    pub sent: usize,
 }
 
 /// The most bytes that are read; every accepted input is shorter.
@@ -158,8 +173,14 @@ impl Reading {
     /// # Errors
     ///
     /// The file cannot be read, its text has a mistake, or the library refuses it.
-    pub fn input(&self, path: &Path, sort: Option<Sort>, input: u16) -> Result<Input, Trouble> {
-        self.input_of(path, bytes_of(path)?, sort, input)
+    pub fn input(
+        &self,
+        path: &Path,
+        sort: Option<Sort>,
+        input: u16,
+        naming: Naming<'_>,
+    ) -> Result<Input, Trouble> {
+        self.input_of(path, bytes_of(path)?, sort, input, naming)
     }
 
     /// The same for the bytes of that file.
@@ -173,22 +194,23 @@ impl Reading {
         bytes: Vec<u8>,
         sort: Option<Sort>,
         input: u16,
+        naming: Naming<'_>,
     ) -> Result<Input, Trouble> {
         let draft = match self.form_of(&bytes) {
             Form::Blocks => self.blocks(path, bytes, sort),
             Form::Text => self.text(path, &bytes, sort)?,
         };
-        accepted(path, draft, input)
+        accepted(path, draft, input, naming)
     }
 
     fn form_of(&self, bytes: &[u8]) -> Form {
         self.form.unwrap_or(Form::of(bytes))
     }
 
-    /// Whether these bytes are a text with the heading of a list of pairs.
-    pub fn is_headed_pairs(&self, bytes: &[u8]) -> bool {
+    /// Whether these bytes are a text with this heading.
+    pub fn is_headed(&self, bytes: &[u8], heading: &str) -> bool {
         let text = std::str::from_utf8(bytes);
-        self.form_of(bytes) == Form::Text && text.is_ok_and(text::is_headed_pairs)
+        self.form_of(bytes) == Form::Text && text.is_ok_and(|text| text::is_headed(text, heading))
     }
 
     /// Reads the bytes of a file as a list of pairs.
@@ -198,7 +220,7 @@ impl Reading {
     /// The text has a mistake, or the library refuses the list.
     pub fn list_of(&self, path: &Path, bytes: Vec<u8>) -> Result<List, Trouble> {
         let mut names = self.names.clone();
-        let draft = match self.form_of(&bytes) {
+        let draft = match self.form.unwrap_or(Form::of_list(&bytes)) {
             Form::Blocks => List {
                 title: title(path),
                 pairs: pairs::decode(&bytes),
@@ -223,9 +245,41 @@ impl Reading {
         accepted_list(path, draft)
     }
 
+    /// Reads the bytes of a file as a dictionary.
+    ///
+    /// # Errors
+    ///
+    /// The text has a mistake, or the library refuses the dictionary.
+    pub fn dictionary_of(&self, path: &Path, bytes: Vec<u8>) -> Result<Dictionary, Trouble> {
+        let mut names = self.names.clone();
+        let draft = match self.form_of(&bytes) {
+            Form::Blocks => Dictionary {
+                title: title(path),
+                parts: dictionary::decode(&bytes),
+                bytes,
+                names,
+            },
+            Form::Text => {
+                let text = text_of(path, &bytes)?;
+                let parsed = text::parse_dictionary(text, &names);
+                let parsed = parsed.map_err(|mistake| mistaken(path, mistake, text))?;
+                names.join(&parsed.words);
+                Dictionary {
+                    title: title(path),
+                    bytes: dictionary::encode(&parsed.parts),
+                    parts: parsed.parts,
+                    names,
+                }
+            }
+        };
+        accepted_dictionary(path, draft)
+    }
+
     fn blocks(&self, path: &Path, bytes: Vec<u8>, sort: Option<Sort>) -> Input {
         let entries = blocks::decode(&bytes);
         Input {
+            sent: entries.len(),
+            origins: Vec::new(),
             title: title(path),
             sort: sort.unwrap_or_else(|| Sort::guess(&entries)),
             entries,
@@ -250,6 +304,8 @@ impl Reading {
         let mut names = self.names.clone();
         names.join(&parsed.words);
         Ok(Input {
+            sent: parsed.entries.len(),
+            origins: Vec::new(),
             title: title(path),
             sort: sort
                 .or(said)
@@ -262,13 +318,18 @@ impl Reading {
     }
 }
 
-/// The input, if the library accepts it.
+/// The input, if the library accepts it where a description may name these.
 ///
 /// # Errors
 ///
 /// The refusal.
-pub fn accepted(path: &Path, draft: Input, input: u16) -> Result<Input, Trouble> {
-    let Err(refusal) = library::read(draft.sort, &draft.bytes) else {
+pub fn accepted(
+    path: &Path,
+    draft: Input,
+    input: u16,
+    naming: Naming<'_>,
+) -> Result<Input, Trouble> {
+    let Err(refusal) = read(&draft, naming) else {
         return Ok(draft);
     };
     let place = usize::from(refusal.place);
@@ -276,10 +337,49 @@ pub fn accepted(path: &Path, draft: Input, input: u16) -> Result<Input, Trouble>
     let at = draft.positions.get(place.wrapping_sub(1)).copied();
     Err(Trouble::Refused {
         file: named(path),
-        why: refused::why(refusal, draft.sort, &draft.bytes),
-        shown: refused::shown(refusal, &draft.bytes, &draft.names),
+        why: refused::why(refusal, draft.sort, &draft.bytes, naming),
+        shown: refused::shown(refusal, &draft.bytes, &draft.names, naming),
         refusal: library::Refusal { input, ..refusal },
         at: at.filter(|_| of_entry),
+    })
+}
+
+/// Asks the library whether an input is accepted: a reader, or for a description that may name others the unfolding.
+fn read(draft: &Input, naming: Naming<'_>) -> Result<(), library::Refusal> {
+    let unfolded = match (draft.sort, naming) {
+        (Sort::Specimen, _) | (_, Naming::Nothing) => {
+            return library::read(draft.sort, &draft.bytes).map(|_| ())
+        }
+        (_, Naming::Any) => library::unfold(&dictionary::any(), &draft.bytes),
+        (_, Naming::All(of) | Naming::Before(of, _)) => library::unfold(&of.bytes, &draft.bytes),
+    };
+    unfolded.map(|_| ())
+}
+
+/// The dictionary, if the library accepts it.
+///
+/// # Errors
+///
+/// The refusal.
+pub fn accepted_dictionary(path: &Path, draft: Dictionary) -> Result<Dictionary, Trouble> {
+    let Err(refusal) = library::read_dictionary(&draft.bytes) else {
+        return Ok(draft);
+    };
+    let number = Named(refusal.input.saturating_sub(100));
+    let index = usize::from(number.0).wrapping_sub(1);
+    let place = usize::from(refusal.place);
+    let of_entry = place > 0 && refusal.reason.number() >= 4;
+    let part = draft.parts.get(index);
+    let at = part.and_then(|part| match of_entry {
+        true => part.positions.get(place - 1).copied(),
+        false => part.at,
+    });
+    Err(Trouble::Refused {
+        file: named(path),
+        why: refused::why_dictionary(refusal, &draft, number),
+        shown: refused::shown_dictionary(refusal, &draft, number),
+        refusal,
+        at,
     })
 }
 
@@ -317,14 +417,14 @@ pub fn keeping(path: &Path, specimen: Input, list: &List) -> Result<Input, Troub
     Err(Trouble::Refused {
         file: named(path),
         why: refused::why_not_kept(place, &specimen.entries, list, &names),
-        shown: refused::shown(refusal, &specimen.bytes, &names),
+        shown: refused::shown(refusal, &specimen.bytes, &names, Naming::Nothing),
         refusal,
         at: specimen.positions.get(place.wrapping_sub(1)).copied(),
     })
 }
 
-/// The files that an argument names: itself, or the files of a folder by name. Hidden files, names files, lists of pairs and folders
-/// in it are passed over.
+/// The files that an argument names: itself, or the files of a folder by name. Hidden files, names files, lists of pairs,
+/// dictionaries and folders in it are passed over.
 ///
 /// # Errors
 ///
@@ -337,7 +437,8 @@ pub fn files_of(path: &Path) -> Result<Vec<PathBuf>, Trouble> {
     let mut files = listed.map_err(|error| unreadable(path, &error))?;
     files.retain(|file| {
         let name = title(file);
-        let beside = name.ends_with(".names") || name.ends_with(".pairs");
+        let beside = [".names", ".pairs", ".dictionary"];
+        let beside = beside.iter().any(|ending| name.ends_with(ending));
         file.is_file() && !name.starts_with('.') && !beside
     });
     files.sort();
@@ -345,6 +446,36 @@ pub fn files_of(path: &Path) -> Result<Vec<PathBuf>, Trouble> {
 }
 
 impl Input {
+    /// The description once unfolded, with the words of the dictionary. Its bytes stay as they were sent.
+    ///
+    /// # Errors
+    ///
+    /// The library's refusal, which an accepted description does not meet.
+    pub fn unfolded(mut self, dictionary: &Dictionary) -> Result<Input, library::Refusal> {
+        if self.entries.iter().all(|e| e.says().named().is_none()) {
+            return Ok(self);
+        }
+        let plain = library::unfold(&dictionary.bytes, &self.bytes)?;
+        let plain = library::entries(&plain);
+        self.origins = dictionary.origins(&self.entries, &plain);
+        let place = |origin: &Origin| self.positions.get(origin.sent.wrapping_sub(1));
+        self.positions = self.origins.iter().filter_map(place).copied().collect();
+        self.entries = plain;
+        self.names.join(&dictionary.names);
+        Ok(self)
+    }
+
+    /// Whether these are not the entries as they were sent, since named ones were unfolded.
+    pub fn is_unfolded(&self) -> bool {
+        !self.origins.is_empty() || self.sent != self.entries.len()
+    }
+
+    /// Where an entry comes from, if it was put in for a named one.
+    pub fn origin(&self, entry: usize) -> Option<&Origin> {
+        let origin = self.origins.get(entry.checked_sub(1)?)?;
+        Some(origin).filter(|origin| !origin.within.is_empty())
+    }
+
     /// The line of the text on which an entry stands, if the input is a text.
     pub fn line_of(&self, entry: usize) -> Option<usize> {
         let at = self.positions.get(entry.checked_sub(1)?)?;

@@ -5,11 +5,13 @@
 //! | Module | Subject |
 //! |---|---|
 //! | [`entry`], [`blocks`], [`tree`] | entries, entries as blocks, which entry owns which |
-//! | [`pairs`] | properties that exclude each other, and lists of them as bytes |
-//! | [`names`], [`text`] | the words of properties and links, descriptions, specimens and lists as text |
+//! | [`pairs`], [`dictionary`] | properties that exclude each other, named descriptions, and both as bytes |
+//! | [`background`] | what all answers of a run are about: the list and the dictionary |
+//! | [`names`], [`text`] | the words of properties, links and descriptions; descriptions, specimens, lists and dictionaries as text |
 //! | [`input`], [`trouble`], [`refused`] | inputs, what keeps one from an answer, a refusal in words |
 //! | [`library`] | the calls of the proved library |
-//! | [`words`], [`explain`], [`specimen`] | sentences, a no explained, a specimen as a tree of lines |
+//! | [`words`], [`whereabouts`] | sentences, and where an entry stands |
+//! | [`explain`], [`specimen`] | a no explained, a specimen as a tree of lines |
 //! | [`svg`], [`page`] | the drawing and the page |
 //! | [`owl`] | the question in OWL, and descriptions from it |
 //! | [`args`], [`help`], [`commands`], [`mod@run`] | the command line, what each command answers, what is printed |
@@ -18,8 +20,10 @@
 #![deny(missing_docs)]
 
 pub mod args;
+pub mod background;
 pub mod blocks;
 pub mod commands;
+pub mod dictionary;
 pub mod entry;
 pub mod explain;
 pub mod help;
@@ -37,4 +41,5 @@ pub mod svg;
 pub mod text;
 pub mod tree;
 pub mod trouble;
+pub mod whereabouts;
 pub mod words;

@@ -1,10 +1,13 @@
 //! The calls of the proved library. Every answer that is printed comes from here. The calls under a list of properties that
-//! exclude each other take it first; without pairs they are the plain calls.
+//! exclude each other and a dictionary take these first; without pairs and descriptions they are the plain calls.
 
 pub use goltximen::{Comparison, Fit, Reason, Refusal, Under};
 
 use crate::blocks::{decode, encode, BLOCK, BLOCK_ENTRIES};
 use crate::entry::{Entry, Sort};
+
+/// The bytes of the longest description, also once unfolded.
+const MOST_BYTES: usize = 16 * BLOCK;
 
 /// The number of entries of an input, or its refusal.
 ///
@@ -29,6 +32,28 @@ pub fn read_list(under: Under<'_>) -> Result<(), Refusal> {
         Err(refusal) if refusal.reason == Reason::Pairs => Err(refusal),
         _ => Ok(()),
     }
+}
+
+/// The refusal of a dictionary, if it has one. No call reads a dictionary alone: it is looked at before the description, so one
+/// without entries tells.
+///
+/// # Errors
+///
+/// The library's refusal.
+pub fn read_dictionary(dictionary: &[u8]) -> Result<(), Refusal> {
+    unfold(dictionary, &encode(&[])).map(|_| ())
+}
+
+/// The blocks of a description once unfolded.
+///
+/// # Errors
+///
+/// The library's refusal.
+pub fn unfold(dictionary: &[u8], description: &[u8]) -> Result<Vec<u8>, Refusal> {
+    let mut out = vec![0; MOST_BYTES];
+    let entries = goltximen::unfold(dictionary, description, &mut out)?;
+    out.truncate(length_of(entries));
+    Ok(out)
 }
 
 /// The refusal of an accepted specimen that does not keep the list, if it has one. It is the last thing that is looked at before
@@ -56,9 +81,9 @@ pub fn fits(under: Under<'_>, specimen: &[u8], description: &[u8]) -> Result<boo
 ///
 /// The library's refusal.
 pub fn normal(under: Under<'_>, description: &[u8]) -> Result<Vec<u8>, Refusal> {
-    let mut out = vec![0; description.len()];
+    let mut out = vec![0; MOST_BYTES];
     let entries = under.normal_form(description, &mut out)?;
-    out.truncate(length_of(entries));
+    out.truncate(length_of(entries.into()));
     Ok(out)
 }
 
@@ -82,11 +107,11 @@ pub enum Compared {
 ///
 /// The library's refusal.
 pub fn compare(under: Under<'_>, c: &[u8], d: &[u8]) -> Result<Compared, Refusal> {
-    let mut out = vec![0; c.len() + d.len()];
+    let mut out = vec![0; 2 * MOST_BYTES];
     Ok(match under.compare(c, d, &mut out)? {
         Comparison::Contained => Compared::Contained,
         Comparison::NotContained { entry, entries } => {
-            out.truncate(length_of(entries));
+            out.truncate(length_of(entries.into()));
             Compared::NotContained {
                 entry: entry.into(),
                 specimen: out,
@@ -96,8 +121,8 @@ pub fn compare(under: Under<'_>, c: &[u8], d: &[u8]) -> Result<Compared, Refusal
 }
 
 /// The bytes of the blocks that hold so many entries.
-fn length_of(entries: u16) -> usize {
-    BLOCK * usize::from(entries).div_ceil(BLOCK_ENTRIES).max(1)
+fn length_of(entries: usize) -> usize {
+    BLOCK * entries.div_ceil(BLOCK_ENTRIES).max(1)
 }
 
 /// The entries of blocks that the library wrote or accepted.

@@ -1,11 +1,11 @@
-//! The words of properties and links.
+//! The words of properties and links, and of the descriptions of a dictionary.
 //!
-//! A names file has a line for each: `property 7 "sealed"`, `link 1 "sample"`. A second word after a link's is its plural:
-//! `link 1 "sample" "samples"`. Words without quotes go on to the end of the line.
+//! A names file has a line for each: `property 7 "sealed"`, `link 1 "sample"`, `description 3 "sealed core"`. A second word after a
+//! link's is its plural: `link 1 "sample" "samples"`. Words without quotes go on to the end of the line.
 
 use std::collections::BTreeMap;
 
-use crate::entry::{Link, Property};
+use crate::entry::{Link, Named, Property};
 use crate::text::{Lexer, Mistake, Position, Sign, Token};
 
 /// The words of one number.
@@ -15,7 +15,7 @@ struct Word {
     many: Option<String>,
 }
 
-/// The words of all properties, or of all links: each number has one word, and each word stands for one number.
+/// The words of all properties, of all links, or of all descriptions: each number has one word, and each word stands for one number.
 #[derive(Clone, Debug, Default, PartialEq, Eq)]
 struct Book {
     words: BTreeMap<u16, Word>,
@@ -77,11 +77,36 @@ impl Book {
     }
 }
 
-/// The words of properties and links. The two are kept apart.
+/// The words of properties, links and descriptions. The three are kept apart.
 #[derive(Clone, Debug, Default, PartialEq, Eq)]
 pub struct Names {
     properties: Book,
     links: Book,
+    descriptions: Book,
+}
+
+/// What a line of a names file gives a word to.
+#[derive(Clone, Copy, Debug, PartialEq, Eq)]
+enum Of {
+    Property,
+    Link,
+    Description,
+}
+
+impl Of {
+    /// The word that the line begins with.
+    fn word(self) -> &'static str {
+        match self {
+            Of::Property => "property",
+            Of::Link => "link",
+            Of::Description => "description",
+        }
+    }
+
+    fn called(word: &str) -> Option<Of> {
+        let all = [Of::Property, Of::Link, Of::Description];
+        all.into_iter().find(|of| of.word() == word)
+    }
 }
 
 impl Names {
@@ -98,6 +123,16 @@ impl Names {
     /// The word for so many items by a link.
     pub fn links(&self, link: Link, count: u32) -> Option<&str> {
         self.links.word(link.0, count)
+    }
+
+    /// The word of a description.
+    pub fn description(&self, named: Named) -> Option<&str> {
+        self.descriptions.word(named.0, 1)
+    }
+
+    /// The description that a word stands for.
+    pub fn description_called(&self, word: &str) -> Option<Named> {
+        self.descriptions.numbers.get(word).copied().map(Named)
     }
 
     /// The property that a word stands for.
@@ -136,10 +171,29 @@ impl Names {
         }
     }
 
+    /// Gives a description its word, if these names and the others allow it; a word that the others know is theirs.
+    ///
+    /// # Errors
+    ///
+    /// Where one of the two is taken.
+    pub fn name_description(&mut self, of: Named, word: &str, others: &Names) -> Result<(), Clash> {
+        others.descriptions.allow(of.0, word)?;
+        match others.description_called(word) {
+            Some(_) => Ok(()),
+            None => self.descriptions.add(of.0, word, None),
+        }
+    }
+
     /// Takes over the words of another list that clash with none here.
     pub fn join(&mut self, other: &Names) {
         self.properties.join(&other.properties);
         self.links.join(&other.links);
+        self.join_descriptions(other);
+    }
+
+    /// Takes over the words of descriptions alone.
+    pub fn join_descriptions(&mut self, other: &Names) {
+        self.descriptions.join(&other.descriptions);
     }
 
     /// The names in a names file.
@@ -152,26 +206,27 @@ impl Names {
         let mut lexer = Lexer::new(text);
         loop {
             let token = lexer.next_token()?;
-            match &token.sign {
-                Sign::Line => (),
+            let of = match &token.sign {
+                Sign::Line => continue,
                 Sign::End => return Ok(names),
-                Sign::Word(word) if word == "property" => names.line(&mut lexer, false)?,
-                Sign::Word(word) if word == "link" => names.line(&mut lexer, true)?,
-                other => {
-                    let expected = "'property' or 'link', a number and a word";
-                    return Err(Mistake::new(token.at, expected, other.named()));
-                }
-            }
+                Sign::Word(word) => Of::called(word),
+                _ => None,
+            };
+            let Some(of) = of else {
+                let expected = "'property', 'link' or 'description', a number and a word";
+                return Err(Mistake::new(token.at, expected, token.sign.named()));
+            };
+            names.line(&mut lexer, of)?;
         }
     }
 
     /// The rest of a line, after its first word.
-    fn line(&mut self, lexer: &mut Lexer<'_>, is_link: bool) -> Result<(), Mistake> {
+    fn line(&mut self, lexer: &mut Lexer<'_>, of: Of) -> Result<(), Mistake> {
         let number = number(&lexer.next_token()?)?;
         let first = lexer.next_token()?;
         let at = first.at;
         let (one, many) = match first.sign {
-            Sign::Quoted(one) => (one, plural(lexer, is_link)?),
+            Sign::Quoted(one) => (one, plural(lexer, of == Of::Link)?),
             sign @ (Sign::Word(_) | Sign::Number(_)) => (bare(lexer, sign)?, None),
             other => return Err(Mistake::new(at, "a word", other.named())),
         };
@@ -182,12 +237,13 @@ impl Names {
                 return Err(Mistake::new(at, expected, found));
             }
         }
-        let (book, sort) = match is_link {
-            true => (&mut self.links, "link"),
-            false => (&mut self.properties, "property"),
+        let book = match of {
+            Of::Property => &mut self.properties,
+            Of::Link => &mut self.links,
+            Of::Description => &mut self.descriptions,
         };
         book.add(number, &one, many.as_deref())
-            .map_err(|clash| told(at, sort, number, &one, clash))
+            .map_err(|clash| told(at, of.word(), number, &one, clash))
     }
 }
 

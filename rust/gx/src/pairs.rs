@@ -44,7 +44,7 @@ pub struct List {
 }
 
 impl List {
-    /// The list as a call of the library takes it, with no dictionary.
+    /// The list as a call of the library takes it that has no dictionary.
     pub fn under(&self) -> Under<'_> {
         Under {
             pairs: &self.bytes,

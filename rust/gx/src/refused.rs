@@ -5,18 +5,20 @@
 use goltximen::{Reason, Refusal};
 
 use crate::blocks::{self, Frame, BLOCK, BLOCK_ENTRIES};
-use crate::entry::{Entry, Property, Sort};
+use crate::dictionary::{self, measure, Dictionary, Measure, Naming, MOST_DESCRIPTIONS};
+use crate::entry::{Entry, Named, Property, Sort};
 use crate::names::Names;
 use crate::pairs::{List, Pair, MOST_PAIRS, PAIR};
 use crate::text;
 use crate::tree::owners;
-use crate::words::{grouped, Words};
+use crate::words::{self, grouped, Words};
 
 /// Why the input is refused, in words.
-pub fn why(refusal: Refusal, sort: Sort, bytes: &[u8]) -> String {
+pub fn why(refusal: Refusal, sort: Sort, bytes: &[u8], naming: Naming<'_>) -> String {
     let place = usize::from(refusal.place);
     match refusal.reason {
         Reason::Length => length(sort, bytes),
+        Reason::Unfolded => unfolded_fault(&blocks::decode(bytes), naming),
         Reason::Check => {
             let faults = blocks::frame(bytes, place).map(|frame| check_faults(frame, place));
             faults.unwrap_or_default()
@@ -25,14 +27,15 @@ pub fn why(refusal: Refusal, sort: Sort, bytes: &[u8]) -> String {
             let fault = blocks::frame(bytes, place).map(|frame| frame_fault(frame, place, bytes));
             format!("block {place}: {}", fault.unwrap_or_default())
         }
-        Reason::Form | Reason::Owner | Reason::Depth | Reason::SecondItem => {
+        Reason::Form | Reason::Name | Reason::Owner | Reason::Depth | Reason::SecondItem => {
             let entries = blocks::decode(bytes);
             let e = entries
                 .get(place.wrapping_sub(1))
                 .copied()
                 .unwrap_or_default();
             let fault = match refusal.reason {
-                Reason::Form => form_fault(sort, e),
+                Reason::Form => form_fault(sort, e, naming),
+                Reason::Name => name_fault(e, naming),
                 Reason::Owner => owner_fault(sort, e, place, &entries),
                 Reason::Depth => depth_fault(&entries, place),
                 _ => second_item_fault(e, place, &entries),
@@ -62,6 +65,48 @@ pub fn why_list(refusal: Refusal, list: &List) -> String {
             counted(rest, "byte more", "bytes more")
         ),
     }
+}
+
+/// Why the dictionary is refused, in words: the description of this number, or all of it where that is 0.
+pub fn why_dictionary(refusal: Refusal, of: &Dictionary, number: Named) -> String {
+    let index = usize::from(number.0).wrapping_sub(1);
+    let Some(bytes) = dictionary::split(&of.bytes).get(index).copied() else {
+        return match refusal.reason {
+            Reason::TooMany => format!(
+                "the dictionary has {} descriptions, and the most is {MOST_DESCRIPTIONS}",
+                grouped(of.parts.len() as u32)
+            ),
+            _ => length_fault("the dictionary", of.bytes.len()),
+        };
+    };
+    let why = match refusal.reason {
+        Reason::Length => {
+            let most = Sort::Description.most_blocks();
+            let blocks = words::blocks(bytes.len() / BLOCK);
+            format!("it has {blocks}, and a description has at most {most}")
+        }
+        _ => why(
+            refusal,
+            Sort::Description,
+            bytes,
+            Naming::Before(of, number),
+        ),
+    };
+    format!("{}: {why}", text::description(number, &of.names))
+}
+
+/// What the entry, block or description of a dictionary that the refusal names stands between.
+pub fn shown_dictionary(refusal: Refusal, of: &Dictionary, number: Named) -> String {
+    let parts = dictionary::split(&of.bytes);
+    let index = usize::from(number.0).wrapping_sub(1);
+    let Some(bytes) = parts.get(index).copied() else {
+        return String::new();
+    };
+    let shown = shown(refusal, bytes, &of.names, Naming::Before(of, number));
+    let start: usize = parts[..index].iter().map(|part| part.len()).sum();
+    let end = start + bytes.len() - 1;
+    let number = number.0;
+    format!("{shown}  description {number} is bytes {start} to {end} of the dictionary\n")
 }
 
 fn pair_fault(one: Property, other: Property) -> String {
@@ -116,12 +161,17 @@ fn length(sort: Sort, bytes: &[u8]) -> String {
             format!("the input has {whole} blocks or more, and a {sort} has at most {most}")
         }
         (_, 0) => format!("the input has {whole} blocks, and a {sort} has at most {most}"),
-        (length, _) => format!(
-            "the input has {length} bytes, which is no multiple of 512: {}, and {}",
-            counted(whole, "whole block", "whole blocks"),
-            counted(rest, "byte more", "bytes more")
-        ),
+        (length, _) => length_fault("the input", length),
     }
+}
+
+/// A length that is no multiple of 512.
+fn length_fault(what: &str, length: usize) -> String {
+    format!(
+        "{what} has {length} bytes, which is no multiple of 512: {}, and {}",
+        counted(length / BLOCK, "whole block", "whole blocks"),
+        counted(length % BLOCK, "byte more", "bytes more")
+    )
 }
 
 fn counted(count: usize, one: &str, many: &str) -> String {
@@ -174,15 +224,16 @@ fn frame_fault(frame: Frame, block: usize, bytes: &[u8]) -> String {
 }
 
 /// Which field of an entry is outside the table.
-fn form_fault(sort: Sort, e: Entry) -> String {
-    let allowed = match sort {
-        Sort::Description => (1..=6).contains(&e.kind),
-        Sort::Specimen => e.kind == 1 || e.kind == 7,
+fn form_fault(sort: Sort, e: Entry, naming: Naming<'_>) -> String {
+    let named = !matches!(naming, Naming::Nothing);
+    let (allowed, kinds) = match sort {
+        Sort::Description if named => ((1..=6).contains(&e.kind) || e.kind == 9, "1 to 6 and 9"),
+        Sort::Description => ((1..=6).contains(&e.kind), "1 to 6"),
+        Sort::Specimen => (e.kind == 1 || e.kind == 7, "1 and 7"),
     };
-    let kinds = match sort {
-        Sort::Description => "1 to 6",
-        Sort::Specimen => "1 and 7",
-    };
+    if !allowed && sort == Sort::Description && e.kind == 9 {
+        return "its kind is 9, which names a description, and no dictionary is given".into();
+    }
     if !allowed {
         let sort = sort.word();
         return format!("its kind is {}, and a {sort} has kinds {kinds}", e.kind);
@@ -191,10 +242,60 @@ fn form_fault(sort: Sort, e: Entry) -> String {
         return format!("its byte 1 is {}, and it is due to be zero", e.zero);
     }
     match (e.kind, e.name) {
+        (9, _) => format!("its number is {}, and kind 9 has 0", e.number),
         (6, 0) => format!("its number is {}, and kind 6 has 0", e.number),
         (6, name) => format!("its name is {name}, and kind 6 has 0"),
         (kind, 0) => format!("its name is 0, and kind {kind} has 1 to 65,535"),
         (kind, _) => format!("its number is {}, and kind {kind} has 0", e.number),
+    }
+}
+
+/// Why a description may not be named.
+fn name_fault(e: Entry, naming: Naming<'_>) -> String {
+    let name = e.name;
+    let names = format!("it names description {name}");
+    let count = match naming {
+        _ if name == 0 => return "its name is 0, and descriptions count from 1".into(),
+        Naming::Before(_, Named(number)) if name == number => {
+            return format!("{names}, in which it stands itself")
+        }
+        Naming::Before(of, Named(number)) if usize::from(name) <= of.parts.len() => {
+            return format!("{names}, and description {number} may name only earlier ones")
+        }
+        Naming::Any | Naming::Nothing => {
+            return format!("{names}, and a dictionary has at most {MOST_DESCRIPTIONS}")
+        }
+        Naming::All(of) if of.title.is_empty() => {
+            return format!("{names}, and no dictionary is given")
+        }
+        Naming::All(of) | Naming::Before(of, _) => of.parts.len(),
+    };
+    format!(
+        "{names}, and the dictionary has {}",
+        words::descriptions(count)
+    )
+}
+
+/// The descriptions that may be named, as large as they are once unfolded.
+fn measures(naming: Naming<'_>) -> Vec<Measure> {
+    match naming {
+        Naming::Nothing | Naming::Any => Vec::new(),
+        Naming::All(of) => of.measures(of.parts.len()),
+        Naming::Before(of, Named(number)) => of.measures(usize::from(number).saturating_sub(1)),
+    }
+}
+
+/// A description that has too many entries, or too deep ones, once unfolded.
+fn unfolded_fault(entries: &[Entry], naming: Naming<'_>) -> String {
+    let whole = measure(entries, &measures(naming));
+    let (count, deepest) = (whole.entries(), whole.deepest.unwrap_or(0));
+    match count > MOST_ENTRIES {
+        true => format!(
+            "once unfolded it has {}, and the most is {}",
+            words::entries(count),
+            grouped(MOST_ENTRIES as u32)
+        ),
+        false => format!("once unfolded it goes {deepest} deep, and the most is 32"),
     }
 }
 
@@ -243,12 +344,15 @@ fn second_item_fault(e: Entry, number: usize, entries: &[Entry]) -> String {
 
 /// How many entries are shown on each side.
 const AROUND: usize = 3;
+/// The most entries of a description, also once unfolded.
+const MOST_ENTRIES: usize = 1008;
 
-/// The block or entry that the refusal names, in its surroundings.
-pub fn shown(refusal: Refusal, bytes: &[u8], names: &Names) -> String {
+/// The block or entry that the refusal names, in its surroundings; of one that is too large once unfolded, the largest that it names.
+pub fn shown(refusal: Refusal, bytes: &[u8], names: &Names, naming: Naming<'_>) -> String {
     let place = usize::from(refusal.place);
     match refusal.reason {
         Reason::Length | Reason::Output => String::new(),
+        Reason::Unfolded => shown_named(&blocks::decode(bytes), names, naming),
         Reason::Check | Reason::Frame => shown_blocks(bytes, place),
         _ => shown_entries(bytes, place, names),
     }
@@ -276,6 +380,44 @@ pub fn shown_pairs(refusal: Refusal, list: &List) -> String {
         at + PAIR - 1,
         in_hex(bytes)
     ));
+    out
+}
+
+/// So many of the named entries are shown.
+const MOST_NAMED: usize = 7;
+
+/// The named entries with the most in them, or the deepest, and how much each puts in.
+fn shown_named(entries: &[Entry], names: &Names, naming: Naming<'_>) -> String {
+    let measures = measures(naming);
+    let large = measure(entries, &measures).entries() > MOST_ENTRIES;
+    let mut named: Vec<(usize, usize, usize, Entry)> = (1..)
+        .zip(entries)
+        .filter_map(|(number, &e)| {
+            let index = usize::from(e.says().named()?.0).checked_sub(1)?;
+            let put_in = measures.get(index)?;
+            let depth = owners(entries, number).len() + put_in.deepest?;
+            Some((number, put_in.entries(), depth, e))
+        })
+        .collect();
+    let count = named.len();
+    named.sort_by_key(|&(_, size, depth, _)| std::cmp::Reverse(if large { size } else { depth }));
+    named.truncate(MOST_NAMED);
+    named.sort_by_key(|&(number, ..)| number);
+    let width = entries.len().to_string().len();
+    let mut out = String::new();
+    for (number, size, depth, e) in &named {
+        out.push_str(&format!(
+            "  entry {number:>width$}: {} puts in {}, down to {depth} deep\n",
+            text::entry(e.says(), names),
+            words::entries(*size)
+        ));
+    }
+    if count > named.len() {
+        out.push_str(&format!(
+            "  ({} more name descriptions)\n",
+            count - named.len()
+        ));
+    }
     out
 }
 

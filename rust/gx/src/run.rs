@@ -27,7 +27,7 @@ pub fn run(args: &[OsString]) -> u8 {
             let version = concat!("gx ", env!("CARGO_PKG_VERSION"), "\n");
             printed(version.as_bytes(), Status::Yes).code()
         }
-        Ok(Args::Do(command, files, options)) => done(command, &files, options),
+        Ok(Args::Do(command, files, options)) => done(command, &files, *options),
         Err(wrong) => {
             complain(&format!("gx: {wrong}\n\n{}", help::usage()));
             USAGE
@@ -81,12 +81,12 @@ fn done(command: Command, files: &[PathBuf], options: Options) -> u8 {
         context: Context {
             options,
             reading,
-            list: Default::default(),
+            background: Default::default(),
         },
     };
     let folders = files.iter().any(|file| file.is_dir());
     let many = folders || (!command.takes_pair() && files.len() > 1);
-    if let Err(trouble) = run.read_list() {
+    if let Err(trouble) = run.read_background() {
         run.print_trouble(&trouble, many);
         return Status::Bad.code();
     }
@@ -117,11 +117,22 @@ impl Run {
         options.out.is_none() && !options.json && std::io::stdout().is_terminal()
     }
 
-    /// Reads the list that all answers are about, if one is given.
-    fn read_list(&mut self) -> Result<(), Trouble> {
-        if let Some(path) = &self.context.options.pairs {
-            let bytes = bytes_of(path)?;
-            self.context.list = self.context.reading.list_of(path, bytes)?;
+    /// Reads the list and the dictionary that all answers are about, if they are given. The words that a dictionary gives its
+    /// descriptions are known in every input.
+    fn read_background(&mut self) -> Result<(), Trouble> {
+        let Context {
+            options,
+            reading,
+            background,
+        } = &mut self.context;
+        if let Some(path) = &options.pairs {
+            background.list = reading.list_of(path, bytes_of(path)?)?;
+        }
+        if let Some(path) = &options.dictionary {
+            background.dictionary = reading.dictionary_of(path, bytes_of(path)?)?;
+            reading
+                .names
+                .join_descriptions(&background.dictionary.names);
         }
         Ok(())
     }

@@ -1,6 +1,6 @@
 //! Entries and places in sentences.
 
-use crate::entry::{Link, Property, Says};
+use crate::entry::{Link, Named, Property, Says};
 use crate::names::Names;
 
 /// The words for people, with these names.
@@ -51,6 +51,14 @@ impl<'a> Words<'a> {
         word.map_or_else(|| property.0.to_string(), String::from)
     }
 
+    /// A description of a dictionary: "description sealed core", or "description 3".
+    pub fn description(self, named: Named) -> String {
+        match self.names.description(named) {
+            Some(word) => format!("description {word}"),
+            None => format!("description {}", named.0),
+        }
+    }
+
     /// The items that stand at a place: "every sample", "every core of every sample", "the top item".
     pub fn every(self, way: &[Link]) -> String {
         match way {
@@ -99,6 +107,7 @@ impl<'a> Words<'a> {
             Says::Every(link) => format!("every {}", self.item(link)),
             Says::Nothing => "nothing fits".into(),
             Says::Group(link, count) => self.items(count, link),
+            Says::Named(named) => format!("fits {}", self.description(named)),
             Says::Unknown(kind) => format!("kind {kind}"),
         }
     }
@@ -107,7 +116,9 @@ impl<'a> Words<'a> {
     pub fn asks(self, way: &[Link], says: Says) -> String {
         let every = self.every(way);
         match says {
-            Says::Has(_) | Says::Lacks(_) => format!("{every} {}", self.says(says)),
+            Says::Has(_) | Says::Lacks(_) | Says::Named(_) => {
+                format!("{every} {}", self.says(says))
+            }
             _ => format!("of {every}, {}", self.says(says)),
         }
     }
@@ -141,6 +152,16 @@ pub fn blocks(count: usize) -> String {
 /// The count with its word: "1 pair", "2 pairs".
 pub fn pairs(count: usize) -> String {
     let word = if count == 1 { "pair" } else { "pairs" };
+    format!("{count} {word}")
+}
+
+/// The count with its word: "1 description", "2 descriptions".
+pub fn descriptions(count: usize) -> String {
+    let word = if count == 1 {
+        "description"
+    } else {
+        "descriptions"
+    };
     format!("{count} {word}")
 }
 

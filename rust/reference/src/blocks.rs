@@ -18,13 +18,14 @@ const CHECK_AT: usize = 510;
 /// "Entry: kind (1 byte), zero (1 byte), owner, name, number (2 bytes each)."
 #[derive(Clone, Copy, Debug, Default, PartialEq, Eq)]
 pub struct Entry {
-    /// The kind, 1 to 7 in accepted inputs.
+    /// The kind, 1 to 7 or 9 in accepted inputs.
     pub kind: u8,
     /// The byte that is zero in accepted inputs.
     pub zero: u8,
     /// "Owner 0 is the top; otherwise it is an earlier entry".
     pub owner: u16,
-    /// The property or link, or 0 for kind 6.
+    /// The property or link, or 0 for kind 6; for kind 9 the number of a
+    /// description in the dictionary.
     pub name: u16,
     /// n for kinds 3 and 4, count - 1 for kind 7, otherwise 0.
     pub number: u16,
@@ -144,6 +145,11 @@ fn one_block(number: u16, entries: &[Entry]) -> Vec<u8> {
     let check = sum_of_words(&block);
     block.extend(check.to_le_bytes());
     block
+}
+
+/// The number of bytes of the entries as blocks.
+pub(crate) fn length_in_blocks(entries: &[Entry]) -> usize {
+    encode(entries).len()
 }
 
 /// Writes the entries as blocks from the start of the output; later bytes

@@ -3,11 +3,10 @@
 use std::collections::{BTreeMap, BTreeSet};
 
 use crate::background::Background;
-use crate::blocks::{write, Entry};
+use crate::blocks::{length_in_blocks, write, Entry};
 use crate::normal::normal_place;
 use crate::order::{in_order, Row};
 use crate::pairs::Pairs;
-use crate::reading::{read, Sort};
 use crate::refusal::Refusal;
 use crate::tree::{top_place, Fact, Link, Place, Property};
 
@@ -27,12 +26,13 @@ pub enum Comparison {
     },
 }
 
-/// Compares C with D, with no excluding pairs.
+/// Compares C with D, with no excluding pairs and no named descriptions.
 pub fn compare(c: &[u8], d: &[u8], out: &mut [u8]) -> Result<Comparison, Refusal> {
     compare_with(&[], &[], c, d, out)
 }
 
-/// Compares C with D, under a list of excluding pairs.
+/// Compares C with D, under a list of excluding pairs and with a dictionary
+/// for both.
 ///
 /// "Input 1 is C, input 2 is D, the output is at least as long as both."
 /// The output is as long as the two together: "Entries never exceed those of
@@ -43,6 +43,10 @@ pub fn compare(c: &[u8], d: &[u8], out: &mut [u8]) -> Result<Comparison, Refusal
 /// same list." The specimen keeps it: no place of N has both of a pair, and
 /// the property added for a failing lack has no partner there, or the lack
 /// would be supported.
+///
+/// "All answers and written bytes for named descriptions, entry numbers
+/// included, equal those for the unfolded ones, by which the output [...] are
+/// measured too".
 pub fn compare_with(
     pairs: &[u8],
     dict: &[u8],
@@ -50,10 +54,10 @@ pub fn compare_with(
     d: &[u8],
     out: &mut [u8],
 ) -> Result<Comparison, Refusal> {
-    let Background { pairs } = Background::read(pairs, dict)?;
-    let c_entries = read(c, Sort::Description, 1)?;
-    let d_entries = read(d, Sort::Description, 2)?;
-    if out.len() < c.len().saturating_add(d.len()) {
+    let Background { pairs, dictionary } = Background::read(pairs, dict)?;
+    let c_entries = dictionary.read_description(c, 1)?;
+    let d_entries = dictionary.read_description(d, 2)?;
+    if out.len() < length_in_blocks(&c_entries).saturating_add(length_in_blocks(&d_entries)) {
         return Err(Refusal::output_too_short());
     }
     // "N is C's normal form."

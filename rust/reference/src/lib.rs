@@ -4,11 +4,13 @@
 //! when one holds another". Every call first reads its inputs in full, then
 //! works on trees of places, then writes its answer as blocks. Comments in
 //! quotation marks are sentences of that paper, or of the requests "A second
-//! check in each block", "Links that lead to one item only" and "Properties
-//! that exclude each other" that came after it.
+//! check in each block", "Links that lead to one item only", "Properties that
+//! exclude each other" and "Named descriptions" that came after it; "P1" in
+//! them is the request "All services in one call".
 //!
 //! [`fit_with`], [`normal_with`] and [`compare_with`] take a list of excluding
-//! pairs; [`fit`], [`normal_form`] and [`compare`] are the calls with no pairs.
+//! pairs and a dictionary; [`fit`], [`normal_form`] and [`compare`] are the
+//! calls with no pairs and no dictionary. [`unfold`] takes a dictionary.
 //!
 //! No call panics, whatever bytes it is given. [`notation`] is for tests.
 
@@ -18,6 +20,8 @@
 mod background;
 mod blocks;
 mod compare;
+mod dictionary;
+mod list;
 mod normal;
 pub mod notation;
 mod order;
@@ -28,6 +32,7 @@ pub mod record;
 mod refusal;
 mod specimen;
 mod tree;
+mod unfolding;
 
 pub use blocks::{decode, encode, Entry};
 pub use compare::{compare, compare_with, Comparison};
@@ -37,3 +42,4 @@ pub use reading::{read_description, read_specimen};
 pub use refusal::Refusal;
 pub use specimen::{fit, fit_with};
 pub use tree::{Link, Property};
+pub use unfolding::unfold;

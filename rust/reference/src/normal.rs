@@ -3,20 +3,20 @@
 use std::collections::{BTreeMap, BTreeSet};
 
 use crate::background::Background;
-use crate::blocks::{write, Entry};
+use crate::blocks::{length_in_blocks, write, Entry};
 use crate::order::{in_order, Row};
 use crate::pairs::Pairs;
-use crate::reading::{read, Sort};
 use crate::refusal::Refusal;
 use crate::tree::{top_place, Every, Fact, Link, Place, Property};
 
-/// Writes the normal form of a description, with no excluding pairs.
+/// Writes the normal form of a description, with no excluding pairs and no
+/// named descriptions.
 pub fn normal_form(description: &[u8], out: &mut [u8]) -> Result<usize, Refusal> {
     normal_with(&[], &[], description, out)
 }
 
 /// Writes the normal form of a description in blocks, under a list of
-/// excluding pairs, and answers its number of entries.
+/// excluding pairs and with a dictionary, and answers its number of entries.
 ///
 /// "One input; the output is at least as long." "Written in blocks from the
 /// start of the output, entries ascend by owner, then kind, then name; later
@@ -24,15 +24,19 @@ pub fn normal_form(description: &[u8], out: &mut [u8]) -> Result<usize, Refusal>
 ///
 /// "A place with both is impossible; a place with one counts as lacking the
 /// other, so that lack is dropped from the normal form".
+///
+/// "All answers and written bytes for named descriptions [...] equal those for
+/// the unfolded ones, by which the output [...] are measured too". A plain
+/// description is as long unfolded as it was sent.
 pub fn normal_with(
     pairs: &[u8],
     dict: &[u8],
     description: &[u8],
     out: &mut [u8],
 ) -> Result<usize, Refusal> {
-    let Background { pairs } = Background::read(pairs, dict)?;
-    let entries = read(description, Sort::Description, 1)?;
-    if out.len() < description.len() {
+    let Background { pairs, dictionary } = Background::read(pairs, dict)?;
+    let entries = dictionary.read_description(description, 1)?;
+    if out.len() < length_in_blocks(&entries) {
         return Err(Refusal::output_too_short());
     }
     let normal = entries_of(&normal_place(top_place(&entries), &pairs));

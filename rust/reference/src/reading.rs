@@ -1,17 +1,24 @@
-//! Reading of descriptions and specimens: refusals 1 to 6 and 9.
+//! Reading of descriptions and specimens: refusals 1 to 6, 9 and 13.
 
 use crate::blocks::{check_blocks, check_length, decode, Entry};
-use crate::refusal::{Refusal, DEPTH, ENTRY, OWNER, SECOND_ITEM};
+use crate::refusal::{Refusal, DEPTH, ENTRY, NAME, OWNER, SECOND_ITEM};
 use crate::tree::Link;
 
 /// "An entry's depth is the number of entries in its chain of owners, at
 /// most 32".
 pub(crate) const MOST_DEPTH: usize = 32;
 
-/// The two sorts of input.
+/// "A description has 1 to 16 blocks (1,008 entries)".
+pub(crate) const MOST_ENTRIES: usize = 1008;
+
+/// The sorts of input.
 #[derive(Clone, Copy, Debug, PartialEq, Eq)]
 pub(crate) enum Sort {
+    /// A description where there is no dictionary, not even one of length 0.
     Description,
+    /// A description that may name the descriptions of a dictionary, from the
+    /// first up to the one with this number; 0 if there is none to be named.
+    Naming(usize),
     Specimen,
 }
 
@@ -20,7 +27,7 @@ impl Sort {
     /// (2,016)."
     fn most_blocks(self) -> usize {
         match self {
-            Sort::Description => 16,
+            Sort::Description | Sort::Naming(_) => 16,
             Sort::Specimen => 32,
         }
     }
@@ -29,21 +36,33 @@ impl Sort {
     /// (specimen)"
     fn owner_kind(self) -> u8 {
         match self {
-            Sort::Description => 5,
+            Sort::Description | Sort::Naming(_) => 5,
             Sort::Specimen => 7,
         }
     }
 
-    /// "Descriptions use 1-6, specimens 1 and 7."
+    /// "Descriptions use 1-6, specimens 1 and 7." Where there is a dictionary,
+    /// descriptions use "kind 9" too.
     fn uses(self, kind: u8) -> bool {
         match self {
             Sort::Description => (1..=6).contains(&kind),
+            Sort::Naming(_) => (1..=6).contains(&kind) || kind == 9,
             Sort::Specimen => kind == 1 || kind == 7,
+        }
+    }
+
+    /// Whether a named entry may have this name: it is not "a name of 0, above
+    /// the dictionary's count or not earlier".
+    fn knows(self, name: u16) -> bool {
+        match self {
+            Sort::Naming(most) => (1..=most).contains(&usize::from(name)),
+            Sort::Description | Sort::Specimen => false,
         }
     }
 }
 
-/// Reads a description and answers its number of entries. It is input 1.
+/// Reads a description and answers its number of entries. It is input 1. It
+/// takes no dictionary, so kind 9 is not allowed.
 pub fn read_description(bytes: &[u8]) -> Result<usize, Refusal> {
     Ok(read(bytes, Sort::Description, 1)?.len())
 }
@@ -56,8 +75,8 @@ pub fn read_specimen(bytes: &[u8]) -> Result<usize, Refusal> {
 /// The entries of an accepted input, or its refusal.
 ///
 /// "In one input: 1; then the lowest block that breaks 2 or 3 decides, 2
-/// before 3; then the lowest entry that breaks 4, 5 or 6, in that order." The
-/// request adds 9, "after 6 at the same entry".
+/// before 3; then the lowest entry that breaks 4, 5 or 6, in that order."
+/// Requests add 9, "after 6 at the same entry", and 13, "at its entry after 4".
 pub(crate) fn read(bytes: &[u8], sort: Sort, input: u16) -> Result<Vec<Entry>, Refusal> {
     check_length(bytes, sort.most_blocks(), input)?;
     check_blocks(bytes, input)?;
@@ -66,7 +85,8 @@ pub(crate) fn read(bytes: &[u8], sort: Sort, input: u16) -> Result<Vec<Entry>, R
     Ok(entries)
 }
 
-/// "the lowest entry that breaks 4, 5 or 6, in that order", or 9 after them
+/// "the lowest entry that breaks 4, 5 or 6, in that order", or 13 after 4, or 9
+/// after them
 fn check_entries(entries: &[Entry], sort: Sort, input: u16) -> Result<(), Refusal> {
     let mut earlier: Vec<(Entry, usize)> = Vec::new();
     for entry in entries {
@@ -107,6 +127,9 @@ fn depth(entry: &Entry, earlier: &[(Entry, usize)], sort: Sort) -> Result<usize,
     if !sort.uses(entry.kind) || entry.zero != 0 || !within_table(entry) {
         return Err(ENTRY);
     }
+    if entry.kind == 9 && !sort.knows(entry.name) {
+        return Err(NAME);
+    }
     let depth = match owner_of(entry, earlier) {
         // "owner 0 gives depth 0"
         Owner::Top => 0,
@@ -137,12 +160,14 @@ fn owner_of(entry: &Entry, earlier: &[(Entry, usize)]) -> Owner {
     }
 }
 
-/// The columns Name and Number of the table of kinds.
+/// The columns Name and Number of the table of kinds; of "entry kind 9 with
+/// name n and number 0" the name is left to 13.
 fn within_table(entry: &Entry) -> bool {
     match entry.kind {
         1 | 2 | 5 => entry.name != 0 && entry.number == 0,
         3 | 4 | 7 => entry.name != 0,
         6 => entry.name == 0 && entry.number == 0,
+        9 => entry.number == 0,
         _ => false,
     }
 }

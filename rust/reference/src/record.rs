@@ -92,46 +92,109 @@ impl Record {
 ///
 /// The entries are those of an accepted description. Entries whose owner is
 /// not earlier, and entries deeper than 32 below the given owner, are not
-/// looked at; an accepted description has none.
+/// looked at; an accepted description has none. No item meets an entry of kind
+/// 9, for there is no dictionary.
 pub fn fits(record: &Record, item: usize, entries: &[Entry], owner: u16) -> bool {
-    fits_within(record, item, entries, owner, MOST_DEPTH.saturating_add(1))
+    fits_named(record, item, &[], entries, owner)
 }
 
-/// As `fits`, for this many further depths.
-fn fits_within(record: &Record, item: usize, entries: &[Entry], owner: u16, depths: usize) -> bool {
-    let Some(depths) = depths.checked_sub(1) else {
-        return true;
-    };
-    (1..=u16::MAX)
-        .zip(entries)
-        .filter(|&(number, entry)| entry.owner == owner && number > owner)
-        .all(|(number, entry)| meets(record, item, entries, number, entry, depths))
-}
-
-/// Whether the item meets the entry with this number.
-fn meets(
+/// As `fits`, where the description may name those of this dictionary. Nothing
+/// is unfolded here.
+///
+/// "entry kind 9 with name n and number 0 stands for its n-th description": an
+/// item meets it exactly if it fits the n-th description. No item meets an
+/// entry with a name that the dictionary doesn't have, or that stands in the
+/// dictionary and is "not earlier".
+pub fn fits_named(
     record: &Record,
     item: usize,
+    dictionary: &[Vec<Entry>],
     entries: &[Entry],
-    number: u16,
-    entry: &Entry,
-    depths: usize,
+    owner: u16,
 ) -> bool {
-    let property = Property(entry.name);
-    let link = Link(entry.name);
-    // "At least and at most count different items linked to."
-    let count = || record.linked(item, link).count();
-    match entry.kind {
-        1 => record.has(item, property),
-        2 => !record.has(item, property),
-        3 => count() >= usize::from(entry.number),
-        4 => count() <= usize::from(entry.number),
-        // "it meets an 'every' entry if each item linked by that link fits
-        // the place this entry owns"
-        5 => record
-            .linked(item, link)
-            .all(|to| fits_within(record, to, entries, number, depths)),
-        _ => false,
+    let named = fitting_items(record, dictionary);
+    let question = Question {
+        record,
+        entries,
+        named: &named,
+    };
+    question.fits_top_down(item, owner)
+}
+
+/// For each description of the dictionary the set of items that fit it.
+///
+/// "A dictionary description may name only earlier ones", so the sets of those
+/// before it are all that is needed.
+fn fitting_items(record: &Record, dictionary: &[Vec<Entry>]) -> Vec<BTreeSet<usize>> {
+    let mut named: Vec<BTreeSet<usize>> = Vec::new();
+    for entries in dictionary {
+        let question = Question {
+            record,
+            entries,
+            named: &named,
+        };
+        let items = (0..record.items).filter(|&item| question.fits_top_down(item, 0));
+        let items = items.collect();
+        named.push(items);
+    }
+    named
+}
+
+/// What items are asked to fit.
+struct Question<'a> {
+    /// The record that the items are in.
+    record: &'a Record,
+    /// The entries of the description.
+    entries: &'a [Entry],
+    /// For each description that may be named the set of items that fit it.
+    named: &'a [BTreeSet<usize>],
+}
+
+impl Question<'_> {
+    /// Whether the item fits the place of this owner, with all depths below it.
+    fn fits_top_down(&self, item: usize, owner: u16) -> bool {
+        self.fits_within(item, owner, MOST_DEPTH.saturating_add(1))
+    }
+
+    /// As `fits_top_down`, for this many further depths.
+    fn fits_within(&self, item: usize, owner: u16, depths: usize) -> bool {
+        let Some(depths) = depths.checked_sub(1) else {
+            return true;
+        };
+        (1..=u16::MAX)
+            .zip(self.entries)
+            .filter(|&(number, entry)| entry.owner == owner && number > owner)
+            .all(|(number, entry)| self.meets(item, number, entry, depths))
+    }
+
+    /// Whether the item meets the entry with this number.
+    fn meets(&self, item: usize, number: u16, entry: &Entry, depths: usize) -> bool {
+        let property = Property(entry.name);
+        let link = Link(entry.name);
+        // "At least and at most count different items linked to."
+        let count = || self.record.linked(item, link).count();
+        match entry.kind {
+            1 => self.record.has(item, property),
+            2 => !self.record.has(item, property),
+            3 => count() >= usize::from(entry.number),
+            4 => count() <= usize::from(entry.number),
+            // "it meets an 'every' entry if each item linked by that link fits
+            // the place this entry owns"
+            5 => self
+                .record
+                .linked(item, link)
+                .all(|to| self.fits_within(to, number, depths)),
+            // It fits the description that is named.
+            9 => self
+                .items_named(entry.name)
+                .is_some_and(|items| items.contains(&item)),
+            _ => false,
+        }
+    }
+
+    /// The items that fit the description of this name, if there is one.
+    fn items_named(&self, name: u16) -> Option<&BTreeSet<usize>> {
+        self.named.get(usize::from(name).checked_sub(1)?)
     }
 }
 

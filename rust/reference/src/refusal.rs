@@ -5,17 +5,17 @@
 /// "A place counts blocks or entries of that input from 1 by position, not
 /// by a stored number. A refusal also returns the input (1 or 2; 0 for
 /// number 7)." Later requests add input 0 for number 11, which counts pairs,
-/// and input 100 for a dictionary.
+/// and for a dictionary input 100, "its n-th description as 100 + n".
 #[derive(Clone, Copy, Debug, PartialEq, Eq)]
 pub struct Refusal {
     /// The number in the first column of the table of refusals, 1 to 7, or a
-    /// number that a request adds: 9, 11 or 12.
+    /// number that a request adds: 8, 9 or 11 to 14.
     pub number: u8,
     /// The input that is refused: 1 or 2; 0 for numbers 7 and 11; 100 for the
-    /// dictionary.
+    /// dictionary and 101 to 164 for its descriptions.
     pub input: u16,
-    /// The block, entry or pair that decides, or 0 for numbers 1 and 7 and for
-    /// a list of pairs of a wrong length.
+    /// The block, entry or pair that decides, or 0 for numbers 1, 7, 8 and 14
+    /// and for a list of pairs of a wrong length.
     pub place: u32,
 }
 
@@ -34,6 +34,8 @@ pub(crate) const OWNER: u8 = 5;
 pub(crate) const DEPTH: u8 = 6;
 /// "output too short"
 pub(crate) const OUTPUT: u8 = 7;
+/// "more than 64 services", and likewise of a dictionary, "a list like P1's"
+pub(crate) const TOO_MANY: u8 = 8;
 /// "a specimen group that brings its owner above one item by such a link"
 pub(crate) const SECOND_ITEM: u8 = 9;
 /// "length no multiple of 4 or over 64 pairs [...] pair with 0 or two equal
@@ -41,6 +43,11 @@ pub(crate) const SECOND_ITEM: u8 = 9;
 pub(crate) const PAIRS: u8 = 11;
 /// "a specimen or delivered record with an item that has both of a pair"
 pub(crate) const BOTH_OF_A_PAIR: u8 = 12;
+/// "a name of 0, above the dictionary's count or not earlier"
+pub(crate) const NAME: u8 = 13;
+/// "a description, in the dictionary or not, of more than 1,008 entries or
+/// depth over 32 once unfolded"
+pub(crate) const UNFOLDED: u8 = 14;
 
 impl Refusal {
     /// The refusal with this number at this place of this input.

@@ -39,12 +39,14 @@ impl Items {
     }
 }
 
-/// The fit answer for the top item, with no excluding pairs.
+/// The fit answer for the top item, with no excluding pairs and no named
+/// descriptions.
 pub fn fit(specimen: &[u8], description: &[u8]) -> Result<bool, Refusal> {
     fit_with(&[], &[], specimen, description)
 }
 
-/// The fit answer for the top item, under a list of excluding pairs.
+/// The fit answer for the top item, under a list of excluding pairs and with a
+/// dictionary for the description.
 ///
 /// "The fit answer takes a specimen (input 1) and a description (input 2)
 /// and says yes or no for the top item. It has no output buffer."
@@ -53,6 +55,9 @@ pub fn fit(specimen: &[u8], description: &[u8]) -> Result<bool, Refusal> {
 /// properties, four bytes a pair, low byte first, and records must keep it."
 /// What fits is as it was; a specimen that doesn't keep the list is refused as
 /// 12, "after that input's other checks".
+///
+/// "All answers [...] for named descriptions [...] equal those for the unfolded
+/// ones". Kind 9 has no meaning in a specimen.
 pub fn fit_with(
     pairs: &[u8],
     dict: &[u8],
@@ -62,7 +67,7 @@ pub fn fit_with(
     let background = Background::read(pairs, dict)?;
     let specimen = read(specimen, Sort::Specimen, 1)?;
     background.pairs.check_items(&specimen, 1)?;
-    let description = read(description, Sort::Description, 2)?;
+    let description = background.dictionary.read_description(description, 2)?;
     let top_item = items_of(&specimen, 0);
     Ok(fits_place(&top_item, &top_place(&description)))
 }

@@ -1,4 +1,4 @@
--- `gx_normal` meets its contract, by the contract of the call that it wraps, with no pairs.
+-- `gx_normal` meets its contract, by the contract of the call that it wraps, with no pairs and no dictionary.
 use borrow.Author.Needs.{needs}
 use mathlib.Core.Path.{_∙_, ap}
 use Rattle.packing.specs.Packing.{packNormal}
@@ -6,7 +6,7 @@ use Rattle.capi.proofs.gx_normal.Statement.{statement}
 use Rattle.capi.proofs.gx_normal.Tie as tie
 
 returns : tie.Need-returns
-returns c = let r = c .before .before .before .normalise .ensures in (c .pack-normal .ensures ∙ ap packNormal (r .0), r .1)
+returns c = let r = c .before .before .before .normalise-sent .ensures in (c .pack-normal .ensures ∙ ap packNormal (r .0), r .1)
 
 pub gx-normal-spec : {M : Type 1} → statement M
 gx-normal-spec =

@@ -30,6 +30,12 @@ comparisonSent c d k i p =
 unfoldable pub fitSent : List ℕ → ℕ → ℕ → ℕ → FitAnswer
 fitSent d k i p = cond (eqb i 2) (fit.Refused (sentAt d p k) 2 p) (fit.Refused k i p)
 
+-- the fit answer by that for a plain description
+abbrev pub fitBy : List ℕ → FitAnswer → FitAnswer
+fitBy d (fit.Refused k i p) = fitSent d k i p
+fitBy d fit.Yes = fit.Yes
+fitBy d fit.No = fit.No
+
 -- a list of pairs is accepted
 pub record ListTaken (P : List ℕ) : Type 0 where
   pub count : ℕ

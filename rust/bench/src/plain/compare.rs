@@ -1,8 +1,9 @@
 //! The comparison.
 
 use super::entry::{Entry, AT_MOST, LACKS};
+use super::names::{Names, ROOM};
 use super::pairs::Pairs;
-use super::read::{entry_at, read, DESCRIPTION};
+use super::read::{entry_at, Described};
 use super::single::FIRST_SINGLE;
 use super::slots::{bounds, Key, Slots};
 use super::specimen;
@@ -22,10 +23,10 @@ const PASSED: u16 = u16::MAX;
 
 /// Compares C with D. Where not contained, the specimen is written into the output.
 pub fn compare(c: &[u8], d: &[u8], out: &mut [u8]) -> Result<Comparison, Refusal> {
-    under(None, c, d, out)
+    under(None, Described::Sent(c), Described::Sent(d), out)
 }
 
-/// The same under a list of properties that exclude each other.
+/// The same under a list of properties that exclude each other, with a dictionary.
 pub fn compare_with(
     pairs: &[u8],
     dictionary: &[u8],
@@ -33,12 +34,29 @@ pub fn compare_with(
     d: &[u8],
     out: &mut [u8],
 ) -> Result<Comparison, Refusal> {
-    let pairs = Pairs::read(pairs, dictionary)?;
-    under(pairs.as_ref(), c, d, out)
+    let pairs = Pairs::read(pairs)?;
+    let Some(names) = Names::read(dictionary)? else {
+        return under(pairs.as_ref(), Described::Sent(c), Described::Sent(d), out);
+    };
+    let mut rooms = [[0; ROOM]; 2];
+    let [room, other] = &mut rooms;
+    let c = names.unfolded(c, 1, room)?;
+    let d = names.unfolded(d, 2, other)?;
+    under(
+        pairs.as_ref(),
+        Described::Unfolded(c),
+        Described::Unfolded(d),
+        out,
+    )
 }
 
-fn under(pairs: Option<&Pairs>, c: &[u8], d: &[u8], out: &mut [u8]) -> Result<Comparison, Refusal> {
-    match size(c.len().max(d.len())) {
+fn under(
+    pairs: Option<&Pairs>,
+    c: Described,
+    d: Described,
+    out: &mut [u8],
+) -> Result<Comparison, Refusal> {
+    match size(c.bytes().len().max(d.bytes().len())) {
         Size::Small => sized::<64>(pairs, c, d, out),
         Size::Middle => sized::<256>(pairs, c, d, out),
         Size::Large => sized::<1024>(pairs, c, d, out),
@@ -47,19 +65,18 @@ fn under(pairs: Option<&Pairs>, c: &[u8], d: &[u8], out: &mut [u8]) -> Result<Co
 
 fn sized<const N: usize>(
     pairs: Option<&Pairs>,
-    c: &[u8],
-    d: &[u8],
+    c: Described,
+    d: Described,
     out: &mut [u8],
 ) -> Result<Comparison, Refusal> {
     let mut slots = Slots::<N>::new();
-    read::<N>(c, &DESCRIPTION, 1, |number, entry| {
-        slots.enter(number, entry)
-    })?;
+    c.read::<N>(1, |number, entry| slots.enter(number, entry))?;
     if let Some(pairs) = pairs {
         slots.restrict(pairs);
     }
     slots.settle();
     let failing = first_failing(pairs, &slots, d)?;
+    let (c, d) = (c.bytes(), d.bytes());
     if out.len() < c.len() + d.len() {
         return Err(TOO_SHORT);
     }
@@ -78,13 +95,13 @@ fn sized<const N: usize>(
 fn first_failing<const N: usize>(
     pairs: Option<&Pairs>,
     slots: &Slots<N>,
-    d: &[u8],
+    d: Described,
 ) -> Result<usize, Refusal> {
     // A state for each 'every' entry: the place of C that it owns, or one of the two above.
     let mut states = [0u16; N];
     states[0] = if slots.is_broken() { PASSED } else { 0 };
     let mut failing = 0;
-    read::<N>(d, &DESCRIPTION, 2, |number, entry| {
+    d.read::<N>(2, |number, entry| {
         if failing == 0 {
             let state = states[entry.owner()];
             let (holds, below) = look(pairs, slots, state, entry);

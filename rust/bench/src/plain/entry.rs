@@ -7,6 +7,7 @@ pub const AT_MOST: u16 = 4;
 pub const EVERY: u16 = 5;
 pub const NOTHING: u16 = 6;
 pub const GROUP: u16 = 7;
+pub const NAMED: u16 = 9;
 
 /// The kinds that take a number, as bits: 3, 4 and 7.
 const NUMBERED: u16 = 1 << AT_LEAST | 1 << AT_MOST | 1 << GROUP;
@@ -43,6 +44,18 @@ impl Entry {
     #[inline]
     pub fn number(self) -> u16 {
         (self.0 >> 48) as u16
+    }
+
+    /// Whether this stands for a description of the dictionary, if there is one of that name.
+    #[inline]
+    pub fn is_named(self) -> bool {
+        (self.kind() == NAMED) & (self.number() == 0)
+    }
+
+    /// The same with another owner.
+    #[inline]
+    pub fn owned_by(self, owner: u16) -> Entry {
+        Entry(self.0 & !0xffff_0000 | u64::from(owner) << 16)
     }
 
     /// Whether the kind is one of these (as bits), and name and number are inside the table.

@@ -4,8 +4,9 @@
 //! description. Each group is looked at once, against that place.
 
 use super::entry::{Entry, GROUP};
+use super::names::{Names, ROOM};
 use super::pairs::{Clashes, Pairs};
-use super::read::{entry_at, read, DESCRIPTION, SPECIMEN};
+use super::read::{entry_at, read, Described, SPECIMEN};
 use super::slots::{Key, Slots, BROKEN};
 use super::{size, Refusal, Size};
 
@@ -14,22 +15,31 @@ const NOWHERE: u16 = u16::MAX;
 
 /// Whether the top item of a specimen fits a description.
 pub fn fit(specimen: &[u8], description: &[u8]) -> Result<bool, Refusal> {
-    under(None, specimen, description)
+    under(None, specimen, Described::Sent(description))
 }
 
-/// The same under a list of properties that exclude each other.
+/// The same under a list of properties that exclude each other, with a dictionary.
 pub fn fit_with(
     pairs: &[u8],
     dictionary: &[u8],
     specimen: &[u8],
     description: &[u8],
 ) -> Result<bool, Refusal> {
-    let pairs = Pairs::read(pairs, dictionary)?;
+    let pairs = Pairs::read(pairs)?;
+    let Some(names) = Names::read(dictionary)? else {
+        return under(pairs.as_ref(), specimen, Described::Sent(description));
+    };
+    let mut room = [0; ROOM];
+    let description = match names.unfolded(description, 2, &mut room) {
+        Ok(bytes) => Described::Unfolded(bytes),
+        // The specimen's refusals come first.
+        Err(refusal) => Described::Refused(refusal),
+    };
     under(pairs.as_ref(), specimen, description)
 }
 
-fn under(pairs: Option<&Pairs>, specimen: &[u8], description: &[u8]) -> Result<bool, Refusal> {
-    match size(specimen.len().max(description.len())) {
+fn under(pairs: Option<&Pairs>, specimen: &[u8], description: Described) -> Result<bool, Refusal> {
+    match size(specimen.len().max(description.bytes().len())) {
         Size::Small => sized::<64, 64>(pairs, specimen, description),
         Size::Middle => sized::<256, 256>(pairs, specimen, description),
         Size::Large => sized::<2048, 1024>(pairs, specimen, description),
@@ -66,14 +76,12 @@ fn read_owned<const M: usize>(
 fn sized<const M: usize, const N: usize>(
     pairs: Option<&Pairs>,
     specimen: &[u8],
-    description: &[u8],
+    description: Described,
 ) -> Result<bool, Refusal> {
     let mut owned = Owned::<M>::new();
     let entries = read_owned(pairs, specimen, &mut owned)?;
     let mut slots = Slots::<N>::new();
-    read::<N>(description, &DESCRIPTION, 2, |number, entry| {
-        slots.enter(number, entry)
-    })?;
+    description.read::<N>(2, |number, entry| slots.enter(number, entry))?;
     Ok(Fitting::new(specimen, &slots, &owned).all_fit(entries))
 }
 

@@ -1,11 +1,12 @@
 //! The calls in plain, safe Rust, written for speed: one thread, no heap. Those that take a list of properties that exclude each
-//! other do without it where it is empty.
+//! other, or a dictionary, do without it where it is empty.
 //!
 //! Each call is compiled for three sizes of its tables, so that a small input doesn't pay for clearing large ones.
 
 mod compare;
 mod entry;
 mod fit;
+mod names;
 mod normal;
 mod order;
 mod pairs;
@@ -16,9 +17,11 @@ mod seen;
 mod single;
 mod slots;
 mod specimen;
+mod unfold;
 
 pub use compare::{compare, compare_with, Comparison};
 pub use fit::{fit, fit_with};
+pub use names::unfold;
 pub use normal::{normal_form, normal_with};
 pub use read::{read_description, read_specimen};
 
@@ -28,11 +31,11 @@ const BLOCK: usize = 512;
 /// What a refused call answers.
 #[derive(Clone, Copy, Debug, PartialEq, Eq)]
 pub struct Refusal {
-    /// The number in the table of refusals, 1 to 7, 9, 11 or 12.
+    /// The number in the table of refusals, 1 to 9 or 11 to 14.
     pub number: u8,
-    /// The input, 1 or 2; 0 for numbers 7 and 11, 100 for the dictionary.
+    /// The input, 1 or 2; 0 for numbers 7 and 11, 100 for the dictionary and 100 + n for its n-th description.
     pub input: u16,
-    /// The block, entry or pair; 0 for numbers 1 and 7 and for a list of a wrong length.
+    /// The block, entry or pair; 0 for numbers 1, 7, 8 and 14 and for a list of a wrong length.
     pub place: u16,
 }
 

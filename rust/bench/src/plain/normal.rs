@@ -1,32 +1,38 @@
 //! The normal form.
 
 use super::entry::{Entry, AT_LEAST, AT_MOST, EVERY, HAS, LACKS, NOTHING};
+use super::names::{Names, ROOM};
 use super::order::{slot_of, Order};
 use super::pairs::Pairs;
 use super::queue::{Queue, Waiting};
-use super::read::{read, DESCRIPTION};
+use super::read::Described;
 use super::rows::Rows;
 use super::slots::{Slots, NO_BOUND, SAYS};
 use super::{size, Refusal, Size, TOO_SHORT};
 
 /// Writes the normal form of a description and answers its number of entries.
 pub fn normal_form(description: &[u8], out: &mut [u8]) -> Result<usize, Refusal> {
-    under(None, description, out)
+    under(None, Described::Sent(description), out)
 }
 
-/// The same under a list of properties that exclude each other.
+/// The same under a list of properties that exclude each other, with a dictionary.
 pub fn normal_with(
     pairs: &[u8],
     dictionary: &[u8],
     description: &[u8],
     out: &mut [u8],
 ) -> Result<usize, Refusal> {
-    let pairs = Pairs::read(pairs, dictionary)?;
-    under(pairs.as_ref(), description, out)
+    let pairs = Pairs::read(pairs)?;
+    let Some(names) = Names::read(dictionary)? else {
+        return under(pairs.as_ref(), Described::Sent(description), out);
+    };
+    let mut room = [0; ROOM];
+    let description = names.unfolded(description, 1, &mut room)?;
+    under(pairs.as_ref(), Described::Unfolded(description), out)
 }
 
-fn under(pairs: Option<&Pairs>, description: &[u8], out: &mut [u8]) -> Result<usize, Refusal> {
-    match size(description.len()) {
+fn under(pairs: Option<&Pairs>, description: Described, out: &mut [u8]) -> Result<usize, Refusal> {
+    match size(description.bytes().len()) {
         Size::Small => sized::<64>(pairs, description, out),
         Size::Middle => sized::<256>(pairs, description, out),
         Size::Large => sized::<1024>(pairs, description, out),
@@ -35,14 +41,12 @@ fn under(pairs: Option<&Pairs>, description: &[u8], out: &mut [u8]) -> Result<us
 
 fn sized<const N: usize>(
     pairs: Option<&Pairs>,
-    description: &[u8],
+    description: Described,
     out: &mut [u8],
 ) -> Result<usize, Refusal> {
     let mut slots = Slots::<N>::new();
-    read::<N>(description, &DESCRIPTION, 1, |number, entry| {
-        slots.enter(number, entry)
-    })?;
-    if out.len() < description.len() {
+    description.read::<N>(1, |number, entry| slots.enter(number, entry))?;
+    if out.len() < description.bytes().len() {
         return Err(TOO_SHORT);
     }
     if let Some(pairs) = pairs {

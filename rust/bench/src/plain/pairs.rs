@@ -1,6 +1,7 @@
 //! Lists of properties that exclude each other, by property.
 
 use super::entry::{Entry, HAS};
+use super::read::refusal;
 use super::seen::Seen;
 use super::slots::Slots;
 use super::Refusal;
@@ -23,16 +24,12 @@ pub struct Pairs {
 }
 
 impl Pairs {
-    /// Reads what a call is given before its inputs: a list, none where it is empty, and a dictionary, which has to be.
-    pub fn read(list: &[u8], dictionary: &[u8]) -> Result<Option<Pairs>, Refusal> {
-        let refused = |number, input, place| Refusal {
-            number,
-            input,
-            place,
-        };
+    /// Reads a list; none where it is empty.
+    pub fn read(list: &[u8]) -> Result<Option<Pairs>, Refusal> {
+        let refused = |place| refusal(11, 0, place);
         let (stored, rest) = list.as_chunks::<PAIR>();
         if !rest.is_empty() || stored.len() > MOST {
-            return Err(refused(11, 0, 0));
+            return Err(refused(0));
         }
         let mut pairs = Pairs {
             last: [0; 256],
@@ -43,13 +40,10 @@ impl Pairs {
         for (place, &[a, b, c, d]) in (1..).zip(stored) {
             let (one, other) = (u16::from_le_bytes([a, b]), u16::from_le_bytes([c, d]));
             if one == 0 || other == 0 || one == other {
-                return Err(refused(11, 0, place));
+                return Err(refused(place));
             }
             pairs.enter(one, other);
             pairs.enter(other, one);
-        }
-        if !dictionary.is_empty() {
-            return Err(refused(1, 100, 0));
         }
         Ok((!stored.is_empty()).then_some(pairs))
     }

@@ -35,6 +35,28 @@ impl<const N: usize> Rows<N> {
         self.used += usize::from(wanted);
     }
 
+    /// The number of entries.
+    #[inline]
+    pub fn used(&self) -> usize {
+        self.used
+    }
+
+    /// Adds entries again that stand after so many, so that those which these own are owned alike and the others by this one.
+    #[inline]
+    pub fn repeat(&mut self, after: usize, count: usize, owner: u16) {
+        let further = (self.used - after) as u16;
+        for at in after..after + count {
+            let entry = Entry(self.cells.as_flattened()[at]);
+            let own = entry.owner();
+            let owner = if own > after {
+                own as u16 + further
+            } else {
+                owner
+            };
+            self.push_if(true, entry.owned_by(owner));
+        }
+    }
+
     /// Writes all in blocks from the start of an output that is long enough, and answers their number.
     pub fn write(&self, out: &mut [u8]) -> usize {
         let rows = &self.cells.as_flattened()[..self.used];

@@ -4,7 +4,7 @@ use super::*;
 use bench::excluding::{list, star, star_places, Case, MOST_PAIRS};
 use goltximen::Under;
 
-fn same_normal_under(under: Under, d: &[u8], out: usize) {
+pub fn same_normal_under(under: Under, d: &[u8], out: usize) {
     let Under { pairs, dictionary } = under;
     let calls: Calls<Result<usize, Refused>> = [
         &|out| plain::normal_with(pairs, dictionary, d, out).map_err(number_input_place),
@@ -14,7 +14,7 @@ fn same_normal_under(under: Under, d: &[u8], out: usize) {
     let _ = same_written(out, calls);
 }
 
-fn same_comparison_under(under: Under, c: &[u8], d: &[u8], out: usize) -> Compared {
+pub fn same_comparison_under(under: Under, c: &[u8], d: &[u8], out: usize) -> Compared {
     let Under { pairs, dictionary } = under;
     let calls: Calls<Compared> = [
         &|out| plain_comparison(plain::compare_with(pairs, dictionary, c, d, out)),
@@ -24,7 +24,7 @@ fn same_comparison_under(under: Under, c: &[u8], d: &[u8], out: usize) -> Compar
     same_written(out, calls)
 }
 
-fn same_fit_under(under: Under, s: &[u8], d: &[u8]) -> Result<bool, Refused> {
+pub fn same_fit_under(under: Under, s: &[u8], d: &[u8]) -> Result<bool, Refused> {
     let Under { pairs, dictionary } = under;
     let calls: Calls<Result<bool, Refused>> = [
         &|_| plain::fit_with(pairs, dictionary, s, d).map_err(number_input_place),
@@ -80,10 +80,9 @@ fn drawn_lists() {
     let (mut listed, mut clashes) = (0, 0);
     for _ in 0..4000 {
         let (pairs, [c, d, s]) = drawn_case(&mut chance);
-        let dictionary: &[u8] = [&[][..], &[1]][usize::from(chance.below(20) == 0)];
         let under = Under {
             pairs: &pairs,
-            dictionary,
+            dictionary: &[],
         };
         same_normal_under(under, &c, room(c.len(), &mut chance));
         let out = room(c.len() + d.len(), &mut chance);

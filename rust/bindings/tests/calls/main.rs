@@ -2,6 +2,7 @@
 //!
 //! An entry is written as its kind, owner, name and number.
 
+mod named;
 mod under;
 
 use goltximen::{
@@ -302,11 +303,11 @@ fn call_all() {
 }
 
 fn on_a_small_stack(calls: fn()) {
-    let thread = std::thread::Builder::new().stack_size(96 * 1024);
+    let thread = std::thread::Builder::new().stack_size(128 * 1024);
     thread.spawn(calls).unwrap().join().unwrap();
 }
 
 #[test]
-fn a_stack_of_96_kib_has_room() {
+fn a_stack_of_128_kib_has_room() {
     on_a_small_stack(call_all);
 }

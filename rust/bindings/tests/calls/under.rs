@@ -80,20 +80,6 @@ fn refused_lists_come_first() {
 }
 
 #[test]
-fn a_dictionary_is_refused_after_the_list() {
-    let dictionary = &blocks(&[])[..];
-    let with = |pairs| Under { pairs, dictionary };
-    assert_eq!(
-        with(&LIST[..]).fit(&[], &[]),
-        refusal(Reason::Length, 100, 0)
-    );
-    assert_eq!(
-        with(&[7, 0, 7, 0]).fit(&[], &[]),
-        refusal(Reason::Pairs, 0, 1)
-    );
-}
-
-#[test]
 fn a_specimen_that_does_not_keep_the_list() {
     let s = blocks(&[[1, 0, 7, 0], [7, 0, 1, 0], [1, 2, 8, 0], [1, 0, 300, 0]]);
     let both = |place| refusal(Reason::BothOfAPair, 1, place);

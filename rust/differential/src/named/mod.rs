@@ -1,6 +1,7 @@
 //! Vectors of the paper's cases, of the requests' statements and of the examples that the report prints.
 
 pub mod excluding;
+pub mod naming;
 
 use reference::notation::{blocks, entry};
 use reference::{encode, Entry};
@@ -457,7 +458,7 @@ fn second_items() -> Vec<Vector> {
         Vector::specimen(chains(32)),
         Vector::specimen(chains(67)),
         fit("7,32768,1", ""),
-        fit("7,32768; 7,32768", "9"),
+        fit("7,32768; 7,32768", "8"),
         Vector::fit(chains(1), Vec::new()),
     ]
 }

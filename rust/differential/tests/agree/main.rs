@@ -1,6 +1,7 @@
 //! A fixed number of drawn cases, and sweeps over every byte, place and length that decides.
 
 mod excluding;
+mod naming;
 
 use differential::agree::{self, Answer, Difference};
 use differential::chance::Chance;
@@ -9,7 +10,9 @@ use differential::draw::{self, Names, Shape};
 use differential::exchange::{exchange, least_unseen, told};
 use differential::excluding::Given;
 use differential::rounds::{Found, Rounds};
-use differential::small::{confirm, first_that_breaks, tiny_descriptions, tiny_groups, Pool, Size};
+use differential::small::{
+    confirm, confirm_unfolded, first_that_breaks, tiny_descriptions, tiny_groups, Pool, Size,
+};
 use differential::{length_of, BLOCK, MOST_DEPTH};
 use goltximen::Under;
 use reference::notation::entry;

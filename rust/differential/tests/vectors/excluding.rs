@@ -62,7 +62,7 @@ fn number_11_before_all() {
     let answers = [
         in_each_call!("refused 11 input 0 place 1"),
         in_each_call!("refused 11 input 0 place 1"),
-        in_each_call!("refused 1 input 100 place 0"),
+        in_each_call!("refused 1 input 1 place 0"),
         in_each_call!("refused 1 input 100 place 0"),
         in_each_call!("refused 1 input 1 place 0"),
     ];

@@ -2,19 +2,27 @@
 //! the paper and the report say.
 
 mod excluding;
+mod naming;
 
 use std::collections::{BTreeMap, BTreeSet};
+use std::sync::OnceLock;
 
 use differential::agree;
 use differential::chance::Chance;
 use differential::excluding::Given;
 use differential::vectors::{
-    all, digest, standard_input, standard_output, Answer, Call, Vector, FILL, MOST_LENGTH,
-    MOST_VECTORS,
+    digest, standard_input, standard_output, Answer, Call, Vector, FILL, MOST_DICTIONARY,
+    MOST_LENGTH, MOST_VECTORS,
 };
 use differential::{drawn, named};
 use reference::notation::{blocks, entry};
 use reference::{encode, Entry};
+
+/// All vectors, made once.
+fn all() -> &'static [Vector] {
+    static ALL: OnceLock<Vec<Vector>> = OnceLock::new();
+    ALL.get_or_init(differential::vectors::all)
+}
 
 /// A file of the crate that reads the vectors.
 fn kept(name: &str) -> Vec<u8> {
@@ -61,12 +69,17 @@ fn wrote_entries(answer: &'static str, entries: &[Entry]) -> Expected {
     }
 }
 
+/// Whether the call has an output.
+fn writes(call: Call) -> bool {
+    matches!(call, Call::NormalForm | Call::Compare | Call::Unfold)
+}
+
 /// Each vector gives the line that is expected, with the digest of an output that starts with what is written.
 fn check(vectors: &[Vector], expected: &[Expected]) {
     assert_eq!(vectors.len(), expected.len());
     for (number, (vector, expected)) in (1..).zip(vectors.iter().zip(expected)) {
         let mut line = format!("{number} {}", expected.answer);
-        if matches!(vector.call, Call::NormalForm | Call::Compare) {
+        if writes(vector.call) {
             let mut out = vec![FILL; vector.output];
             out[..expected.written.len()].copy_from_slice(&expected.written);
             line += &format!(" output {}", digest(&out));
@@ -78,8 +91,8 @@ fn check(vectors: &[Vector], expected: &[Expected]) {
 #[test]
 fn the_files_are_the_ones_that_are_made() {
     let vectors = all();
-    assert!(kept("stdin") == standard_input(&vectors));
-    assert!(kept("stdout") == standard_output(&vectors).into_bytes());
+    assert!(kept("stdin") == standard_input(vectors));
+    assert!(kept("stdout") == standard_output(vectors).into_bytes());
 }
 
 #[test]
@@ -109,23 +122,27 @@ fn the_digest() {
 fn as_many_and_as_long_as_allowed() {
     let vectors = all();
     assert!(vectors.len() <= MOST_VECTORS);
-    assert!(standard_input(&vectors).len() < 1_300_000);
-    for vector in &vectors {
-        let lengths = vector.parts().map(<[u8]>::len);
+    assert!(standard_input(vectors).len() < 2_400_000);
+    for vector in vectors {
+        let [pairs, dictionary, first, second] = vector.parts().map(<[u8]>::len);
+        assert!(dictionary <= MOST_DICTIONARY);
+        let lengths = [pairs, first, second];
         assert!(lengths.iter().all(|&length| length <= MOST_LENGTH));
         assert!(vector.output <= MOST_LENGTH);
         let one_input = !matches!(vector.call, Call::Fit | Call::Compare);
         assert!(vector.second.is_empty() || !one_input);
-        let no_output = !matches!(vector.call, Call::NormalForm | Call::Compare);
-        assert!(vector.output == 0 || !no_output);
+        assert!(vector.output == 0 || writes(vector.call));
+        // The unfolding takes no list.
+        assert!(pairs == 0 || vector.call != Call::Unfold);
     }
 }
 
-/// Each answer of each call at least ten times, in the whole list and in the drawn part; a call's refusals together are one.
+/// Each answer of each call at least ten times, in the whole list and in the drawn parts; a call's refusals together are one.
 #[test]
 fn each_answer_of_each_call() {
-    for vectors in [all(), drawn::drawn()] {
-        let sorts = sorts(&vectors);
+    let drawn = [drawn::drawn(), drawn::naming()].concat();
+    for vectors in [all(), &drawn] {
+        let sorts = sorts(vectors);
         for answer in [
             "description accepted",
             "specimen accepted",
@@ -134,10 +151,18 @@ fn each_answer_of_each_call() {
             "normal form",
             "compare contained",
             "compare not contained",
+            "unfold",
         ] {
             assert!(sorts[answer] >= 10, "{answer}");
         }
-        for call in ["description", "specimen", "fit", "normal form", "compare"] {
+        for call in [
+            "description",
+            "specimen",
+            "fit",
+            "normal form",
+            "compare",
+            "unfold",
+        ] {
             let refused = format!("{call} refused");
             let times = sorts.iter().filter(|(sort, _)| sort.starts_with(&refused));
             assert!(times.map(|(_, times)| times).sum::<usize>() >= 10, "{call}");
@@ -145,11 +170,11 @@ fn each_answer_of_each_call() {
     }
 }
 
-/// Each refusal of each call and input at least three times, each number 2 to 6, 9, 11 and 12 at three places or more.
+/// Each refusal of each call and input at least three times, each number 2 to 6, 9 and 11 to 13 at three places or more.
 #[test]
 fn each_refusal() {
     let vectors = all();
-    let sorts = sorts(&vectors);
+    let sorts = sorts(vectors);
     for (call, inputs) in [
         ("description", 1),
         ("specimen", 1),
@@ -173,11 +198,30 @@ fn each_refusal() {
             assert!(sorts[&format!("{call} {refusal}")] >= 3, "{call} {refusal}");
         }
     }
+    for (call, inputs) in [("fit", 2..=2), ("normal form", 1..=1), ("compare", 1..=2)] {
+        for (number, input) in [13, 14]
+            .iter()
+            .flat_map(|n| inputs.clone().map(move |i| (n, i)))
+        {
+            let sort = format!("{call} refused {number} input {input}");
+            assert!(sorts[&sort] >= 1, "{sort}");
+        }
+    }
+    for refusal in [
+        "refused 1 input 100",
+        "refused 8 input 100",
+        "refused 13 input 1",
+        "refused 14 input 1",
+        "refused 13 input 102",
+        "refused 7 input 0",
+    ] {
+        assert!(sorts[&format!("unfold {refusal}")] >= 2, "unfold {refusal}");
+    }
     assert!(sorts["fit refused 12 input 1"] >= 3);
     assert!(sorts["normal form refused 7 input 0"] >= 3);
     assert!(sorts["compare refused 7 input 0"] >= 3);
     let mut places: BTreeMap<u8, BTreeSet<u32>> = BTreeMap::new();
-    for vector in &vectors {
+    for vector in vectors {
         if let (Answer::Refused(refusal), _) = vector.answer() {
             places
                 .entry(refusal.number)
@@ -185,7 +229,7 @@ fn each_refusal() {
                 .insert(refusal.place);
         }
     }
-    for number in [2, 3, 4, 5, 6, 9, 11, 12] {
+    for number in [2, 3, 4, 5, 6, 9, 11, 12, 13] {
         assert!(places[&number].len() >= 3, "{number}");
     }
 }
@@ -202,6 +246,7 @@ fn the_library_agrees() {
             Call::Fit => agree::fit(under, first, second),
             Call::NormalForm => agree::normal_form(&mut chance, under, first, vector.output),
             Call::Compare => agree::compare(&mut chance, under, first, second, vector.output),
+            Call::Unfold => agree::unfold(&mut chance, under.dictionary, first, vector.output),
         };
         if let Err(difference) = agreed {
             panic!("vector {number}: {difference}");

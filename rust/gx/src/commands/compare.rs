@@ -13,14 +13,15 @@ use crate::specimen;
 use crate::text;
 use crate::tree::Tree;
 use crate::trouble::Trouble;
+use crate::whereabouts;
 use crate::words::{self, Words};
 use crate::{page, svg};
 
 pub(super) fn compare(context: &Context, c: &Path, d: &Path) -> Result<Answer, Trouble> {
     let supplier = context.description(c, 1)?;
     let service = context.description(d, 2)?;
-    let list = &context.list;
-    let explained = compared(list, &supplier, &service);
+    let list = &context.background.list;
+    let explained = compared(&context.background, &supplier, &service);
     let explained = explained.map_err(|refusal| not_refused(d, refusal))?;
     let names = Failure::names(list, &supplier, &service);
     let mut answer = match &explained {
@@ -50,7 +51,7 @@ fn extras(
         extras.push((Extra::Svg, drawing.into_bytes()));
     }
     if options.html.is_some() {
-        let list = &context.list;
+        let list = &context.background.list;
         let page = page::page(explained, list, supplier, service, words, options.whole);
         extras.push((Extra::Html, page.into_bytes()));
     }
@@ -94,63 +95,82 @@ fn not_contained(failure: &Failure, c: &Input, d: &Input, names: &Names) -> Answ
     let line = format!("not contained, entry {}: {asks}", failure.entry);
     let numbers = |list: &[usize]| Json::List(list.iter().map(|&n| Json::number(n)).collect());
     let links: Vec<usize> = failure.way.iter().map(|link| link.0.into()).collect();
+    let mut json = vec![
+        ("answer", Json::text("not contained")),
+        ("entry", Json::number(failure.entry)),
+        (
+            "line",
+            d.line_of(failure.entry).map_or(Json::Null, Json::number),
+        ),
+    ];
+    json.extend(origin_json(d, failure.entry));
+    json.extend([
+        ("owners", numbers(&failure.owners)),
+        ("links", numbers(&links)),
+        ("asks", Json::text(asks)),
+        ("supplier", Json::text(failure.supplier_says(words))),
+        ("supplier_entries", numbers(&failure.supplier)),
+        ("shows", Json::text(failure.note(words))),
+        (
+            "specimen_entries",
+            Json::number(failure.specimen.entries.len()),
+        ),
+        ("specimen", entries_json(&failure.specimen.entries, names)),
+    ]);
     Answer {
         status: Status::No,
         line,
         full: full(failure, c, d, words).into_bytes(),
         ending: "txt",
-        json: vec![
-            ("answer", Json::text("not contained")),
-            ("entry", Json::number(failure.entry)),
-            (
-                "line",
-                d.line_of(failure.entry).map_or(Json::Null, Json::number),
-            ),
-            ("owners", numbers(&failure.owners)),
-            ("links", numbers(&links)),
-            ("asks", Json::text(asks)),
-            ("supplier", Json::text(failure.supplier_says(words))),
-            ("supplier_entries", numbers(&failure.supplier)),
-            ("shows", Json::text(failure.note(words))),
-            (
-                "specimen_entries",
-                Json::number(failure.specimen.entries.len()),
-            ),
-            ("specimen", entries_json(&failure.specimen.entries, names)),
-        ],
+        json,
         extras: Vec::new(),
     }
+}
+
+/// The entry as it was sent, and the descriptions that it was put in from; nothing where no named ones were unfolded.
+fn origin_json(input: &Input, entry: usize) -> Vec<(&'static str, Json)> {
+    let Some(origin) = input.origins.get(entry - 1) else {
+        return Vec::new();
+    };
+    let within = origin.within.iter().map(|&(named, entry)| {
+        Json::Object(vec![
+            ("description", Json::number(named.0.into())),
+            ("entry", Json::number(entry)),
+        ])
+    });
+    vec![
+        ("sent", Json::number(origin.sent)),
+        ("named", Json::List(within.collect())),
+    ]
 }
 
 fn full(failure: &Failure, c: &Input, d: &Input, words: Words<'_>) -> String {
     let mut out = format!(
         "not contained\n\nEntry {} of the service's description{} fails:\n    {}\n",
         failure.entry,
-        at_line(d, failure.entry),
+        whereabouts::told(d, failure.entry, words.names()),
         failure.asks(words)
     );
     out.push_str(&format!(
         "The supplier's description says there:\n    {}{}\n",
         failure.supplier_says(words),
-        by_entries(c, &failure.supplier)
+        by_entries(c, &failure.supplier, words.names())
     ));
-    out.push_str("\nThe entry in the service's description:\n");
+    let unfolded = if d.is_unfolded() { ", unfolded" } else { "" };
+    out.push_str(&format!(
+        "\nThe entry in the service's description{unfolded}:\n"
+    ));
     out.push_str(&surroundings(failure, d, words));
     out.push_str("\nA specimen that fits the supplier's description and not the service's:\n");
     out.push_str(&specimen_lines(failure, words));
     out
 }
 
-fn at_line(input: &Input, entry: usize) -> String {
-    let line = input.line_of(entry);
-    line.map_or(String::new(), |line| format!(" (line {line})"))
-}
-
 /// The numbers of the supplier's entries that say it.
-fn by_entries(input: &Input, entries: &[usize]) -> String {
+fn by_entries(input: &Input, entries: &[usize], names: &Names) -> String {
     let numbers: Vec<String> = entries
         .iter()
-        .map(|&entry| format!("{entry}{}", at_line(input, entry)))
+        .map(|&entry| format!("{entry}{}", whereabouts::told(input, entry, names)))
         .collect();
     match numbers.as_slice() {
         [] => String::new(),

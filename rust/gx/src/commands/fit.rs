@@ -4,19 +4,22 @@ use std::path::Path;
 
 use super::{Answer, Context, Status};
 use crate::blocks::encode;
+use crate::dictionary::Naming;
 use crate::entry::{Entry, Sort};
 use crate::input::{keeping, not_refused, Input};
 use crate::json::Json;
 use crate::library::{self, Refusal, Under};
 use crate::tree::{owners, way};
 use crate::trouble::Trouble;
+use crate::whereabouts;
 use crate::words::Words;
 
 pub(super) fn fit(context: &Context, specimen: &Path, file: &Path) -> Result<Answer, Trouble> {
-    let shown = context.reading.input(specimen, Some(Sort::Specimen), 1)?;
-    let shown = keeping(specimen, shown, &context.list)?;
+    let reading = &context.reading;
+    let shown = reading.input(specimen, Some(Sort::Specimen), 1, Naming::Nothing)?;
+    let shown = keeping(specimen, shown, &context.background.list)?;
     let description = context.description(file, 2)?;
-    let under = context.list.under();
+    let under = context.background.under();
     let fits = library::fits(under, &shown.bytes, &description.bytes);
     if fits.map_err(|refusal| not_refused(file, refusal))? {
         return Ok(yes());
@@ -47,7 +50,8 @@ fn no(specimen: &Input, description: &Input, unmet: Option<usize>) -> Answer {
     });
     let line = match (unmet, &says) {
         (Some(entry), Some(says)) => {
-            format!("no: the specimen does not meet entry {entry} of the description: {says}")
+            let from = whereabouts::of_origin(description, entry, &names);
+            format!("no: the specimen does not meet entry {entry} of the description{from}: {says}")
         }
         _ => "no: the top item of the specimen does not fit the description".into(),
     };

@@ -2,17 +2,21 @@
 
 mod check;
 mod compare;
+mod dictionary;
 mod fit;
 mod list;
 mod normal;
 mod owl;
 mod show;
+mod unfold;
 
 use std::path::Path;
 
-use crate::args::{Command, Options, To};
+use crate::args::{Command, Content, Options, To};
+use crate::background::Background;
+use crate::dictionary::{Dictionary, Naming};
 use crate::entry::{Entry, Sort};
-use crate::input::{bytes_of, Input, Reading};
+use crate::input::{bytes_of, not_refused, Input, Reading};
 use crate::json::Json;
 use crate::names::Names;
 use crate::pairs::List;
@@ -76,8 +80,8 @@ pub struct Context {
     pub options: Options,
     /// How inputs are read.
     pub reading: Reading,
-    /// The properties that exclude each other; with no pairs where no list is given.
-    pub list: List,
+    /// The properties that exclude each other and the named descriptions; none where no list and no dictionary is given.
+    pub background: Background,
 }
 
 /// A file that is read alone.
@@ -86,6 +90,8 @@ enum Alone {
     Entries(Input),
     /// A list of properties that exclude each other.
     Pairs(List),
+    /// A dictionary.
+    Dictionary(Dictionary),
 }
 
 impl Context {
@@ -100,6 +106,7 @@ impl Context {
             (Command::Write, &[file]) => show::write(self, file),
             (Command::Check, &[file]) => check::check(self, file),
             (Command::Normal, &[file]) => normal::normal(self, file),
+            (Command::Unfold, &[file]) => unfold::unfold(self, file),
             (Command::FromOwl, &[file]) => owl::from_owl(self, file),
             (Command::Fit, &[specimen, description]) => fit::fit(self, specimen, description),
             (Command::Compare, &[c, d]) => compare::compare(self, c, d),
@@ -111,27 +118,55 @@ impl Context {
         }
     }
 
-    /// A file of any sort: a list of pairs where the options or its heading say so.
-    fn alone(&self, file: &Path) -> Result<Alone, Trouble> {
-        let (reading, sort) = (&self.reading, self.options.sort);
+    /// A file of any sort: a list of pairs or a dictionary where the options or its heading say so. A description may name what the
+    /// dictionary has; without one, these.
+    fn alone(&self, file: &Path, naming: Naming<'_>) -> Result<Alone, Trouble> {
+        let reading = &self.reading;
         let bytes = bytes_of(file)?;
-        if self.options.list || sort.is_none() && reading.is_headed_pairs(&bytes) {
-            return reading.list_of(file, bytes).map(Alone::Pairs);
-        }
-        reading.input_of(file, bytes, sort, 1).map(Alone::Entries)
+        let content = match self.options.sort {
+            None if reading.is_headed(&bytes, text::PAIRS) => Some(Content::Pairs),
+            None if reading.is_headed(&bytes, text::DICTIONARY) => Some(Content::Dictionary),
+            sort => sort,
+        };
+        let sort = match content {
+            Some(Content::Pairs) => return reading.list_of(file, bytes).map(Alone::Pairs),
+            Some(Content::Dictionary) => {
+                let read = reading.dictionary_of(file, bytes);
+                return read.map(Alone::Dictionary);
+            }
+            Some(Content::Entries(sort)) => Some(sort),
+            None => None,
+        };
+        let naming = match self.options.dictionary {
+            Some(_) => Naming::All(&self.background.dictionary),
+            None => naming,
+        };
+        let read = reading.input_of(file, bytes, sort, 1, naming);
+        read.map(Alone::Entries)
     }
 
-    /// A description, the call's input of this number.
+    /// A description, the call's input of this number, once unfolded.
     fn description(&self, file: &Path, input: u16) -> Result<Input, Trouble> {
-        self.reading.input(file, Some(Sort::Description), input)
+        let dictionary = &self.background.dictionary;
+        let sort = Some(Sort::Description);
+        let read = self
+            .reading
+            .input(file, sort, input, Naming::All(dictionary))?;
+        let unfolded = read.unfolded(dictionary);
+        unfolded.map_err(|refusal| not_refused(file, refusal))
+    }
+
+    /// Which entries are written with their numbers.
+    fn numbers(&self) -> Numbers {
+        match self.options.numbers {
+            true => Numbers::All,
+            false => Numbers::WhereNeeded,
+        }
     }
 
     /// Entries in the form that the options ask for, and the ending of a file that holds it.
     fn written(&self, sort: Sort, entries: &[Entry], names: &Names) -> (Vec<u8>, &'static str) {
-        let numbers = match self.options.numbers {
-            true => Numbers::All,
-            false => Numbers::WhereNeeded,
-        };
+        let numbers = self.numbers();
         match self.options.to.unwrap_or(To::Text) {
             To::Text => {
                 let text = text::text(sort, entries, names, numbers);
@@ -158,6 +193,10 @@ pub(crate) fn entries_json(entries: &[Entry], names: &Names) -> Json {
         if let Some(property) = says.property() {
             fields.push(("property", Json::number(property.0.into())));
             fields.push(("word", names.property(property).into()));
+        }
+        if let Some(named) = says.named() {
+            fields.push(("description", Json::number(named.0.into())));
+            fields.push(("word", names.description(named).into()));
         }
         if let Some(link) = says.link() {
             fields.push(("link", Json::number(link.0.into())));

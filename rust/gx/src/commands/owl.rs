@@ -3,14 +3,15 @@
 use std::path::Path;
 
 use super::{entries_json, list, Answer, Context, Status};
-use crate::args::To;
+use crate::args::{Content, To};
 use crate::blocks::encode;
+use crate::dictionary::Naming;
 use crate::entry::Sort;
 use crate::explain::Failure;
 use crate::input::{accepted, accepted_list, bytes_of, mistaken, text_of, title, Input};
 use crate::json::Json;
 use crate::owl;
-use crate::pairs::{self, List};
+use crate::pairs::{encode as encode_pairs, List};
 use crate::text;
 use crate::trouble::Trouble;
 use crate::words;
@@ -18,7 +19,7 @@ use crate::words;
 pub(super) fn owl(context: &Context, c: &Path, d: &Path) -> Result<Answer, Trouble> {
     let supplier = context.description(c, 1)?;
     let service = context.description(d, 2)?;
-    let list = &context.list;
+    let list = &context.background.list;
     let names = Failure::names(list, &supplier, &service);
     let question = owl::question(&list.pairs, &supplier.entries, &service.entries, &names);
     Ok(Answer {
@@ -42,7 +43,8 @@ pub(super) fn from_owl(context: &Context, file: &Path) -> Result<Answer, Trouble
     let bytes = bytes_of(file)?;
     let text = text_of(file, &bytes)?;
     let class = context.options.class.as_deref();
-    let found = match context.options.list {
+    let pairs = context.options.sort == Some(Content::Pairs);
+    let found = match pairs {
         true => owl::read_pairs(text, &context.reading.names),
         false => owl::read(text, class, &context.reading.names),
     };
@@ -51,23 +53,25 @@ pub(super) fn from_owl(context: &Context, file: &Path) -> Result<Answer, Trouble
     names.join(&found.words);
     let list = List {
         title: title(file),
-        bytes: pairs::encode(&found.pairs),
+        bytes: encode_pairs(&found.pairs),
         pairs: found.pairs,
         names: names.clone(),
         positions: Vec::new(),
     };
-    if context.options.list {
+    if pairs {
         return Ok(list::show(context, &accepted_list(file, list)?));
     }
     let draft = Input {
         title: title(file),
         sort: Sort::Description,
         bytes: encode(&found.entries),
+        sent: found.entries.len(),
         entries: found.entries,
         names,
         positions: found.positions,
+        origins: Vec::new(),
     };
-    let input = accepted(file, draft, 1)?;
+    let input = accepted(file, draft, 1, Naming::Nothing)?;
     let (full, ending) = context.written(Sort::Description, &input.entries, &input.names);
     let full = [remark(context, &list), full].concat();
     Ok(Answer {

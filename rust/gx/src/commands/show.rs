@@ -1,8 +1,9 @@
-//! A description or specimen as text, and as blocks; and a list of pairs likewise.
+//! A description or specimen as text, and as blocks; and a list of pairs or a dictionary likewise.
 
 use std::path::Path;
 
-use super::{entries_json, list, Alone, Answer, Context, Status};
+use super::{dictionary, entries_json, list, Alone, Answer, Context, Status};
+use crate::dictionary::Naming;
 use crate::input::Input;
 use crate::json::Json;
 use crate::text;
@@ -10,9 +11,10 @@ use crate::trouble::Trouble;
 use crate::words;
 
 pub(super) fn show(context: &Context, file: &Path) -> Result<Answer, Trouble> {
-    let input = match context.alone(file)? {
+    let input = match context.alone(file, Naming::Any)? {
         Alone::Entries(input) => input,
         Alone::Pairs(pairs) => return Ok(list::show(context, &pairs)),
+        Alone::Dictionary(of) => return Ok(dictionary::show(context, &of)),
     };
     let (full, ending) = context.written(input.sort, &input.entries, &input.names);
     Ok(Answer {
@@ -26,9 +28,10 @@ pub(super) fn show(context: &Context, file: &Path) -> Result<Answer, Trouble> {
 }
 
 pub(super) fn write(context: &Context, file: &Path) -> Result<Answer, Trouble> {
-    let input = match context.alone(file)? {
+    let input = match context.alone(file, Naming::Any)? {
         Alone::Entries(input) => input,
         Alone::Pairs(pairs) => return Ok(list::write(&pairs)),
+        Alone::Dictionary(of) => return Ok(dictionary::write(&of)),
     };
     let blocks = input.bytes.len() / crate::blocks::BLOCK;
     Ok(Answer {

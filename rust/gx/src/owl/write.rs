@@ -112,6 +112,9 @@ fn expression(entries: &[Entry], tree: &Tree, number: usize, depth: usize, out: 
             place(entries, tree, number, depth + 1, out);
             out.push(')');
         }
-        Says::Nothing | Says::Group(..) | Says::Unknown(_) => out.push_str("owl:Nothing"),
+        // Only plain descriptions are asked about, so that nothing else than kind 6 comes here.
+        Says::Nothing | Says::Group(..) | Says::Named(_) | Says::Unknown(_) => {
+            out.push_str("owl:Nothing")
+        }
     }
 }

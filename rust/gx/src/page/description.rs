@@ -4,6 +4,7 @@ use super::folds::{parts, Part};
 use crate::entry::Says;
 use crate::input::Input;
 use crate::svg::escaped;
+use crate::text;
 use crate::tree::Tree;
 use crate::words::{self, Words};
 
@@ -63,8 +64,17 @@ pub(super) fn listing(
         "<section class=\"card{tight}\" style=\"--n:{digits}ch\" aria-labelledby=\"{id}\">\n<h2 id=\"{id}\">{heading} <span class=\"file\">{}</span></h2>\n\
          <p class=\"size\">{}</p>\n{body}</section>\n",
         escaped(&input.title),
-        words::entries(count)
+        size(input)
     )
+}
+
+/// How many entries there are, and how many were sent where named ones were unfolded.
+fn size(input: &Input) -> String {
+    let count = words::entries(input.entries.len());
+    match input.is_unfolded() {
+        true => format!("{count}, unfolded from {}", input.sent),
+        false => count,
+    }
 }
 
 struct Listing<'a> {
@@ -149,9 +159,20 @@ impl Listing<'_> {
             _ => format!(" <span class=\"c\">{}</span>", words::entries(below)),
         };
         format!(
-            "<span class=\"e{class}\"><span class=\"n\">{entry}</span><span class=\"w\">{words}{}{count}{flag}</span></span>",
-            self.number(says)
+            "<span class=\"e{class}\"><span class=\"n\">{entry}</span><span class=\"w\">{words}{}{count}{}{flag}</span></span>",
+            self.number(says),
+            self.named(entry)
         )
+    }
+
+    /// The description that an entry was put in from.
+    fn named(&self, entry: usize) -> String {
+        let origin = self.input.origin(entry);
+        let named = origin.and_then(|origin| origin.within.last());
+        named.map_or(String::new(), |&(named, _)| {
+            let of = text::description(named, self.words.names());
+            format!(" <span class=\"c\">of {}</span>", escaped(&of))
+        })
     }
 
     /// The number of a link or property that is told by its word.

@@ -12,6 +12,7 @@ use crate::pairs::List;
 use crate::svg::{self, escaped};
 use crate::text;
 use crate::trouble::Trouble;
+use crate::whereabouts;
 use crate::words::{self, Words};
 use description::{listing, Marks};
 
@@ -131,10 +132,8 @@ fn not_contained(
 
 /// What is asked, what is said, and what the specimen shows.
 fn why(failure: &Failure, supplier: &Input, service: &Input, words: Words<'_>) -> String {
-    let line = |input: &Input, entry: usize| {
-        let line = input.line_of(entry);
-        line.map_or(String::new(), |line| format!(" (line {line})"))
-    };
+    let line =
+        |input: &Input, entry: usize| escaped(&whereabouts::told(input, entry, words.names()));
     let by: Vec<String> = failure
         .supplier
         .iter()

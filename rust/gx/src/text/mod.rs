@@ -1,4 +1,4 @@
-//! Descriptions and specimens as text.
+//! Descriptions, specimens, lists of pairs and dictionaries as text.
 //!
 //! ```text
 //! every link 1 "sample" [
@@ -18,6 +18,20 @@
 //! pairs
 //! property 7 "clay" excludes property 8 "sand"
 //! ```
+//!
+//! A dictionary has its descriptions in brackets, after the heading `dictionary`. They are numbered as they are written, each has
+//! entries that count from 1, and `named 1` stands for the first:
+//!
+//! ```text
+//! dictionary
+//! description 1 "sealed core" [
+//!     has property 7 "sealed"
+//! ]
+//! description 2 [
+//!     named 1 "sealed core"
+//!     at least 2 link 3 "layer"
+//! ]
+//! ```
 
 mod lexer;
 mod mistake;
@@ -26,5 +40,7 @@ mod write;
 
 pub use lexer::{Lexer, Sign, Token};
 pub use mistake::{Mistake, Position};
-pub use parse::{is_headed_pairs, parse, parse_pairs, Parsed, ParsedPairs};
-pub use write::{desk, desk_pairs, entry, pair, pairs, quoted, text, Numbers};
+pub use parse::{is_headed, parse, parse_dictionary, parse_pairs};
+pub use parse::{Parsed, ParsedDictionary, ParsedPairs, DICTIONARY, PAIRS};
+pub use write::{description, desk, desk_dictionary, desk_pairs, dictionary};
+pub use write::{entry, pair, pairs, quoted, text, Numbers};

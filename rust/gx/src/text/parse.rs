@@ -1,5 +1,6 @@
 //! A text as entries.
 
+mod dictionary;
 mod pairs;
 
 use std::collections::BTreeMap;
@@ -7,11 +8,12 @@ use std::collections::BTreeMap;
 use super::lexer::{Lexer, Sign, Token};
 use super::mistake::{Mistake, Position};
 use super::write::quoted;
-use crate::entry::{Entry, Link, Property, Sort};
+use crate::entry::{Entry, Link, Named, Property, Sort};
 use crate::names::{Clash, Names};
 
-pub use pairs::{is_headed_pairs, parse_pairs, ParsedPairs};
-pub(super) use pairs::{EXCLUDES, HEADING};
+pub use dictionary::{parse_dictionary, ParsedDictionary, DICTIONARY};
+pub(super) use pairs::EXCLUDES;
+pub use pairs::{parse_pairs, ParsedPairs, PAIRS};
 
 /// What a text says.
 #[derive(Clone, Debug, Default)]
@@ -27,9 +29,22 @@ pub struct Parsed {
 }
 
 const AN_ENTRY: &str =
-    "an entry (has, lacks, at least, at most, every, nothing fits, group, or kind,name,number)";
+    "an entry (has, lacks, at least, at most, every, nothing fits, named, group, or kind,name,number)";
+const A_KIND: &str = "a kind from 1 to 7, or 9";
 const THE_END: &str = "a new line, ';' or ']' after the entry";
 const MOST_ENTRIES: usize = 65_535;
+
+/// Whether a text begins with this heading, as lists of pairs and dictionaries do.
+pub fn is_headed(text: &str, heading: &str) -> bool {
+    let mut lexer = Lexer::new(text);
+    loop {
+        return match lexer.next_token().map(|token| token.sign) {
+            Ok(Sign::Line | Sign::Semicolon) => continue,
+            Ok(Sign::Word(word)) => word.trim_end_matches(':') == heading,
+            _ => false,
+        };
+    }
+}
 
 /// Reads a text. The names give words their numbers, and hold against the words of the text.
 ///
@@ -118,6 +133,17 @@ impl<'a> Parser<'a> {
         Ok(())
     }
 
+    /// Takes this heading, if it is there.
+    fn headed(&mut self, heading: &str) -> Result<bool, Mistake> {
+        self.skip_lines()?;
+        let headed =
+            matches!(&self.next.sign, Sign::Word(word) if word.trim_end_matches(':') == heading);
+        if headed {
+            self.take()?;
+        }
+        Ok(headed)
+    }
+
     /// The word `description` or `specimen` before all entries, if it is there.
     fn heading(&mut self) -> Result<Option<(Sort, Position)>, Mistake> {
         self.skip_lines()?;
@@ -139,22 +165,29 @@ impl<'a> Parser<'a> {
     fn entries(&mut self, headed: bool) -> Result<(), Mistake> {
         loop {
             self.skip_lines()?;
-            match (&self.next.sign, self.open.last()) {
-                (Sign::End, Some((_, at))) => {
-                    let expected = format!("']' for the '[' of line {}", at.line);
-                    return self.expected(expected);
-                }
-                (Sign::End, None) if self.rows.is_empty() && !headed => {
+            match (&self.next.sign, self.open.is_empty()) {
+                (Sign::End, true) if self.rows.is_empty() && !headed => {
                     return self.expected("an entry, or 'description' for one without entries")
                 }
-                (Sign::End, None) => return Ok(()),
-                (Sign::Close, Some(_)) => {
-                    self.take()?;
-                    self.open.pop();
-                    self.entry_ends()?;
-                }
-                _ => self.entry()?,
+                (Sign::End, true) => return Ok(()),
+                _ => self.entry_or_close()?,
             }
+        }
+    }
+
+    /// An entry, or the bracket that closes the place that was opened last.
+    fn entry_or_close(&mut self) -> Result<(), Mistake> {
+        match (&self.next.sign, self.open.last()) {
+            (Sign::End, Some((_, at))) => {
+                let expected = format!("']' for the '[' of line {}", at.line);
+                self.expected(expected)
+            }
+            (Sign::Close, Some(_)) => {
+                self.take()?;
+                self.open.pop();
+                self.entry_ends()
+            }
+            _ => self.entry(),
         }
     }
 
@@ -246,12 +279,12 @@ impl<'a> Parser<'a> {
     /// `kind,name,number`, zeros at the end left off.
     fn desk(&mut self) -> Result<Entry, Mistake> {
         let at = self.next.at;
-        let kind = self.number("a kind from 1 to 7")?;
+        let kind = self.number(A_KIND)?;
         let Ok(kind) = u8::try_from(kind) else {
             let found = format!("'{kind}'");
-            return Err(Mistake::new(at, "a kind from 1 to 7", found));
+            return Err(Mistake::new(at, A_KIND, found));
         };
-        let name = self.after_comma("a property or link from 0 to 65,535")?;
+        let name = self.after_comma("a property or link from 0 to 65,535, or a description")?;
         let number = match name {
             Some(_) => self.after_comma("a number from 0 to 65,535")?,
             None => None,
@@ -286,6 +319,10 @@ impl<'a> Parser<'a> {
                 self.take()?;
                 self.word("fits")?;
                 (6, 0, 0)
+            }
+            "named" => {
+                self.take()?;
+                (9, self.named_description()?, 0)
             }
             "group" => return self.group(),
             _ => return self.expected(AN_ENTRY),
@@ -356,6 +393,30 @@ impl<'a> Parser<'a> {
                     .ok_or_else(|| unknown(at, "link", &word))
             }
         }
+    }
+
+    /// A description of a dictionary by its number or its word.
+    fn named_description(&mut self) -> Result<u16, Mistake> {
+        if let Sign::Number(_) = self.next.sign {
+            let number = self.number("a description from 0 to 65,535, or its word")?;
+            self.description_word(number)?;
+            return Ok(number);
+        }
+        let (word, at) = self.name_in_words("a description's number, or its word")?;
+        let found = self.names.description_called(&word);
+        let found = found.or_else(|| self.learnt.description_called(&word));
+        let found = found.map(|named| named.0);
+        found.ok_or_else(|| unknown(at, "description", &word))
+    }
+
+    /// The word in quotes that may come after a description's number.
+    fn description_word(&mut self, number: u16) -> Result<(), Mistake> {
+        if let Some((word, at)) = self.word_after_number()? {
+            let named = Named(number);
+            let learnt = self.learnt.name_description(named, &word, self.names);
+            learnt.map_err(|clash| clashing(at, "description", number, &word, clash))?;
+        }
+        Ok(())
     }
 
     /// The property after `has` or `lacks`.
@@ -445,7 +506,11 @@ impl<'a> Parser<'a> {
 }
 
 fn unknown(at: Position, sort: &str, word: &str) -> Mistake {
-    let expected = format!("a word that the names file, or the text before, gives to a {sort}");
+    let known = match sort {
+        "description" => "the names file, the dictionary or the text before",
+        _ => "the names file, or the text before,",
+    };
+    let expected = format!("a word that {known} gives to a {sort}");
     Mistake::new(at, expected, quoted(word))
 }
 

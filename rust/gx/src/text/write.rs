@@ -1,7 +1,8 @@
-//! Entries as text, and pairs.
+//! Entries as text, pairs, and dictionaries.
 
-use super::parse::{EXCLUDES, HEADING};
-use crate::entry::{Entry, Link, Property, Says, Sort};
+use super::parse::{DICTIONARY, EXCLUDES, PAIRS};
+use crate::dictionary::Part;
+use crate::entry::{Entry, Link, Named, Property, Says, Sort};
 use crate::names::Names;
 use crate::pairs::Pair;
 use crate::tree::Tree;
@@ -46,7 +47,7 @@ pub fn desk(sort: Sort, entries: &[Entry]) -> String {
 /// A list of pairs as text, a pair on each line after the heading.
 pub fn pairs(pairs: &[Pair], names: &Names) -> String {
     let lines = pairs.iter().map(|&one| pair(one, names) + "\n");
-    format!("{HEADING}\n{}", lines.collect::<String>())
+    format!("{PAIRS}\n{}", lines.collect::<String>())
 }
 
 /// A list of pairs in desk notation, on one line.
@@ -55,15 +56,51 @@ pub fn desk_pairs(pairs: &[Pair]) -> String {
         .iter()
         .map(|Pair(one, other)| format!("{},{}", one.0, other.0))
         .collect();
-    format!("{HEADING}: {}", written.join("; "))
-        .trim_end()
-        .into()
+    format!("{PAIRS}: {}", written.join("; ")).trim_end().into()
 }
 
 /// One pair as a line of text.
 pub fn pair(Pair(one, other): Pair, names: &Names) -> String {
     let [one, other] = [one, other].map(|property| property_name(property, names));
     format!("{one} {EXCLUDES} {other}")
+}
+
+/// A dictionary as text, its descriptions in brackets after the heading.
+pub fn dictionary(parts: &[Part], names: &Names, numbers: Numbers) -> String {
+    let mut out = format!("{DICTIONARY}\n");
+    for (number, part) in (1..).zip(parts) {
+        let tree = Tree::new(&part.entries);
+        let mut writer = Writer::new(&part.entries, &tree, names, numbers);
+        writer.place(0, 1);
+        out.push_str(&description(Named(number), names));
+        match part.entries.is_empty() {
+            true => out.push_str(" []\n"),
+            false => out.push_str(&format!(" [\n{}]\n", writer.out)),
+        }
+    }
+    out
+}
+
+/// A dictionary in desk notation, on one line.
+pub fn desk_dictionary(parts: &[Part]) -> String {
+    let written: Vec<String> = parts
+        .iter()
+        .map(|part| {
+            let tree = Tree::new(&part.entries);
+            let names = Names::default();
+            let mut writer = Writer::new(&part.entries, &tree, &names, Numbers::WhereNeeded);
+            writer.desk_place(0);
+            format!("[{}]", writer.out)
+        })
+        .collect();
+    format!("{DICTIONARY}: {}", written.join("; "))
+        .trim_end()
+        .into()
+}
+
+/// A description of a dictionary by its number and its word.
+pub fn description(named: Named, names: &Names) -> String {
+    with_word("description", named.0, names.description(named))
 }
 
 struct Writer<'a> {
@@ -156,6 +193,7 @@ pub fn entry(says: Says, names: &Names) -> String {
         Says::Every(link) => format!("every {}", link_name(link, names)),
         Says::Nothing => "nothing fits".into(),
         Says::Group(link, count) => format!("group of {count} {}", link_name(link, names)),
+        Says::Named(named) => with_word("named", named.0, names.description(named)),
         Says::Unknown(kind) => format!("kind {kind}, which there is not"),
     }
 }

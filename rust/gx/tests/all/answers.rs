@@ -4,6 +4,7 @@ use differential::chance::Chance;
 use differential::derived::{missed, weaker};
 use differential::draw;
 use goltximen::{Comparison, Fit, Under};
+use gx::background::Background;
 use gx::blocks::{encode, BLOCK};
 use gx::entry::Sort;
 use gx::explain::{compared, Explained, Failure};
@@ -173,9 +174,11 @@ fn input(entries: &[reference::Entry]) -> Input {
         title: "drawn".into(),
         sort: Sort::Description,
         bytes: encode(&entries),
+        sent: entries.len(),
         entries,
         names: Names::default(),
         positions: Vec::new(),
+        origins: Vec::new(),
     }
 }
 
@@ -183,7 +186,7 @@ fn input(entries: &[reference::Entry]) -> Input {
 fn is_explained(c: &Input, d: &Input) {
     let names = Names::default();
     let words = Words::new(&names);
-    let explained = compared(&List::default(), c, d).unwrap();
+    let explained = compared(&Background::default(), c, d).unwrap();
     let page = page::page(&explained, &List::default(), c, d, words, false);
     let Explained::NotContained(failure) = &explained else {
         assert!(page.contains("</span> Contained</h1>") && !page.contains("<mark>"));

@@ -344,8 +344,12 @@ fn check_tells_refusals_of_entries_in_words() {
     let deep = blocks(&format!("{}1,7{}", "5,1 [".repeat(33), "]".repeat(33)));
     for (bytes, words) in [
         (
+            sealed(|b| b[12] = 8),
+            "refused 4: entry 2: its kind is 8, and a description has kinds 1 to 6",
+        ),
+        (
             sealed(|b| b[12] = 9),
-            "refused 4: entry 2: its kind is 9, and a description has kinds 1 to 6",
+            "refused 4: entry 2: its kind is 9, which names a description, and no dictionary is given",
         ),
         (
             sealed(|b| b[13] = 1),
@@ -501,7 +505,7 @@ fn mistakes_and_missing_files_are_told() {
         .put("bad", "hass property 7")
         .put("good", "1,7");
     let ran = folder.gx(&["compare", "good", "bad"]);
-    let due = "bad: mistake: line 1, column 1: expected an entry (has, lacks, at least, at most, every, nothing fits, group, or kind,name,number), found 'hass'\n  hass property 7\n  ^\n";
+    let due = "bad: mistake: line 1, column 1: expected an entry (has, lacks, at least, at most, every, nothing fits, named, group, or kind,name,number), found 'hass'\n  hass property 7\n  ^\n";
     assert_eq!((ran.status, ran.text().as_str()), (2, due));
     let ran = folder.gx(&["compare", "good", "empty", "--json"]);
     assert!(
@@ -515,7 +519,9 @@ fn mistakes_and_missing_files_are_told() {
     assert!(ran.err.starts_with("gx: none: cannot be read: "));
     let ran = folder.gx(&["show", "good", "--names", "bad"]);
     assert_eq!(ran.status, 2);
-    assert!(ran.err.contains("expected 'property' or 'link'"));
+    assert!(ran
+        .err
+        .contains("expected 'property', 'link' or 'description'"));
 }
 
 #[test]

@@ -32,10 +32,16 @@ fn both(name: &str, c: &str, d: &str) {
 
 /// The same under a list, which has no pairs where it is only its heading.
 fn both_under(name: &str, pairs: &str, c: &str, d: &str) {
+    both_with(name, pairs, "dictionary", c, d);
+}
+
+/// The same with a dictionary, which has no descriptions where it is only its heading.
+fn both_with(name: &str, pairs: &str, dictionary: &str, c: &str, d: &str) {
     let folder = Folder::new(&format!("golden-{name}"));
     folder
         .put("names", NAMES)
         .put("laboratory.pairs", pairs)
+        .put("laboratory.dictionary", dictionary)
         .put("supplier.txt", c)
         .put("service.txt", d);
     let args = [
@@ -46,6 +52,8 @@ fn both_under(name: &str, pairs: &str, c: &str, d: &str) {
         "names",
         "--pairs",
         "laboratory.pairs",
+        "--dictionary",
+        "laboratory.dictionary",
         "--html",
         "page",
         "--svg",
@@ -115,6 +123,19 @@ fn more_than_a_link_leads_to() {
         "one-item",
         "at least 2 sample; every sample [at least 1 field; at most 3 field]",
         "every sample [at most 1 field; at least 2 field]",
+    );
+}
+
+#[test]
+fn named_descriptions() {
+    let dictionary = "description 1 \"cold <core>\" [has property 8; at most 2 sample]\n\
+                      description 2 [named 1; at least 1 core; every core [named 1]]\n";
+    both_with(
+        "named",
+        "pairs",
+        dictionary,
+        "has sealed; lacks property 9; at least 2 sample; every sample [named 1; every core [named 1]]",
+        "lacks property 9\nevery sample [\n    named 2\n]",
     );
 }
 

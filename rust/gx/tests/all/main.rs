@@ -3,6 +3,7 @@
 
 mod answers;
 mod commands;
+mod dictionaries;
 mod folders;
 mod golden;
 mod mistakes;

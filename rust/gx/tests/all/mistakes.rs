@@ -2,10 +2,11 @@
 
 use differential::chance::Chance;
 use differential::draw;
+use gx::dictionary::Part;
 use gx::entry::Sort;
 use gx::names::Names;
 use gx::owl::{question, read};
-use gx::text::{desk, parse, text, Mistake, Numbers};
+use gx::text::{desk, dictionary, parse, parse_dictionary, text, Mistake, Numbers};
 
 use crate::support::ours;
 
@@ -149,7 +150,13 @@ fn of_a_text() {
 #[test]
 fn of_a_names_file() {
     for (text, line, column, expected, found) in [
-        ("properti 7 x", 1, 1, "'property' or 'link'", "'properti'"),
+        (
+            "properti 7 x",
+            1,
+            1,
+            "'property', 'link' or 'description'",
+            "'properti'",
+        ),
         ("link one \"x\"", 1, 6, "a number from 1 to 65,535", "'one'"),
         ("link 0 \"x\"", 1, 6, "a number from 1 to 65,535", "'0'"),
         ("link 1", 1, 7, "a word", "the end of the text"),
@@ -218,15 +225,21 @@ fn spoilt_texts_are_mistakes_or_texts() {
             ..draw::shape(&mut chance)
         };
         let entries = ours(&draw::description(&mut chance, &shape));
-        let written = match chance.below(3) {
+        let part = || Part {
+            entries: entries.clone(),
+            ..Part::default()
+        };
+        let written = match chance.below(4) {
             0 => text(Sort::Description, &entries, &names, Numbers::All),
             1 => desk(Sort::Description, &entries),
+            2 => dictionary(&[part(), part()], &names, Numbers::WhereNeeded),
             _ => question(&[], &entries, &entries, &names),
         };
         let bytes = spoilt(&mut chance, written.as_bytes());
         let spoilt = String::from_utf8_lossy(&bytes);
         for mistake in [
             parse(&spoilt, &names).err(),
+            parse_dictionary(&spoilt, &names).err(),
             read(&spoilt, Some("Service"), &names).err(),
             Names::read(&spoilt).err(),
         ] {

@@ -44,7 +44,7 @@ fn refusal(number: u8, input: u16, place: u32) -> Refusal {
 
 /// The refusal by every call that takes a list, whatever its inputs and its
 /// output are, with the output unchanged.
-fn refused_before_the_inputs(pairs: &[u8], dict: &[u8], due: Refusal) {
+pub fn refused_before_the_inputs(pairs: &[u8], dict: &[u8], due: Refusal) {
     let mut out = vec![FILL; 1024];
     let wrong = vec![FILL; 700];
     for input in [&blocks("1,1"), &blocks("8"), &wrong, &vec![]] {
@@ -104,10 +104,14 @@ fn number_11_pairs() {
 /// 11 comes "before any other check", and only then a dictionary, before the
 /// inputs.
 #[test]
-fn a_dictionary_is_not_known_yet() {
-    for dict in [blocks("1,1"), vec![0], vec![FILL; 700]] {
-        refused_before_the_inputs(&[], &dict, refusal(1, 100, 0));
-        refused_before_the_inputs(&list(&ONE_PAIR), &dict, refusal(1, 100, 0));
+fn number_11_before_the_dictionary() {
+    for (dict, due) in [
+        (vec![0], refusal(1, 100, 0)),
+        (vec![FILL; 700], refusal(1, 100, 0)),
+        (blocks("8"), refusal(4, 101, 1)),
+    ] {
+        refused_before_the_inputs(&[], &dict, due);
+        refused_before_the_inputs(&list(&ONE_PAIR), &dict, due);
         refused_before_the_inputs(&[1, 0, 1, 0], &dict, refusal(11, 0, 1));
         refused_before_the_inputs(&[1], &dict, refusal(11, 0, 0));
     }

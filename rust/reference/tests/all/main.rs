@@ -7,6 +7,7 @@ mod exchange;
 mod excluding;
 mod fitting;
 mod framing;
+mod naming;
 mod normal;
 mod notation;
 mod program;

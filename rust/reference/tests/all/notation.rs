@@ -1,7 +1,7 @@
 //! The calls on what is written in the notation of the desk examples.
 
 pub use reference::notation::{blocks, entries, entry};
-use reference::{compare_with, encode, normal_with, Comparison, Entry, Refusal};
+use reference::{compare_with, encode, normal_with, unfold, Comparison, Entry, Refusal};
 
 /// The value that fills outputs before a call.
 pub const FILL: u8 = 0xA5;
@@ -26,6 +26,28 @@ fn the_notation() {
 pub fn list(pairs: &[(u16, u16)]) -> Vec<u8> {
     let words = pairs.iter().flat_map(|&(one, other)| [one, other]);
     words.flat_map(u16::to_le_bytes).collect()
+}
+
+/// The bytes of a list of descriptions laid end to end.
+pub fn laid_end_to_end(descriptions: &[Vec<Entry>]) -> Vec<u8> {
+    descriptions.iter().flat_map(|d| encode(d)).collect()
+}
+
+/// As `laid_end_to_end`, for texts.
+pub fn dictionary(texts: &[&str]) -> Vec<u8> {
+    texts.iter().flat_map(|text| blocks(text)).collect()
+}
+
+/// Calls the unfolding with the longest output that is ever needed and some
+/// more, checks the number answered and the bytes that stay, and answers the
+/// entries.
+pub fn unfolded(dict: &[u8], description: &[u8]) -> Result<Vec<Entry>, Refusal> {
+    let mut out = vec![FILL; 16 * 512 + 700];
+    let answer = unfold(dict, description, &mut out);
+    let written = answer.map(|count| written_entries(&out, count));
+    let length = written.as_ref().map_or(0, |written| encode(written).len());
+    assert!(out[length..].iter().all(|&byte| byte == FILL));
+    written
 }
 
 /// The normal form with no pairs.

@@ -41,9 +41,9 @@ fn refusals() {
         "refused 1 input 2 place 0\n"
     );
     // Input 1 comes first.
-    assert_eq!(run_program(&blocks("9")), "refused 4 input 1 place 1\n");
-    assert_eq!(printed("1,1; 9", "9"), "refused 4 input 1 place 2\n");
-    assert_eq!(printed("1,1", "1,1; 1,1; 9"), "refused 4 input 2 place 3\n");
+    assert_eq!(run_program(&blocks("8")), "refused 4 input 1 place 1\n");
+    assert_eq!(printed("1,1; 8", "8"), "refused 4 input 1 place 2\n");
+    assert_eq!(printed("1,1", "1,1; 1,1; 8"), "refused 4 input 2 place 3\n");
 }
 
 #[test]

@@ -1,4 +1,4 @@
--- `compare_parts` meets its contract: the parts that it compares, with no pairs, are those of the division.
+-- `compare_parts` meets its contract: the parts that it compares, with no pairs and no dictionary, are those of the division.
 use borrow.Author.Needs.{needs}
 use Rattle.report.proofs.DivisionLaws.{parts-compared}
 use Rattle.report.proofs.input.compare_parts.Statement.{statement}
@@ -7,7 +7,7 @@ use Rattle.report.proofs.input.compare_parts.Tie as tie
 returns : tie.Need-returns
 returns c =
     let b = c .before .before in
-    parts-compared _ _ (b .before .before .before .before .before .part-length .ensures .0) (b .compare .ensures)
+    parts-compared _ _ (b .before .before .before .before .before .part-length .ensures .0) (b .compare-sent .ensures)
 
 pub compare-parts-spec : {M : Type 1} → statement M
 compare-parts-spec =

@@ -4,7 +4,6 @@ use super::{Mistake, Parser, Position, Sign};
 use crate::entry::Property;
 use crate::names::Names;
 use crate::pairs::Pair;
-use crate::text::Lexer;
 
 /// What a text of pairs says.
 #[derive(Clone, Debug, Default)]
@@ -18,7 +17,7 @@ pub struct ParsedPairs {
 }
 
 /// The heading of a text of pairs.
-pub(in crate::text) const HEADING: &str = "pairs";
+pub const PAIRS: &str = "pairs";
 /// The word between the two properties of a pair.
 pub(in crate::text) const EXCLUDES: &str = "excludes";
 
@@ -27,18 +26,6 @@ const A_PROPERTY: &str = "a property from 0 to 65,535";
 const THE_END: &str = "a new line or ';' after the pair";
 /// So many pairs are read: more than any list has, so that the library can say that there are too many.
 const MOST: usize = 65_535;
-
-/// Whether a text has the heading of a list of pairs.
-pub fn is_headed_pairs(text: &str) -> bool {
-    let mut lexer = Lexer::new(text);
-    loop {
-        return match lexer.next_token().map(|token| token.sign) {
-            Ok(Sign::Line | Sign::Semicolon) => continue,
-            Ok(Sign::Word(word)) => word.trim_end_matches(':') == HEADING,
-            _ => false,
-        };
-    }
-}
 
 /// Reads a text of pairs. The names give words their numbers, and hold against the words of the text.
 ///
@@ -49,11 +36,7 @@ pub fn parse_pairs(text: &str, names: &Names) -> Result<ParsedPairs, Mistake> {
     let mut parser = Parser::new(text, names)?;
     parser.stop = Some(EXCLUDES);
     let mut parsed = ParsedPairs::default();
-    parser.skip_lines()?;
-    let headed = parser.next_is_word(HEADING) || parser.next_is_word("pairs:");
-    if headed {
-        parser.take()?;
-    }
+    let headed = parser.headed(PAIRS)?;
     loop {
         parser.skip_lines()?;
         let at = parser.next.at;

@@ -1,2 +1,0 @@
--- What is read before the inputs of a call: the list of pairs, then the dictionary.
-pub mod Background
