@@ -36,7 +36,7 @@ lib:
 test:
 	bash .ci/run
 
-outside: lib
+outside: lib gx
 	mkdir -p target/c
 	$(CC) $(CFLAGS) examples/compare.c target/staticlib/libcapi.a -o target/c/compare
 	test "$$(target/c/compare)" = "not contained, entry 1; specimen of 2 entries"
@@ -46,6 +46,10 @@ outside: lib
 	test "$$(target/c/excluding)" = "without the list: not contained; under it: contained"
 	$(CC) $(CFLAGS) examples/named.c target/staticlib/libcapi.a -o target/c/named
 	test "$$(target/c/named)" = "6 entries once unfolded: 5,0,1,0 1,1,7,0 2,1,8,0 5,0,2,0 1,4,7,0 2,4,8,0; contained"
+	$(CC) $(CFLAGS) examples/catalogue.c target/staticlib/libcapi.a -o target/c/catalogue
+	test "$$(cd examples && ../target/c/catalogue supplier.blocks services/*.blocks service.txt | paste -s -d,)" = \
+		"service.txt: refused 1 place 0,services/few-cores.blocks: contained,services/sealed.blocks: not contained,services/with-core.blocks: contained"
+	test "$$(bash examples/doubles.sh | paste -s -d ';')" = "clay-and-sand.txt no-samples.txt;clay-without-sand.txt clay.txt;cores-again.txt cores-named.txt cores.txt;three-cores.txt"
 	cargo test --quiet --manifest-path rust/bindings/Cargo.toml
 	cargo test --release --quiet --manifest-path rust/differential/Cargo.toml
 	cargo test --release --quiet --manifest-path rust/bench/Cargo.toml

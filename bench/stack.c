@@ -2,8 +2,8 @@
  * pattern afterwards was used. Each call gets the inputs that lead furthest down: all entries out of order, so that the sort
  * halves to the end, and chains of owners of the greatest depth, as many as a specimen holds, by a link that leads to one item
  * only. Each place of the description that these are fitted to has an entry before the 'every', so that each level takes a call.
- * The list has the most pairs, all with the property that is asked for last. The dictionary has these descriptions, and those that
- * are unfolded name them. */
+ * The list has the most pairs, all with the property that is asked for last. The services are a deep one and a wide
+ * one. The dictionary has these descriptions, and those that are unfolded name them. */
 #define _GNU_SOURCE
 #include <stdio.h>
 #include <string.h>
@@ -14,7 +14,8 @@
 enum { STACK = 1 << 18, PATTERN = 0xa5, BLOCKS = 16, ENTRIES = 63 * BLOCKS, CHAIN = 33, SINGLE = 32768, PAIRS = 64 };
 
 static uint8_t stack[STACK], wide[512 * BLOCKS], chain[512], places[1024], groups[1024 * BLOCKS], out[1024 * BLOCKS];
-static uint8_t pairs[4 * PAIRS], dictionary[512 * BLOCKS + 512 + 1024], named[3][512];
+static uint8_t pairs[4 * PAIRS], list[sizeof chain + sizeof wide];
+static uint8_t dictionary[sizeof wide + sizeof chain + sizeof places], named[3][512];
 static ucontext_t here, there;
 static uint64_t answer;
 
@@ -72,6 +73,8 @@ static void make_inputs(void) {
     close_blocks(chain, CHAIN + 3);
     close_blocks(places, 2 * CHAIN);
     close_blocks(groups, 2 * ENTRIES);
+    memcpy(list, chain, sizeof chain);
+    memcpy(list + sizeof chain, wide, sizeof wide);
     memcpy(dictionary, wide, sizeof wide);
     memcpy(dictionary + sizeof wide, chain, sizeof chain);
     memcpy(dictionary + sizeof wide + sizeof chain, places, sizeof places);
@@ -92,6 +95,9 @@ static void normal_with(void) { answer = gx_normal_with(pairs, sizeof pairs, NUL
 static void compare_with(void) {
     answer = gx_compare_with(pairs, sizeof pairs, NULL, 0, wide, sizeof wide, chain, sizeof chain, out, sizeof out);
 }
+static void catalogue(void) {
+    answer = gx_catalogue(pairs, sizeof pairs, NULL, 0, wide, sizeof wide, list, sizeof list, out, sizeof out);
+}
 static void unfold(void) { answer = gx_unfold(dictionary, sizeof dictionary, named[0], 512, out, sizeof out); }
 static void fit_named(void) {
     answer = gx_fit_with(pairs, sizeof pairs, dictionary, sizeof dictionary, groups, sizeof groups, named[2], 512);
@@ -101,6 +107,9 @@ static void normal_named(void) {
 }
 static void compare_named(void) {
     answer = gx_compare_with(pairs, sizeof pairs, dictionary, sizeof dictionary, named[0], 512, named[1], 512, out, sizeof out);
+}
+static void catalogue_named(void) {
+    answer = gx_catalogue(pairs, sizeof pairs, dictionary, sizeof dictionary, named[0], 512, named[1], 1024, out, sizeof out);
 }
 static void nothing(void) {}
 
@@ -137,9 +146,11 @@ int main(void) {
     show("gx_fit_with", fit_with);
     show("gx_normal_with", normal_with);
     show("gx_compare_with", compare_with);
+    show("gx_catalogue", catalogue);
     show("gx_unfold", unfold);
     show("gx_fit_with, named", fit_named);
     show("gx_normal_with, named", normal_named);
     show("gx_compare_with, named", compare_named);
+    show("gx_catalogue, named", catalogue_named);
     return 0;
 }

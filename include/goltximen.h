@@ -1,7 +1,7 @@
 /*
  * Goltximen: soil sample descriptions, what fits them, their normal form, and whether one holds another.
  *
- * The static library is target/staticlib/libcapi.a, for x86-64 Linux; `make lib` builds it. Its ten functions are proved to
+ * The static library is target/staticlib/libcapi.a, for x86-64 Linux; `make lib` builds it. Its eleven functions are proved to
  * answer what is said here for all bytes and lengths, to read and write no memory but that of their slices and their own
  * stack, and to return.
  *
@@ -20,14 +20,15 @@
  * Links from 32,768 up lead to one item only: a finite record keeps the rule that no item has two items by one of them. What a
  * yes, a no and a normal form promise is about such records.
  *
- * Properties that exclude each other. gx_fit_with, gx_normal_with and gx_compare_with take a list of pairs of properties, such as
- * clay and sand, that never hold of one item: 0 to 64 pairs of four bytes, in each pair two properties of two bytes, low byte
- * first. Which of the two stands first says nothing; a pair may stand there twice, and a property in several pairs. The list says
- * which records are spoken of: what these calls promise is about every finite record that keeps the list and the rule on
- * links from 32,768 up. So a place of a description with both properties of a pair is impossible, and one with the one of them
- * lacks the other. gx_fit, gx_normal and gx_compare are these calls with no pairs and no dictionary, and stay so.
+ * Properties that exclude each other. gx_fit_with, gx_normal_with, gx_compare_with and gx_catalogue take a list of pairs of
+ * properties, such as clay and sand, that never hold of one item: 0 to 64 pairs of four bytes, in each pair two properties of
+ * two bytes, low byte first. Which of the two stands first says nothing; a pair may stand there twice, and a property in
+ * several pairs. The list says which records are spoken of: what these calls promise is about every finite record that keeps
+ * the list and the rule on links from 32,768 up. So a place of a description with both properties of a pair is impossible, and
+ * one with the one of them lacks the other. gx_fit, gx_normal and gx_compare are the first three with no pairs and no
+ * dictionary, and stay so.
  *
- * Dictionaries. The same three calls and gx_unfold take a dictionary of named descriptions: 0 to 64 descriptions laid end to
+ * Dictionaries. The same four calls and gx_unfold take a dictionary of named descriptions: 0 to 64 descriptions laid end to
  * end, where the first block and each later one numbered 1 begins a description; of length 0 it has none. In the descriptions
  * that these calls take, an entry of kind 9 with name n and number 0 stands for the n-th description of the dictionary, put in at
  * that place. A description of the dictionary may name only earlier ones. gx_unfold writes the plain description that is meant.
@@ -35,6 +36,10 @@
  * by them too; one of them has at most GX_BYTES(1008) bytes. The limit of 16 blocks is about a description as it is sent. gx_fit,
  * gx_fit_counted, gx_normal and gx_compare have a dictionary of length 0, so they refuse every name with 13; the two readers take
  * no dictionary and refuse kind 9 with 4.
+ *
+ * Lists of services. gx_catalogue takes 1 to 64 descriptions laid end to end: the first block and each later one numbered 1
+ * begins a service. Only the stored number counts for this, and it is looked at before any check: a block whose number is damaged
+ * belongs to another service than it did, or begins one, and a refusal is that of the service in which it then stands.
  *
  * The answer is one number of 64 bits, answer + 256 * number + 65,536 * first + 4,294,967,296 * second:
  *
@@ -48,14 +53,15 @@
  *     yes, counted    1            0                   additions: the walk   additions: the table
  *     no, counted     2            0                   additions: the walk   additions: the table
  *
- * The refusals, of which the first that applies is answered: 11 before all others, then the dictionary's, which are 1, 8 and then
- * those of its descriptions, one after the other, then those of input 1, those of input 2, and 7 last. In one input 1, then the
- * lowest block that breaks 2 or 3, 2 before 3, then the lowest entry that breaks 4, 13, 5, 6 or 9, in that order, and 12 or 14
- * after all of these:
+ * The refusals, of which the first that applies is answered: 11 before all others, then the dictionary's, which are 1, 8 and
+ * then those of its descriptions, one after the other, then those of input 1, those of input 2, and 7 last. Those of a list of
+ * services are 1, 8 and then those of its services, one after the other. In one input 1, then the lowest block that breaks 2 or
+ * 3, 2 before 3, then the lowest entry that breaks 4, 13, 5, 6 or 9, in that order, and 12 or 14 after all of these:
  *
  *     number   when                                                                              place
  *     1        an input's length is 0, no multiple of 512, or over the limit; of a dictionary
- *              only: it is no multiple of 512                                                    0
+ *              only: it is no multiple of 512; of a list of services: it is 0 or no such
+ *              multiple                                                                          0
  *     2        a block's first check (bytes 510-511) or second (bytes 508-509) is wrong          block
  *     3        a block's number or used count is wrong, or a byte of its unused entries is
  *              not zero                                                                          block
@@ -65,7 +71,7 @@
  *              entry of kind 5 (description) or 7 (specimen)                                     entry
  *     6        an entry's depth is over 32                                                       entry
  *     7        the output is too short                                                           0
- *     8        a dictionary has more than 64 descriptions                                        0
+ *     8        a dictionary has more than 64 descriptions, or a list more than 64 services       0
  *     9        a specimen's group brings its owner a second item by a link from 32,768 up        entry
  *     11       the length of a list of pairs is no multiple of 4, or over 64 pairs               0
  *              otherwise: a pair has a 0 or two equal numbers; the lowest such pair              pair
@@ -77,20 +83,22 @@
  *              of depth over 32 once unfolded                                                    0
  *
  * Blocks, entries and pairs count from 1. The input is 1 or 2, in the order of the arguments after pairs and dict; it is 0 for
- * numbers 7 and 11, 100 for a dictionary and 100 + n for its n-th description.
+ * numbers 7 and 11, 100 for a dictionary and 100 + n for its n-th description. A list of services is input 2, and its n-th service
+ * is input 1 + n, 2 to 65; blocks and entries count from 1 in each.
  *
  * Stack. The most that each call took of the caller's stack, on the inputs that lead furthest down (`make stack` measures it):
  *
  *     gx_read_description   24,760 bytes
  *     gx_read_specimen      24,760 bytes
  *     gx_fit                70,024 bytes
- *     gx_fit_counted        69,976 bytes
+ *     gx_fit_counted        70,008 bytes
  *     gx_normal             72,312 bytes
- *     gx_compare            69,128 bytes
+ *     gx_compare            69,160 bytes
  *     gx_unfold             61,692 bytes
  *     gx_fit_with           86,536 bytes
  *     gx_normal_with        88,856 bytes
- *     gx_compare_with       94,008 bytes
+ *     gx_compare_with       94,040 bytes
+ *     gx_catalogue         103,516 bytes
  *
  * The library calls memset and memcpy; a program that binds them at their first call took up to 1,072 bytes more there. A
  * thread with 128 KiB of stack has room for each call.
@@ -192,6 +200,16 @@ uint64_t gx_normal_with(const uint8_t *pairs, size_t pairs_len, const uint8_t *d
  */
 uint64_t gx_compare_with(const uint8_t *pairs, size_t pairs_len, const uint8_t *dict, size_t dict_len, const uint8_t *c,
                          size_t c_len, const uint8_t *d, size_t d_len, uint8_t *out, size_t out_len);
+
+/*
+ * Compares the description c, input 1, with each service of a list, input 2, and fills a byte of out for each, from the start:
+ * 1 where gx_compare_with answers contained for c and the service under the same list of pairs and with the same dictionary, and
+ * 0 where it answers not contained. A count, the number of bytes filled, which is that of the services; or refused. Later bytes
+ * of out stay. Refused with 7 where out has fewer bytes than there are services, whatever the lengths of the descriptions; 64
+ * bytes are always enough. Where refused, out is unchanged.
+ */
+uint64_t gx_catalogue(const uint8_t *pairs, size_t pairs_len, const uint8_t *dict, size_t dict_len, const uint8_t *c,
+                      size_t c_len, const uint8_t *list, size_t list_len, uint8_t *out, size_t out_len);
 
 #ifdef __cplusplus
 }

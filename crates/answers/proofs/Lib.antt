@@ -20,3 +20,5 @@ pub mod Ways
 pub mod PromiseKept
 -- "One meaning, one set of bytes".
 pub mod OneSetOfBytes
+-- What the bytes of a catalogue say, and that each is the answer of the single comparison.
+pub mod CatalogueKept

@@ -4,7 +4,7 @@
 use Prim.Native.Nat.{ℕ}
 use lib.ListN.{length}
 use mathlib.Core.List.{List, [], _∷_}
-use mathlib.Core.Path.{_∙_, _≡_, ap, sym}
+use mathlib.Core.Path.{_∙_, _≡_, ap, refl, sym}
 use native.Mathlib.Omega.{arith}
 use Rattle.answers.proofs.Accepted.{admitted, entries-count}
 use Rattle.answers.proofs.Sent.{blocks-taken, own-read, sent-entries, sent-length, sent-read}
@@ -25,8 +25,8 @@ use Rattle.blocks.specs.declared.Schema.the-variants.{Description, Named}
 use Rattle.clashes.proofs.Refusals.{refused-accepted}
 use Rattle.compare.specs.Answer.{compareOf, outputOf}
 use Rattle.fit.specs.Answer.{fitOf}
-use Rattle.named.proofs.SentLaws.{sent-itself}
-use Rattle.named.proofs.UnfoldedLaws.{both-accepted, sent-plain}
+use Rattle.names.proofs.Legality.AcceptedReadings.{both-taken}
+use Rattle.unfolding.proofs.BufferLaws.{sent-itself, sent-plain}
 use Rattle.named.specs.Answer.{compareNamed, fitNamed, normaliseNamed, normalisedNamed, outputNamed}
 use Rattle.names.proofs.Entries.UnfoldPlain.{unfold-plain}
 use Rattle.names.proofs.Legality.NamedReadings.{form-named, named-refused, named-taken, of-small}
@@ -105,7 +105,7 @@ module _ (P D : List ℕ) where
 pub own-bytes : (D s : List ℕ) → Admitted D s → Plain (entriesOf s) → Bytes s → plainOf D s ≡ s
 unfolding plainOf unfoldedBy
 own-bytes D s A none small =
-    both-accepted D 1 s (A .read 1) (λ m k q w.
+    both-taken D 1 s (A .read 1) (λ m k q w.
     reading-cases (readingOf (Named (length (dictionaryOf D))) 1 s)
     (λ k′ i p r. refused-accepted (named-refused (dictionaryOf D) 1 s r) w)
     (λ n r. ap encode (unfold-plain (contents (dictionaryOf D)) (entriesOf s) none) ∙ accepted-encodes (Named (length (dictionaryOf D))) 1 s small r))
@@ -113,5 +113,5 @@ own-bytes D s A none small =
 -- so that the calls go on with the bytes of the plain description, whichever dictionary there is
 pub sent-bytes : (D s : List ℕ) → Admitted D s → Bytes s → sentOf D s ≡ plainOf D s
 sent-bytes [] s A small =
-    sent-itself s ∙ sym (own-bytes [] s A (legal-plain (entriesOf s) (sound-of-accepted Description 1 s (own-read s A 1) .entries)) small)
+    sent-itself [] s refl ∙ sym (own-bytes [] s A (legal-plain (entriesOf s) (sound-of-accepted Description 1 s (own-read s A 1) .entries)) small)
 sent-bytes (x ∷ D) s A small = sent-plain (x ∷ D) s (omega arith)

@@ -34,7 +34,7 @@ use Rattle.fit.specs.Answer.{fitOf, topFits}
 use Rattle.fit.specs.declared.FitAnswer.the-variants as fit
 use Rattle.meaning.specs.Failing.{failing}
 use Rattle.meaning.specs.NormalEntries.{normalEntries}
-use Rattle.named.proofs.UnfoldedLaws.{both-accepted}
+use Rattle.names.proofs.Legality.AcceptedReadings.{both-taken}
 use Rattle.named.specs.Answer.{compareNamed, fitNamed, normaliseNamed, normalisedNamed, outputNamed}
 use Rattle.names.specs.NamedReading.{dictionaryOf, namedFaults, namedReading, namedUnfolding, plainOf, unfoldingOf}
 use Rattle.names.specs.Unfold.{unfoldedBy}
@@ -78,7 +78,7 @@ module _ (D s : List ℕ) where
 
   by-reading : Admitted D s → AcceptedBy D s
   by-reading A =
-      both-accepted D 1 s (A .read 1)
+      both-taken D 1 s (A .read 1)
       (λ m k q w. record { dictionary = accepted-dictionary D q; description = accepted-none (dictionaryOf D) 1 s w })
 
   pub admitted-exactly : Admitted D s ↔ AcceptedBy D s

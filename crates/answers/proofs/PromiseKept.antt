@@ -30,7 +30,7 @@ use Rattle.fit.proofs.PromiseKept.{fit-exactly}
 use Rattle.fit.specs.Promise.{Judgeable}
 use Rattle.fit.specs.declared.FitAnswer.the-variants.{No, Yes}
 use Rattle.meaning.specs.Specimen.{recordOf}
-use Rattle.named.proofs.UnfoldedLaws.{both-accepted}
+use Rattle.names.proofs.Legality.AcceptedReadings.{both-taken}
 use Rattle.named.specs.Answer.{compareNamed, fitNamed, normaliseNamed, normalisedNamed, outputNamed}
 use Rattle.names.proofs.Legality.UnfoldLegal.{legal-plain}
 use Rattle.names.specs.NamedReading.{plainOf}
@@ -209,7 +209,7 @@ module _ (P D d out : List ℕ) (A : Admitted D d) {k : ℕ} where
         ascending = rw o (n .ascending);
         irreducible = rw o (n .irreducible);
         same = rw o (λ R kept x i. n .same R kept x i ∙ plain-means D d A R x);
-        again = rw o (λ out′ h. both-accepted D 1 d (A .read 1) (λ m l q w.
+        again = rw o (λ out′ h. both-taken D 1 d (A .read 1) (λ m l q w.
             let g = normal-nameless P D blocks out′ q 1 (n .accepted) in
             (g .0 ∙ n .again out′ h .0, ap (firstBlocks k) (g .1) ∙ n .again out′ h .1)));
       }

@@ -5,7 +5,7 @@ use Prim.Native.Nat.{_*_, _-_, suc, ℕ}
 use lib.ListN.{length}
 use mathlib.Core.Bool.{true}
 use mathlib.Core.List.{List, [], _∷_}
-use mathlib.Core.Path.{_∙_, _≡_, ap, sym}
+use mathlib.Core.Path.{_∙_, _≡_, ap, refl, sym}
 use native.Mathlib.Omega.{arith}
 use Rattle.answers.proofs.Accepted.{entries-count, plain-entries, plain-length, plain-read}
 use Rattle.answers.specs.Promise.{Admitted}
@@ -25,8 +25,8 @@ use Rattle.blocks.specs.declared.Reading.the-variants.{Accepted}
 use Rattle.blocks.specs.declared.Schema.the-variants.{Description}
 use Rattle.blocks.specs.declared.Schema.{Schema}
 use Rattle.clashes.proofs.Refusals.{refused-accepted}
-use Rattle.named.proofs.SentLaws.{sent-itself, sent-refused}
-use Rattle.named.proofs.UnfoldedLaws.{sent-plain}
+use Rattle.named.proofs.SentLaws.{sent-refused}
+use Rattle.unfolding.proofs.BufferLaws.{sent-itself, sent-plain}
 use Rattle.names.proofs.Legality.NoNames.{legal-unfolds}
 use Rattle.names.specs.NamedReading.{dictionaryOf, plainOf, sentOf}
 use Rattle.names.specs.Unfold.{unfoldedBy}
@@ -71,16 +71,16 @@ module _ (s : List ℕ) (A : Admitted [] s) where
 -- ---- any dictionary
 
 pub sent-entries : (D s : List ℕ) → Admitted D s → entriesOf (sentOf D s) ≡ unfoldedBy (dictionaryOf D) (entriesOf s)
-sent-entries [] s A = ap entriesOf (sent-itself s) ∙ sym (own-entries s A)
+sent-entries [] s A = ap entriesOf (sent-itself [] s refl) ∙ sym (own-entries s A)
 sent-entries (x ∷ D) s A = ap entriesOf (sent-plain (x ∷ D) s (omega arith)) ∙ plain-entries (x ∷ D) s A
 
 pub sent-read : (D s : List ℕ) (A : Admitted D s) (i : ℕ) → readingOf Description i (sentOf D s) ≡ Accepted (A .entries)
-sent-read [] s A i = ap (readingOf Description i) (sent-itself s) ∙ own-read s A i
+sent-read [] s A i = ap (readingOf Description i) (sent-itself [] s refl) ∙ own-read s A i
 sent-read (x ∷ D) s A i = ap (readingOf Description i) (sent-plain (x ∷ D) s (omega arith)) ∙ plain-read (x ∷ D) s A i
 
 -- "by which the output .. [is] measured too": the blocks of the entries once unfolded
 pub sent-length : (D s : List ℕ) (A : Admitted D s) → length (sentOf D s) ≡ 512 * blocksFor plain (A .entries)
-sent-length [] s A = ap length (sent-itself s) ∙ own-length s A
+sent-length [] s A = ap length (sent-itself [] s refl) ∙ own-length s A
 sent-length (x ∷ D) s A = ap length (sent-plain (x ∷ D) s (omega arith)) ∙ plain-length (x ∷ D) s A
 
 module _ (D s : List ℕ) (A : Admitted D s) where

@@ -22,8 +22,9 @@ use Rattle.compare.specs.declared.Comparison.the-variants as compared
 use Rattle.compare.specs.declared.Comparison.{Comparison}
 use Rattle.fit.specs.Answer.{fitOf, topFits}
 use Rattle.logic.specs.Background.{Background}
-use Rattle.named.proofs.SentLaws.{sent-accepted, sent-itself}
-use Rattle.named.proofs.UnfoldedLaws.{both-accepted}
+use Rattle.named.proofs.SentLaws.{sent-accepted}
+use Rattle.unfolding.proofs.BufferLaws.{sent-itself}
+use Rattle.names.proofs.Legality.AcceptedReadings.{both-taken}
 use Rattle.named.specs.Answer.{compareNamed, fitNamed, normaliseNamed, normalisedNamed, outputNamed}
 use Rattle.names.specs.NamedReading.{dictionaryOf, namedUnfolding, plainOf, sentOf, unfoldingOf}
 use Rattle.normal.specs.Answer as normal
@@ -116,7 +117,7 @@ pub normal-unfolded : (P D d out : List ℕ) → Admitted D d
 normal-unfolded P D d out A =
     let named = normal-plain P D d out A in
     let plain = normal-goes-on P [] (plainOf D d) out (plain-admitted D d A) in
-    let itself = sent-itself (plainOf D d) in
+    let itself = sent-itself [] (plainOf D d) refl in
     (named .0 ∙ sym (plain .0 ∙ rw itself), named .1 ∙ sym (plain .1 ∙ rw itself))
 
 -- ---- the comparison
@@ -140,8 +141,8 @@ pub comparison-unfolded : (P D c d out : List ℕ) → Admitted D c → Admitted
 comparison-unfolded P D c d out C A =
     let named = comparison-plain P D c d out C A in
     let plain = comparison-goes-on P [] (plainOf D c) (plainOf D d) out (plain-admitted D c C) (plain-admitted D d A) in
-    let first = sent-itself (plainOf D c) in
-    let second = sent-itself (plainOf D d) in
+    let first = sent-itself [] (plainOf D c) refl in
+    let second = sent-itself [] (plainOf D d) refl in
     (named .0 ∙ sym (plain .0 ∙ rw (first, second)), named .1 ∙ sym (plain .1 ∙ rw (first, second)))
 
 -- ---- the fit answer
@@ -151,7 +152,7 @@ module _ (P D s d : List ℕ) (A : Admitted D d) where
   unfolding fitNamed fitOf specimenReading unfoldingOf
   fit-goes-on =
       let a = A .read 2 in
-      both-accepted D 2 d a (λ m k q w.
+      both-taken D 2 d a (λ m k q w.
       let b : namedUnfolding (dictionaryOf D) 2 d ≡ Accepted (A .entries) = rw q at a in
       reading-cases (pairsReading P)
       (λ k i p e. rw e)
@@ -162,5 +163,5 @@ module _ (P D s d : List ℕ) (A : Admitted D d) where
 
 pub fit-unfolded : (P D s d : List ℕ) → Admitted D d → fitNamed P D s d ≡ fitNamed P [] s (plainOf D d)
 fit-unfolded P D s d A =
-    let itself = sent-itself (plainOf D d) in
+    let itself = sent-itself [] (plainOf D d) refl in
     fit-plain P D s d A ∙ sym (fit-goes-on P [] s (plainOf D d) (plain-admitted D d A) ∙ rw itself)

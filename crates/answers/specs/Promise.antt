@@ -148,3 +148,10 @@ pub record JudgeableNamed (P D s d : List ℕ) : Type 0 where
 pub record FitsNamedExactly (P D s d : List ℕ) : Type 0 where
   pub yes : (fitNamed P D s d ≡ Yes) ↔ (fitsIn (recordOf (entriesOf s)) D d 0 ≡ true)
   pub no : (fitNamed P D s d ≡ No) ↔ (fitsIn (recordOf (entriesOf s)) D d 0 ≡ false)
+
+-- ---- a catalogue
+
+-- "Each byte equals the single comparison": 1 exactly if it answers 'contained', and 0 exactly if 'not contained'
+pub record AsCompared (P D c d o : List ℕ) (byte : ℕ) : Type 0 where
+  pub contained : (byte ≡ 1) ↔ (compareNamed P D c d o ≡ Contained)
+  pub not-contained : (byte ≡ 0) ↔ AnswersNotNamed P D c d o

@@ -1,4 +1,4 @@
-// The library's calls for C and Rust: ten functions under their plain names, each slice a pointer and a length. Each answers what the
+// The library's calls for C and Rust: eleven functions under their plain names, each slice a pointer and a length. Each answers what the
 // call that it wraps answers, as one number of 64 bits; include/goltximen.h states the terms for a C program.
 //
 // The contracts cite Packing of `packing`, which has the table of these numbers, and the specs of the calls.
@@ -6,9 +6,11 @@ ghost use mathlib.Core.Path.{_≡_};
 ghost use mathlib.Core.List.{[]};
 ghost use Rattle.blocks.specs.Reading.{readingOf};
 ghost use Rattle.blocks.specs.declared.Schema.{Schema};
+ghost use Rattle.catalogue.specs.Answer.{catalogueOf, filledOf};
 ghost use Rattle.named.specs.Answer.{compareNamed, countedNamed, fitNamed, normaliseNamed, normalisedNamed, outputNamed};
-ghost use Rattle.packing.specs.Packing.{packComparison, packCounted, packFit, packNormal, packReading};
+ghost use Rattle.packing.specs.Packing.{packCatalogued, packComparison, packCounted, packFit, packNormal, packReading};
 ghost use Rattle.unfolding.specs.Answer.{unfoldAt, unfoldedAt};
+use packing::pack_catalogued;
 use packing::pack_comparison;
 use packing::pack_counted;
 use packing::pack_fit;
@@ -108,4 +110,20 @@ pub extern "C" fn gx_compare_with(
         × (now (out .exit) ≡ outputNamed (now (pairs .entry)) (now (dict .entry)) (now (c .entry)) (now (d .entry)) (now (out .entry))) ⌝ }
 {
     pack_comparison(named::compare(pairs, dict, c, d, out))
+}
+
+// Compares the supplier's description with each of a list of services laid end to end, and fills a byte for each: 1 contained, 0 not. The
+// number of bytes filled, or the refusal.
+#[no_mangle]
+pub extern "C" fn gx_catalogue(
+    pairs: &[u8],
+    dict: &[u8],
+    c: &[u8],
+    list: &[u8],
+    out: &mut [u8],
+) -> u64
+    ensures { λ r. ⌜ (r ≡ packCatalogued (catalogueOf (now (pairs .entry)) (now (dict .entry)) (now (c .entry)) (now (list .entry)) (now (out .entry))))
+        × (now (out .exit) ≡ filledOf (now (pairs .entry)) (now (dict .entry)) (now (c .entry)) (now (list .entry)) (now (out .entry))) ⌝ }
+{
+    pack_catalogued(catalogue::catalogue(pairs, dict, c, list, out))
 }

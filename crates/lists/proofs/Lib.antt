@@ -4,3 +4,5 @@ pub mod FirstPart
 pub mod PartLaws
 -- Laws of the loops, one for each way through them.
 pub mod LoopLaws
+-- Inputs whose blocks are numbered from 1, laid end to end, are cut into just those.
+pub mod JoinedParts

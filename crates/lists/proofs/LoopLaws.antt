@@ -1,21 +1,21 @@
 -- Laws of the loops, one for each way through them.
 -- Assumes nothing.
 use Prim.Native.Nat.{_*_, _+_, _-_, _<_, _≤_, suc, ℕ}
-use lib.ListN.{drop, length, length-drop, take}
-use lib.Seq.{drop-drop}
-use mathlib.Core.List.{List}
+use lib.ListN.{drop, getD, length, length-drop, take}
+use lib.Seq.{drop-cons, drop-drop}
+use mathlib.Core.List.{List, [], _∷_}
 use mathlib.Core.Logic.{_≢_}
 use mathlib.Core.Path.{_∙_, _≡_, ap, refl, sym}
 use native.Mathlib.Nat.{sub-zero}
 use native.Mathlib.Numerals.{add-one}
 use native.Mathlib.Omega.{arith}
-use Rattle.base.proofs.Parts.{high-is}
+use Rattle.base.proofs.Parts.{high-is, highOf, low-is, lowOf}
 use Rattle.base.proofs.RangeLaws.{none-left, one-left}
-use Rattle.base.proofs.Tests.{eq-eqb, ne-eqb}
+use Rattle.base.proofs.Tests.{eq-eqb, lt-cases, ne-eqb}
 use Rattle.blocks.specs.Frame.{blocksIn}
 use Rattle.blocks.specs.Words.{wordAt}
 use Rattle.lists.proofs.FirstPart.{first-bound, first-some}
-use Rattle.lists.proofs.PartLaws.{parts-none, parts-of, start-within}
+use Rattle.lists.proofs.PartLaws.{part-at, parts-none, parts-of, start-below, start-next, start-past, start-within}
 use Rattle.lists.specs.Parts.{divisionFrom, firstLength, partsOf, secondPart, startOf}
 
 -- ---- the search for the end of the first part
@@ -108,3 +108,50 @@ module _ (s : List ℕ) where
       let z : startOf (n - i) (drop at s) ≡ 0 = rw (none-left i n l) in
       let a = h .1 in
       (omega arith, h .0)
+
+-- ---- each part looked at in turn
+
+-- n parts are passed, and the next one begins at the offset
+pub record Reached (s : List ℕ) (at n : ℕ) : Type 0 where
+  pub few : n ≤ length (partsOf s)
+  pub start : at ≡ startOf n s
+
+pub reached-start : (s : List ℕ) → Reached s 0 0
+unfolding startOf
+reached-start s = record { few = omega arith; start = refl }
+
+module _ {s : List ℕ} {at n : ℕ} (R : Reached s at n) where
+  module _ (h : at < length s) where
+    -- before the end of the bytes there is a part
+    pub reached-some : n < length (partsOf s)
+    reached-some = lt-cases n (length (partsOf s)) (λ l. l) (λ l. absurd (omega (arith, start-past s n l, R .start)))
+
+    -- the next one, and those behind it
+    pub reached-left : drop n (partsOf s) ≡ getD (partsOf s) n [] ∷ drop (suc n) (partsOf s)
+    reached-left = drop-cons (partsOf s) n [] reached-some
+
+    -- f is its length, as the code computes it
+    module _ {f : ℕ} (e : f ≡ firstLength (highOf at s)) where
+      long-part : f ≡ firstLength (drop at s)
+      long-part = e ∙ ap firstLength (high-is at s)
+
+      -- it has a byte
+      pub reached-further : 0 < f
+      reached-further = let l = first-some (drop at s) (omega (arith, length-drop at s)) in omega (arith, long-part)
+
+      -- its bytes, as the code takes them
+      pub reached-part : lowOf f (highOf at s) ≡ getD (partsOf s) n []
+      reached-part =
+          low-is f (highOf at s) ∙ ap (take f) (high-is at s) ∙ ap (λ (k : ℕ). take k (drop at s)) long-part
+          ∙ ap (λ (a : ℕ). take (firstLength (drop a s)) (drop a s)) (R .start) ∙ part-at s n
+
+      -- and the one behind it is reached
+      pub reached-more : Reached s (at + f) (n + 1)
+      reached-more =
+          let l : f ≡ firstLength (drop (startOf n s) s) = long-part ∙ ap (λ (a : ℕ). firstLength (drop a s)) (R .start) in
+          let one : n + 1 ≡ suc n = omega arith in
+          record { few = omega (arith, reached-some); start = rw one (omega (arith, start-next s n, R .start)) }
+
+  -- at the end all are passed
+  pub reached-all : length s ≤ at → n ≡ length (partsOf s)
+  reached-all h = lt-cases n (length (partsOf s)) (λ l. absurd (omega (arith, start-below s n l, R .start))) (λ l. omega (arith, R .few))

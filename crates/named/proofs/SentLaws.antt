@@ -38,13 +38,14 @@ use Rattle.named.specs.Answer.{compareNamed, countedNamed, fitNamed, nor
 use Rattle.named.specs.code.Sent.{comparisonSent, fitBy, fitSent, normalSent, sentAt}
 use Rattle.names.proofs.Legality.Nameless.{named-none}
 use Rattle.names.specs.NamedForm.{namedFormOk}
-use Rattle.names.specs.NamedReading.{dictionaryReading, namedReading, namedUnfolding, numberAt, partsReading, sentOf, unfoldingOf}
+use Rattle.names.specs.NamedReading.{dictionaryReading, namedReading, namedUnfolding, numberAt, partsReading, unfoldingOf}
 use Rattle.names.specs.Unfold.{unfoldedBy}
 use Rattle.normal.specs.Answer as normal
 use Rattle.normal.specs.declared.NormalAnswer.the-variants.{Normalised}
 use Rattle.normal.specs.declared.NormalAnswer.the-variants as answered
 use Rattle.normal.specs.declared.NormalAnswer.{NormalAnswer}
 use Rattle.pairs.specs.Pairs.{pairCount, pairFaults, pairsReading, under}
+use Rattle.unfolding.proofs.BufferLaws.{sent-itself}
 
 -- ---- the number of a refusal
 
@@ -100,10 +101,6 @@ module _ (i : ℕ) (s : List ℕ) where
   unfolding namedUnfolding
   sent-accepted e = let n = named-none i s in none-goes ∙ rw (n, e)
 
-pub sent-itself : (s : List ℕ) → sentOf [] s ≡ s
-unfolding sentOf
-sent-itself s = refl
-
 -- a list is refused as input 0
 list-input : (P : List ℕ) {k i p : ℕ} → pairsReading P ≡ Refused k i p → i ≡ 0
 unfolding pairsReading
@@ -132,7 +129,7 @@ module _ (P d out : List ℕ) where
       let one = reading-number Description 1 d f .1 in
       let u = sent-refused 1 d f in
       (rw (e, u, f, one), rw (e, u, f)))
-      (λ n f. let u = sent-accepted 1 d f in (rw (e, u, sent-itself d, f) (sym room-stays), rw (e, u, sent-itself d, f))))
+      (λ n f. let u = sent-accepted 1 d f in (rw (e, u, sent-itself [] d refl, f) (sym room-stays), rw (e, u, sent-itself [] d refl, f))))
 
 -- ---- the comparison
 
@@ -169,7 +166,7 @@ module _ (P c d out : List ℕ) where
       (rw (e, u, v, f, g, two), rw (e, u, v, f, g)))
       (λ l g.
       let v = sent-accepted 2 d g in
-      (rw (e, u, v, sent-itself c, sent-itself d, f, g) (sym verdict-stays), rw (e, u, v, sent-itself c, sent-itself d, f, g)))))
+      (rw (e, u, v, sent-itself [] c refl, sent-itself [] d refl, f, g) (sym verdict-stays), rw (e, u, v, sent-itself [] c refl, sent-itself [] d refl, f, g)))))
 
 -- with no pairs either: what is answered that is no refusal, and a refusal by another number than 4, are as for plain descriptions
 by-not : (c d : List ℕ) (r : Comparison) {j k : ℕ} → comparisonBy c d r ≡ comparison.NotContained j k → r ≡ comparison.NotContained j k
@@ -227,7 +224,7 @@ module _ (P s d : List ℕ) where
       rw (e, f, u, g, two))
       (λ l g.
       let u = sym (none-goes 2 d) ∙ sent-accepted 2 d g in
-      rw (e, f, u, sent-itself d, g) (bool-cases (topFits s d) (λ y. rw y) (λ y. rw y)))))
+      rw (e, f, u, sent-itself [] d refl, g) (bool-cases (topFits s d) (λ y. rw y) (λ y. rw y)))))
 
 -- the same with the additions
 pub counted-sent : (s d : List ℕ) {r : FitAnswer} {c : Counted} → c ≡ countedOf s d → r ≡ fitBy d (c .answer)

@@ -2,15 +2,14 @@
 -- Assumes nothing.
 use Prim.Native.Nat.{_%_, _*_, _+_, _-_, _<_, _≤_, ℕ}
 use lib.Dec.{eqb, ltb}
-use lib.ListN.{drop, length, length-append, take}
-use lib.Seq.{take-at}
+use lib.ListN.{length, take}
 use mathlib.Core.Bool.{false}
 use mathlib.Core.List.{List, [], _++_, _∷_}
 use mathlib.Core.Path.{_∙_, _≡_, ap, refl, sym}
+use native.Mathlib.Nat.{sub-zero}
 use native.Mathlib.Omega.{arith}
 use Rattle.base.proofs.Tests.{bool-cases, ge-ltb, tests}
 use Rattle.blocks.proofs.Refusing.Readings.{reading-cases, refused-finding}
-use Rattle.blocks.proofs.RoundTrip.Decoding.{length-encode}
 use Rattle.blocks.specs.Encoding.{blocksFor, encode}
 use Rattle.blocks.specs.Entries.{entriesOf}
 use Rattle.blocks.specs.Faults.{first}
@@ -27,72 +26,27 @@ use Rattle.fit.specs.declared.FitAnswer.the-variants as fit
 use Rattle.lists.specs.Parts.{partsOf}
 use Rattle.named.specs.Answer.{compareNamed, fitNamed, normaliseNamed, normalisedNamed, outputNamed}
 use Rattle.named.specs.code.Sent.{ListTaken}
-use Rattle.names.proofs.Legality.NamedReadings.{small-of, taken-not-large}
 use Rattle.names.specs.NamedReading.{dictionaryOf, dictionaryReading, namedFaults, namedReading, namedUnfolding, partsReading, plainOf, sentOf, unfoldingOf}
 use Rattle.names.specs.Unfold.{unfoldedBy}
 use Rattle.normal.specs.Answer.{normaliseOf, normalisedOf}
 use Rattle.normal.specs.declared.NormalAnswer.the-variants as answered
 use Rattle.pairs.specs.Pairs.{pairsReading}
+use Rattle.unfolding.proofs.BufferLaws.{at-buffer, buffer-ends, buffer-plain, sent-plain}
 use Rattle.unfolding.specs.Answer.{bothBy, bothOf, secondAfter, unfoldAt, unfoldedAt}
 use Rattle.unfolding.specs.declared.Unfolded.the-variants as unfolded
 use Rattle.unfolding.specs.declared.Unfolded.{Unfolded}
 
 -- ---- what stands in a buffer
 
-module _ (D : List ℕ) (i : ℕ) (s : List ℕ) {n : ℕ} (e : unfoldingOf D i s ≡ Accepted n) where
-  -- the dictionary and the description are accepted
-  pub both-accepted : {X : Type 0} → ((m k : ℕ) → dictionaryReading D ≡ Accepted m → namedReading (dictionaryOf D) i s ≡ Accepted k → X) → X
-  unfolding unfoldingOf namedUnfolding
-  both-accepted f =
-      reading-cases (dictionaryReading D)
-      (λ k j p q. let z : Refused k j p ≡ Accepted n = rw q at e in let y : _≡_ {A = ℕ} 0 1 = cc in absurd (omega arith))
-      (λ m q. reading-cases (namedReading (dictionaryOf D) i s)
-      (λ k j p w. let z : Refused k j p ≡ Accepted n = rw (q, w) at e in let y : _≡_ {A = ℕ} 0 1 = cc in absurd (omega arith))
-      (λ k w. f m k q w))
-
-  -- with so many entries
-  pub unfolded-count : n ≡ length (unfoldedBy (dictionaryOf D) (entriesOf s))
-  unfolding unfoldingOf namedUnfolding
-  unfolded-count = both-accepted (λ m k q w. let z : Accepted (length (unfoldedBy (dictionaryOf D) (entriesOf s))) ≡ Accepted n = rw (q, w) at e in let y : n ≡ length (unfoldedBy (dictionaryOf D) (entriesOf s)) = cc in y)
-
-  pub unfolded-few : n ≤ 1008
-  unfolded-few = both-accepted (λ m k q w. omega (arith, unfolded-count, small-of (unfoldedBy (dictionaryOf D) (entriesOf s)) (taken-not-large (dictionaryOf D) i s w) .size))
-
-  -- a buffer of 16 blocks is never too short
-  room : (buffer : List ℕ) → 8192 ≤ length buffer → 512 * blocksFor plain n ≤ length buffer
-  unfolding blocksFor
-  room buffer h = omega (arith, unfolded-few)
-
-  -- the plain description takes as many bytes as its blocks have
-  plain-size : length (encode (unfoldedBy (dictionaryOf D) (entriesOf s))) ≡ 512 * blocksFor plain n
-  plain-size = length-encode (unfoldedBy (dictionaryOf D) (entriesOf s)) ∙ ap (λ (k : ℕ). 512 * blocksFor plain k) (sym unfolded-count)
-
-  -- the blocks of so many entries are the plain description
-  pub buffer-plain : (buffer : List ℕ) → 8192 ≤ length buffer → {after : List ℕ} {k : ℕ} → after ≡ unfoldedAt D i s buffer → k ≡ 512 * blocksFor plain n
-      → take (k - 0) after ≡ plainOf D s
-  unfolding unfoldAt unfoldedAt plainOf
-  buffer-plain buffer h q g =
-      let z : 512 * blocksFor plain n - 0 ≡ 512 * blocksFor plain n = omega arith in
-      let es = unfoldedBy (dictionaryOf D) (entriesOf s) in
-      rw (g, z, q, e, ge-ltb (room buffer h)) (take-at (encode es) (drop (length (encode es)) buffer) (512 * blocksFor plain n) plain-size)
+module _ (D : List ℕ) (i : ℕ) (s : List ℕ) {n : ℕ} (e : unfoldingOf D i s ≡ Accepted n) (buffer : List ℕ) (h : 8192 ≤ length buffer) {after : List ℕ} {k : ℕ}
+    (q : after ≡ unfoldedAt D i s buffer) (g : k ≡ 512 * blocksFor plain n) where
+  -- the bytes of so many entries are the plain description
+  pub part-plain : take (k - 0) after ≡ plainOf D s
+  part-plain = rw (g, sub-zero (512 * blocksFor plain n)) (buffer-plain D i s e buffer h q)
 
   -- and they end within the buffer
-  pub buffer-ends : (buffer : List ℕ) → 8192 ≤ length buffer → {after : List ℕ} {k : ℕ} → after ≡ unfoldedAt D i s buffer → k ≡ 512 * blocksFor plain n
-      → k ≤ length after
-  unfolding unfoldAt unfoldedAt plainOf
-  buffer-ends buffer h q g = rw (g, q, e, ge-ltb (room buffer h)) (simp length-append (omega (arith, plain-size)))
-
--- what is answered for a buffer is what is read
-pub at-buffer : (D : List ℕ) (i : ℕ) (s buffer : List ℕ) → 8192 ≤ length buffer → unfoldAt D i s buffer ≡ unfoldingOf D i s
-unfolding unfoldAt
-at-buffer D i s buffer h =
-    reading-cases (unfoldingOf D i s)
-    (λ k j p q. rw q)
-    (λ n q. rw (q, ge-ltb (room D i s q buffer h)))
-
-pub sent-plain : (D s : List ℕ) → 0 < length D → sentOf D s ≡ plainOf D s
-unfolding sentOf
-sent-plain D s h = let z : eqb (length D) 0 ≡ false = omega tests in rw z
+  pub part-ends : k ≤ length after
+  part-ends = rw g (buffer-ends D i s e buffer h q)
 
 -- ---- the normal form
 
@@ -159,13 +113,13 @@ module _ (D c d : List ℕ) where
 
       -- they hold the plain descriptions, which end within them
       pub first-part : {k : ℕ} → k ≡ 512 * blocksFor plain n → (take (k - 0) a′ ≡ plainOf D c) × (k ≤ length a′)
-      first-part g = let e = both-unfolded .0 in (buffer-plain D 1 c e a ha qa g, buffer-ends D 1 c e a ha qa g)
+      first-part g = let e = both-unfolded .0 in (part-plain D 1 c e a ha qa g, part-ends D 1 c e a ha qa g)
 
       pub second-part : {k : ℕ} → k ≡ 512 * blocksFor plain m → (take (k - 0) b′ ≡ plainOf D d) × (k ≤ length b′)
       second-part g =
           let e = both-unfolded in
           let y = qb ∙ second-is (e .0) in
-          (buffer-plain D 2 d (e .1) b hb y g, buffer-ends D 2 d (e .1) b hb y g)
+          (part-plain D 2 d (e .1) b hb y g, part-ends D 2 d (e .1) b hb y g)
 
 pub comparison-list : (P D c d out : List ℕ) {k i p : ℕ} → pairsReading P ≡ Refused k i p
     → (comparison.Refused k i p ≡ compareNamed P D c d out) × (out ≡ outputNamed P D c d out)

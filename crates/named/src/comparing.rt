@@ -5,12 +5,12 @@ ghost use Prim.Native.Nat.{_<_, _≤_};
 ghost use lib.ListN.{length};
 ghost use Rattle.named.specs.Answer.{compareNamed, outputNamed};
 ghost use Rattle.named.specs.code.Sent.{ListTaken, comparisonSent};
-use crate::sent::bytes_for;
 use crate::sent::number_at;
 use blocks::Reading;
 use compare::Comparison;
 use unfolding::Unfolded;
 use unfolding::unfold_both;
+use writing::bytes_for;
 
 // The refusal where no name can be given, by that of plain descriptions.
 fn refused_sent(c: &[u8], d: &[u8], number: u8, input: u16, place: u16) -> Comparison

@@ -8,12 +8,12 @@ ghost use Rattle.clashes.specs.Clash.{specimenReading};
 ghost use Rattle.fit.specs.declared.FitAnswer.{FitAnswer};
 ghost use Rattle.named.specs.Answer.{countedNamed, fitNamed};
 ghost use Rattle.named.specs.code.Sent.{ListTaken, fitBy, fitSent};
-use crate::sent::bytes_for;
 use crate::sent::number_at;
 use blocks::Reading;
 use fit::Counted;
 use fit::FitAnswer;
 use unfolding::unfold_into;
+use writing::bytes_for;
 
 // The refusal where no name can be given, by that of a plain description.
 fn refused_sent(d: &[u8], number: u8, input: u16, place: u16) -> FitAnswer

@@ -5,11 +5,11 @@ ghost use Prim.Native.Nat.{_<_, _≤_};
 ghost use lib.ListN.{length};
 ghost use Rattle.named.specs.Answer.{normaliseNamed, normalisedNamed};
 ghost use Rattle.named.specs.code.Sent.{ListTaken, normalSent};
-use crate::sent::bytes_for;
 use crate::sent::number_at;
 use blocks::Reading;
 use normal::NormalAnswer;
 use unfolding::unfold_into;
+use writing::bytes_for;
 
 // The refusal where no name can be given, by that of a plain description.
 fn refused_sent(d: &[u8], number: u8, input: u16, place: u16) -> NormalAnswer

@@ -1,10 +1,7 @@
-// What the calls have in common: the number of a refusal where no name can be given, and the bytes that entries take.
+// What the calls have in common: the number of a refusal where no name can be given.
 ghost use mathlib.Core.Path.{_≡_};
-ghost use Prim.Native.Nat.{_*_, _≤_};
-ghost use Rattle.blocks.specs.Encoding.{blocksFor};
 ghost use mathlib.Core.Bool.{_&&_};
 ghost use Rattle.blocks.specs.Entries.{entryOf, isNamed};
-ghost use Rattle.blocks.specs.Frame.{plain};
 ghost use Rattle.names.specs.NamedForm.{namedFormOk};
 ghost use Rattle.names.specs.NamedReading.{numberAt};
 use base::wide;
@@ -32,14 +29,4 @@ pub(crate) fn number_at(s: &[u8], place: u16, number: u8) -> u8
         return 13;
     }
     number
-}
-
-// The bytes that so many entries take.
-pub(crate) fn bytes_for(n: u16) -> usize
-    ensures { λ r. ⌜ (r ≡ 512 * blocksFor plain n) × (r ≤ 533504) ⌝ }
-{
-    if n == 0 {
-        return 512;
-    }
-    512 * ((wide(n) + 62) / 63)
 }

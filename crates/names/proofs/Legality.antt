@@ -13,3 +13,5 @@ pub mod UnfoldBounded
 pub mod NamedReadings
 -- With a dictionary of length 0: 13 in place of 4.
 pub mod Nameless
+-- A dictionary that is accepted is legal, and so is what is accepted under it: what it stands for is accepted, wherever it is read.
+pub mod AcceptedReadings

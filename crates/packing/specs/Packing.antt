@@ -3,6 +3,8 @@
 use Prim.Native.Nat.{_*_, _+_, ℕ}
 use Rattle.blocks.specs.declared.Reading.{Reading}
 use Rattle.blocks.specs.declared.Reading.the-variants as reading
+use Rattle.catalogue.specs.declared.Catalogued.{Catalogued}
+use Rattle.catalogue.specs.declared.Catalogued.the-variants as catalogued
 use Rattle.compare.specs.declared.Comparison.{Comparison}
 use Rattle.compare.specs.declared.Comparison.the-variants as comparison
 use Rattle.fit.specs.declared.Counted.{Counted}
@@ -47,6 +49,11 @@ packCounted c = packAdds (c .answer) (c .walk) (c .table)
 abbrev pub packNormal : NormalAnswer → ℕ
 packNormal (normal.Normalised count) = counted count
 packNormal (normal.Refused k i p) = refusal k i p
+
+-- a catalogue: the bytes filled
+abbrev pub packCatalogued : Catalogued → ℕ
+packCatalogued (catalogued.Filled count) = counted count
+packCatalogued (catalogued.Refused k i p) = refusal k i p
 
 -- comparing: "not contained | 2 | 0 | number of the entry that fails | entries of the specimen"
 abbrev pub packComparison : Comparison → ℕ

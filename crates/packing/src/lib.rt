@@ -3,6 +3,7 @@
 // The contracts cite specs/Packing, which has the table of these numbers.
 mod packing;
 
+pub use packing::pack_catalogued;
 pub use packing::pack_comparison;
 pub use packing::pack_counted;
 pub use packing::pack_fit;

@@ -1,7 +1,8 @@
 // The number of 64 bits that stands for an answer.
 ghost use mathlib.Core.Path.{_≡_};
-ghost use Rattle.packing.specs.Packing.{packAdds, packComparison, packCounted, packFit, packNormal, packReading, packed};
+ghost use Rattle.packing.specs.Packing.{packAdds, packCatalogued, packComparison, packCounted, packFit, packNormal, packReading, packed};
 use blocks::Reading;
+use catalogue::Catalogued;
 use compare::Comparison;
 use fit::Counted;
 use fit::FitAnswer;
@@ -61,6 +62,16 @@ pub fn pack_normal(answer: NormalAnswer) -> u64
     match answer {
         NormalAnswer::Normalised(count) => pack(1, 0, 0, count),
         NormalAnswer::Refused(number, input, place) => pack(0, number, input, place),
+    }
+}
+
+// What the call on a catalogue answers: the bytes filled, or the refusal.
+pub fn pack_catalogued(answer: Catalogued) -> u64
+    ensures { λ r. ⌜ r ≡ packCatalogued answer ⌝ }
+{
+    match answer {
+        Catalogued::Filled(count) => pack(1, 0, 0, count),
+        Catalogued::Refused(number, input, place) => pack(0, number, input, place),
     }
 }
 

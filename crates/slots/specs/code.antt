@@ -8,3 +8,5 @@ pub mod States
 pub mod Standing
 -- The places of the slots that stand in a table: what the comparison builds on.
 pub mod TablePlaces
+-- What judging a list of descriptions is told, and what each step of it does.
+pub mod Judging

@@ -31,7 +31,7 @@ fn answer_of(n: usize, used: usize) -> Holding
 
 // The first entry of a description with m entries that does not hold by the settled slots of another, which stand in the table; 0 where all
 // hold, as they do where nothing fits the other. This is all that judges, and it leaves the slots: they serve for many descriptions.
-fn judge_by(
+pub(crate) fn judge_by(
     pairs: &[u8],
     index: &[u8; 512],
     table: &[u64],

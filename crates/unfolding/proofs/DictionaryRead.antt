@@ -1,22 +1,21 @@
 -- The descriptions of a dictionary, read in turn: how far reading has come, one description more, and the end.
 -- Assumes nothing.
 use Prim.Native.Nat.{_+_, _<_, _≤_, suc, ℕ}
-use lib.ListN.{drop, drop-of-length-le, getD, length, length-drop, length-map, length-replicate, length-set, replicate, set, take}
-use lib.Seq.{drop-cons, length-take-le, take-all, take-suc}
+use lib.ListN.{drop, drop-of-length-le, getD, length, length-map, length-replicate, length-set, replicate, set, take}
+use lib.Seq.{length-take-le, take-all, take-suc}
 use mathlib.Core.List.{List, [], _++_, _∷_, map, map-append}
 use mathlib.Core.Path.{_∙_, _≡_, ap, refl, subst}
 use native.Mathlib.Omega.{arith}
-use Rattle.base.proofs.Parts.{high-is, highOf, low-is, lowOf}
-use Rattle.base.proofs.Tests.{eq-cases, lt-cases}
+use Rattle.base.proofs.Parts.{highOf, lowOf}
+use Rattle.base.proofs.Tests.{eq-cases}
 use Rattle.blocks.proofs.RoundTrip.Unbroken.{Unbroken}
 use Rattle.blocks.specs.Entries.{entriesOf}
 use Rattle.blocks.specs.Frame.{plain}
 use Rattle.blocks.specs.declared.Entry.{Entry}
 use Rattle.blocks.specs.declared.Reading.the-variants.{Accepted, Refused}
 use Rattle.blocks.specs.declared.Schema.the-variants.{Named}
-use Rattle.lists.proofs.FirstPart.{first-some}
-use Rattle.lists.proofs.PartLaws.{part-at, start-below, start-next, start-past}
-use Rattle.lists.specs.Parts.{firstLength, partsOf, startOf}
+use Rattle.lists.proofs.LoopLaws.{Reached, reached-all, reached-left, reached-more, reached-part, reached-some, reached-start}
+use Rattle.lists.specs.Parts.{firstLength, partsOf}
 use Rattle.names.proofs.Legality.NamedReadings.{taken-within}
 use Rattle.names.specs.NamedReading.{dictionaryOf, namedReading, partsReading}
 use Rattle.unfolding.proofs.KnownLaws.{known-more, known-start}
@@ -41,8 +40,7 @@ measured-as K i s rows q M = subst (MeasuredBy K i s rows) q M
 
 -- n descriptions are read and taken: the tables have their sizes and levels, and the answer is what the others give
 pub record Passed (D size levels : List ℕ) (at n : ℕ) : Type 0 where
-  pub few : n ≤ length (partsOf D)
-  pub start : at ≡ startOf n D
+  pub reached : Reached D at n
   pub long : (length size ≡ 65) × (length levels ≡ 65)
   pub known : Known (earlier D n) size levels
   pub same : partsReading [] (partsOf D) ≡ partsReading (earlier D n) (drop n (partsOf D))
@@ -50,10 +48,8 @@ pub record Passed (D size levels : List ℕ) (at n : ℕ) : Type 0 where
 
 -- before the first
 pub passed-start : (D size levels : List ℕ) → size ≡ replicate 65 0 → levels ≡ replicate 65 0 → Passed D size levels 0 0
-unfolding startOf
 passed-start D size levels s l = record {
-  few = omega arith;
-  start = refl;
+  reached = reached-start D;
   long = (ap length s ∙ length-replicate {A = ℕ} 65 0, ap length l ∙ length-replicate {A = ℕ} 65 0);
   known = known-start size levels s l;
   same = refl;
@@ -63,18 +59,17 @@ passed-start D size levels s l = record {
 module _ {D size levels : List ℕ} {at n : ℕ} (P : Passed D size levels at n) where
   -- how many there are
   pub passed-many : length (earlier D n) ≡ n
-  passed-many = length-earlier D n (P .few)
+  passed-many = length-earlier D n (P .reached .few)
 
   -- ---- one more
 
   module _ (h : at < length D) where
-    -- before the end of the bytes there is a description
-    pub passed-some : n < length (partsOf D)
-    passed-some = lt-cases n (length (partsOf D)) (λ l. l) (λ l. absurd (omega (arith, start-past D n l, P .start)))
+    -- before the end of the bytes there is a description, and those behind it
+    some : n < length (partsOf D)
+    some = reached-some (P .reached) h
 
-    -- the next one, and those behind it
     left : drop n (partsOf D) ≡ getD (partsOf D) n [] ∷ drop (suc n) (partsOf D)
-    left = drop-cons (partsOf D) n [] passed-some
+    left = reached-left (P .reached) h
 
     -- where it is taken, the tables have its size and its levels
     known-next : length (partsOf D) ≤ 64 → {m z l : ℕ} (rows : List ℕ) → MeasuredBy (earlier D n) (101 + n) (getD (partsOf D) n []) rows (measured.Taken m z l)
@@ -84,15 +79,15 @@ module _ {D size levels : List ℕ} {at n : ℕ} (P : Passed D size levels at n)
         let s = getD (partsOf D) n [] in
         let one : n + 1 ≡ suc n = omega arith in
         let W = taken-within K (101 + n) s (P .known .sized .each) (M .6) (M .0) in
-        let more = known-more K (entriesOf s) (P .known) (M .6) W (omega (arith, passed-many, passed-some)) (P .long .0) (P .long .1) in
-        let list : earlier D (n + 1) ≡ K ++ (entriesOf s ∷ []) = ap (earlier D) one ∙ earlier-more D n passed-some in
+        let more = known-more K (entriesOf s) (P .known) (M .6) W (omega (arith, passed-many, some)) (P .long .0) (P .long .1) in
+        let list : earlier D (n + 1) ≡ K ++ (entriesOf s ∷ []) = ap (earlier D) one ∙ earlier-more D n some in
         rw (list, M .3, M .4) (rw passed-many at more)
 
     -- the answer is what the others give
     same-next : {m z l : ℕ} (rows : List ℕ) → MeasuredBy (earlier D n) (101 + n) (getD (partsOf D) n []) rows (measured.Taken m z l)
         → partsReading [] (partsOf D) ≡ partsReading (earlier D (suc n)) (drop (suc n) (partsOf D))
     unfolding partsReading
-    same-next rows M = P .same ∙ rw (left, partsReading, passed-many, M .0, earlier-more D n passed-some)
+    same-next rows M = P .same ∙ rw (left, partsReading, passed-many, M .0, earlier-more D n some)
 
     -- and none of 1 to 3 applies to it
     sound-next : {m z l : ℕ} (rows : List ℕ) → MeasuredBy (earlier D n) (101 + n) (getD (partsOf D) n []) rows (measured.Taken m z l)
@@ -103,21 +98,8 @@ module _ {D size levels : List ℕ} {at n : ℕ} (P : Passed D size levels at n)
         (λ q. P .sound k (omega arith))
 
     module _ {f : ℕ} (e : f ≡ firstLength (highOf at D)) where
-      long-part : f ≡ firstLength (drop at D)
-      long-part = e ∙ ap firstLength (high-is at D)
-
-      -- it has a byte
-      pub passed-further : 0 < f
-      passed-further = let l = first-some (drop at D) (omega (arith, length-drop at D)) in omega (arith, long-part)
-
-      -- its bytes, as the code takes them
       part-is : lowOf f (highOf at D) ≡ getD (partsOf D) n []
-      part-is =
-          low-is f (highOf at D) ∙ ap (take f) (high-is at D) ∙ ap (λ (k : ℕ). take k (drop at D)) long-part
-          ∙ ap (λ (a : ℕ). take (firstLength (drop a D)) (drop a D)) (P .start) ∙ part-at D n
-
-      next-start : at + f ≡ startOf (suc n) D
-      next-start = let l : f ≡ firstLength (drop (startOf n D) D) = long-part ∙ ap (λ (a : ℕ). firstLength (drop a D)) (P .start) in omega (arith, start-next D n, P .start)
+      part-is = reached-part (P .reached) h e
 
       -- refused, it is the answer
       pub passed-refused : {r : Measured} {k j p : ℕ} → r ≡ measured.Refused k j p → (rows : List ℕ)
@@ -135,8 +117,7 @@ module _ {D size levels : List ℕ} {at n : ℕ} (P : Passed D size levels at n)
           let M : MeasuredBy (earlier D n) (101 + n) (getD (partsOf D) n []) rows (measured.Taken m z l) = rw part-is at (measured-as (earlier D n) (101 + n) (lowOf f (highOf at D)) rows q given) in
           let one : n + 1 ≡ suc n = omega arith in
           record {
-            few = omega (arith, passed-some);
-            start = rw one next-start;
+            reached = reached-more (P .reached) h e;
             long = (length-set size (n + 1) z ∙ P .long .0, length-set levels (n + 1) l ∙ P .long .1);
             known = known-next few rows M;
             same = rw one (same-next rows M);
@@ -146,8 +127,8 @@ module _ {D size levels : List ℕ} {at n : ℕ} (P : Passed D size levels at n)
   -- ---- the end
 
   module _ (h : length D ≤ at) where
-    pub passed-all : n ≡ length (partsOf D)
-    passed-all = lt-cases n (length (partsOf D)) (λ l. absurd (omega (arith, start-below D n l, P .start))) (λ l. omega (arith, P .few))
+    passed-all : n ≡ length (partsOf D)
+    passed-all = reached-all (P .reached) h
 
     whole : earlier D n ≡ dictionaryOf D
     whole = ap (map entriesOf) (take-all n (partsOf D) (omega (arith, passed-all)))

@@ -12,3 +12,5 @@ pub mod ReplaceLaws
 pub mod CallLaws
 -- Laws of the passes.
 pub mod PassLaws
+-- What stands in a buffer of 16 blocks that a description was unfolded to.
+pub mod BufferLaws

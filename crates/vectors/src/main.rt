@@ -3,12 +3,14 @@
 // the version of other hands (rust/reference), which `make vectors` runs.
 //
 // A vector is a header of eight words, low byte first, and then the bytes of its list of pairs, its dictionary and its two inputs. The words:
-// the call (1 read a description, 2 read a specimen, 3 fit, 4 normal form, 5 compare, 6 unfold), the lengths of these four, the length of the
-// output, and two that are 0. No dictionary is longer than 33,792 bytes, 66 blocks, and nothing else than 17,408, 34 blocks. Each byte of the
+// the call (1 read a description, 2 read a specimen, 3 fit, 4 normal form, 5 compare, 6 unfold, 7 catalogue), the lengths of these four, the
+// length of the output, and two that are 0. No dictionary and no second input is longer than 33,792 bytes, 66 blocks, and nothing else than
+// 17,408, 34 blocks. Each byte of the
 // output is 165 before the call.
 ghost use lib.ListN.{length};
 ghost use Prim.Native.Nat.{_≤_};
 use blocks::Reading;
+use catalogue::Catalogued;
 use compare::Comparison;
 use fit::FitAnswer;
 use libc::STDIN_FILENO;
@@ -113,6 +115,21 @@ fn run_unfold(dictionary: &[u8], d: &[u8], out: &mut [u8]) {
     print_digest(out);
 }
 
+// Prints what the call on a catalogue answers.
+fn print_catalogued(answer: Catalogued) {
+    io::write_all(STDOUT_FILENO, b" catalogue");
+    match answer {
+        Catalogued::Filled(count) => print_field(b" ", count as u64),
+        Catalogued::Refused(number, input, place) => print_refusal(number, input, place),
+    }
+}
+
+// Compares a description with each of a list, and prints the answer and the digest of the output.
+fn run_catalogue(pairs: &[u8], dictionary: &[u8], c: &[u8], list: &[u8], out: &mut [u8]) {
+    print_catalogued(catalogue::catalogue(pairs, dictionary, c, list, out));
+    print_digest(out);
+}
+
 // Makes a call and prints its answer. The readers take neither a list nor a dictionary.
 fn run_call(
     call: u16,
@@ -128,7 +145,8 @@ fn run_call(
         3 => print_fit(named::fit(pairs, dictionary, first, second)),
         4 => run_normal(pairs, dictionary, first, out),
         5 => run_compare(pairs, dictionary, first, second, out),
-        _ => run_unfold(dictionary, first, out),
+        6 => run_unfold(dictionary, first, out),
+        _ => run_catalogue(pairs, dictionary, first, second, out),
     }
 }
 
@@ -157,7 +175,7 @@ fn run_vector(header: &[u8]) {
     let dictionary_length = read_input(&mut dictionary, blocks::word(header, 4));
     let mut first = [0u8; 17408];
     let first_length = read_input(&mut first, blocks::word(header, 6));
-    let mut second = [0u8; 17408];
+    let mut second = [0u8; 33792];
     let second_length = read_input(&mut second, blocks::word(header, 8));
     let mut out = [165u8; 17408];
     let out_length = within(blocks::word(header, 10), &out);

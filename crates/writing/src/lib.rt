@@ -4,4 +4,5 @@
 // is proved in `blocks`.
 mod writer;
 
+pub use writer::bytes_for;
 pub use writer::write_entries;

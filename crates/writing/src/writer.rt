@@ -8,6 +8,7 @@ ghost use Rattle.blocks.specs.Words.{wordBytes};
 ghost use Rattle.blocks.specs.Frame.{plain};
 ghost use Rattle.blocks.specs.Encoding.{joined, rowBytes, blockBytes, blocksFor, encodeFrom, bytesWritten, written};
 ghost use Rattle.writing.specs.code.WritingSteps.{usedFor};
+use base::wide;
 use blocks::block_check;
 use blocks::block_second;
 
@@ -87,6 +88,13 @@ fn blocks_for(count: usize) -> usize
         return 1;
     }
     (count - 1) / 63 + 1
+}
+
+// The bytes that so many entries take.
+pub fn bytes_for(count: u16) -> usize
+    ensures { λ r. ⌜ (r ≡ 512 * blocksFor plain count) × (r ≤ 533504) ⌝ }
+{
+    512 * blocks_for(wide(count))
 }
 
 // How many of `count` entries block i uses.

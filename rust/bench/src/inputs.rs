@@ -179,6 +179,14 @@ pub fn with_last(last: Entry, entries: &[Entry]) -> Vec<Entry> {
     entries
 }
 
+/// The entries with another kind and name in the middle, at the same place. No model has its chain there.
+pub fn with_middle(kind: u8, name: u16, entries: &[Entry]) -> Vec<Entry> {
+    let mut entries = entries.to_vec();
+    let middle = entries.len() / 2;
+    entries[middle] = entry(kind, entries[middle].owner.into(), name, 0);
+    entries
+}
+
 /// An 'every' of link 1 that owns 1,007 at most of different links.
 fn every_at_most() -> Vec<u8> {
     let owned = (1..=1007).map(|link| entry(4, 1, link, 0));

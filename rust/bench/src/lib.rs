@@ -2,6 +2,7 @@
 
 #![forbid(unsafe_code)]
 
+pub mod catalogue;
 pub mod excluding;
 pub mod inputs;
 pub mod naming;

@@ -4,6 +4,7 @@
 
 mod listed;
 mod named;
+mod services;
 
 use std::hint::black_box;
 use std::time::Instant;
@@ -91,6 +92,7 @@ fn main() {
     );
     listed::rows();
     named::rows();
+    services::rows();
 }
 
 /// The best times of two calls in nanoseconds; the two take turns.

@@ -1,4 +1,4 @@
-//! The ten functions of the library as C declares them, behind calls that take slices. All unsafe code is here.
+//! The eleven functions of the library as C declares them, behind calls that take slices. All unsafe code is here.
 //!
 //! The library is proved to read and write nothing but the memory that its pointers and lengths name, whatever bytes stand
 //! there, and its own stack. Each call below lends it the memory of whole slices for the time of the call. The borrow
@@ -55,6 +55,18 @@ extern "C" {
         dict_len: usize,
         d: *const u8,
         d_len: usize,
+        out: *mut u8,
+        out_len: usize,
+    ) -> u64;
+    fn gx_catalogue(
+        pairs: *const u8,
+        pairs_len: usize,
+        dict: *const u8,
+        dict_len: usize,
+        c: *const u8,
+        c_len: usize,
+        list: *const u8,
+        list_len: usize,
         out: *mut u8,
         out_len: usize,
     ) -> u64;
@@ -163,6 +175,24 @@ pub(crate) fn unfold(dict: &[u8], d: &[u8], out: &mut [u8]) -> u64 {
     }
 }
 
+pub(crate) fn catalogue(pairs: &[u8], dict: &[u8], c: &[u8], list: &[u8], out: &mut [u8]) -> u64 {
+    // SAFETY: the pointers and lengths are those of five slices, and the last is ours alone.
+    unsafe {
+        gx_catalogue(
+            pairs.as_ptr(),
+            pairs.len(),
+            dict.as_ptr(),
+            dict.len(),
+            c.as_ptr(),
+            c.len(),
+            list.as_ptr(),
+            list.len(),
+            out.as_mut_ptr(),
+            out.len(),
+        )
+    }
+}
+
 #[cfg(test)]
 mod tests {
     use super::*;
@@ -193,6 +223,7 @@ mod tests {
             assert_eq!(gx_normal_with(no, 0, no, 0, no, 0, none, 0), EMPTY);
             assert_eq!(gx_compare_with(no, 0, no, 0, no, 0, no, 0, none, 0), EMPTY);
             assert_eq!(gx_unfold(no, 0, no, 0, none, 0), EMPTY);
+            assert_eq!(gx_catalogue(no, 0, no, 0, no, 0, no, 0, none, 0), EMPTY);
         }
     }
 }

@@ -5,7 +5,7 @@
 //! A description and a specimen are bytes in blocks of 512: the block's number, how many of its 63 entries are used, the
 //! entries of 8 bytes, the second check, which is the sum of all words of two bytes before it, each times its number, and the
 //! first check, which is the sum of all words before it. Any bytes may be handed over; those that break a rule are refused. No
-//! call panics, allocates or keeps anything. `docs/FORMAT.md` has each byte and each refusal.
+//! call panics or keeps anything, and only [`Under::catalogue_of`] allocates. `docs/FORMAT.md` has each byte and each refusal.
 //!
 //! Links from 32,768 up lead to one item only. Every promise here is about records that keep this rule: in them no item has two
 //! items by such a link.
@@ -13,6 +13,7 @@
 //! [`Under`] has the same calls under a list of properties that exclude each other, such as clay and sand. What they promise is
 //! about records that keep the list as well. It also has the dictionary whose descriptions may be named by others, and [`unfold()`]
 //! puts them in where they are named. [`fit()`], [`normal_form`] and [`compare`] are the calls with no list and no dictionary.
+//! [`Under::catalogue`] compares one description with a list of up to 64.
 //!
 //! `k` entries take `512 * k.div_ceil(63).max(1)` bytes, `GX_BYTES(k)` of the C header: a call that writes `k` entries writes
 //! just those bytes, from the start of the output.
@@ -40,6 +41,7 @@
 #![deny(missing_docs)]
 #![deny(unsafe_code)]
 
+mod catalogue;
 #[allow(unsafe_code)]
 mod ffi;
 mod packed;

@@ -10,7 +10,8 @@ use std::fmt;
 #[derive(Clone, Copy, Debug, PartialEq, Eq, Hash)]
 #[repr(u8)]
 pub enum Reason {
-    /// 1: the input's length is 0, no multiple of 512, or over the limit; a dictionary may have length 0, and has no limit but 8.
+    /// 1: the input's length is 0, no multiple of 512, or over the limit; a dictionary may have length 0, and like a list of services
+    /// has no limit but 8.
     Length = 1,
     /// 2: a block's first or second check is wrong.
     Check = 2,
@@ -26,7 +27,7 @@ pub enum Reason {
     Depth = 6,
     /// 7: the output is too short.
     Output = 7,
-    /// 8: a dictionary has more than 64 descriptions.
+    /// 8: a dictionary has more than 64 descriptions, or a list more than 64 services.
     TooMany = 8,
     /// 9: a group of a specimen brings its owner a second item by a link that leads to one item only, one from 32,768 up.
     SecondItem = 9,
@@ -98,7 +99,8 @@ pub struct Refusal {
     /// Why.
     pub reason: Reason,
     /// The input, 1 or 2 in the order of the call's arguments; 0 where the output is too short or the list of pairs is refused;
-    /// 100 for a dictionary, and 100 + n for its n-th description.
+    /// 1 + n for the n-th service of a list, which is input 2 as a whole; 100 for a dictionary, and 100 + n for its n-th
+    /// description.
     pub input: u16,
     /// The block or the entry, counted from 1 in that input, or the pair in the list; 0 where the reason has no place.
     pub place: u16,

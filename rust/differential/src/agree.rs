@@ -5,6 +5,8 @@
 //! the plain calls where the list and the dictionary are empty: then these are made too, and have to give the same. Those that are
 //! made with a dictionary are made again with none, on the unfolded descriptions, and have to give the same.
 
+mod catalogue;
+
 use std::fmt;
 
 use goltximen::Under;
@@ -15,12 +17,14 @@ use crate::damage::Sort;
 use crate::excluding::Given;
 use crate::{length_of, MOST_DESCRIPTION};
 
+pub use catalogue::catalogue;
+
 /// What both answered.
 #[derive(Clone, Copy, Debug, PartialEq, Eq, PartialOrd, Ord)]
 pub enum Answer {
     /// A refusal, with its number and input.
     Refused(u8, u16),
-    /// A number of entries.
+    /// A number of entries, or of bytes that are filled.
     Count(usize),
     /// The top item fits.
     Yes,
@@ -342,6 +346,36 @@ pub fn normal_form(
     d: &[u8],
     length: usize,
 ) -> Result<Answer, Difference> {
+    let written = written_normal_form(chance, under, d, length)?;
+    Ok(written.map_or_else(refused, |(entries, _)| Answer::Count(entries)))
+}
+
+/// The blocks that the normal form of an accepted description is written in, from the start of an output that is as long as is
+/// needed or longer.
+///
+/// # Errors
+///
+/// The difference.
+pub fn normal_blocks(chance: &mut Chance, under: Under, d: &[u8]) -> Result<Vec<u8>, Difference> {
+    let longer = chance.one_of([0, 1, 511, 512, 1500]);
+    let length = plain(under, d).len() + longer;
+    let written = written_normal_form(chance, under, d, length)?;
+    let case = Case {
+        call: "normal form",
+        under,
+        inputs: &[d],
+    };
+    let blocks = written.map(|(_, blocks)| blocks);
+    blocks.map_err(|_| case.difference("an accepted description is refused"))
+}
+
+/// The normal form as above: its entries and its blocks, or the refusal.
+fn written_normal_form(
+    chance: &mut Chance,
+    under: Under,
+    d: &[u8],
+    length: usize,
+) -> Result<Result<(usize, Vec<u8>), Refusal>, Difference> {
     let case = Case {
         call: "normal form",
         under,
@@ -357,8 +391,9 @@ pub fn normal_form(
     let other = reference::normal_with(under.pairs, under.dictionary, d, &mut run.plain);
     let answer = case.same(proved, other)?;
     case.same_output(&run, answer.map_or(0, length_of))?;
-    let Ok(entries) = answer else {
-        return Ok(answer.map_or_else(refused, Answer::Count));
+    let entries = match answer {
+        Ok(entries) => entries,
+        Err(refusal) => return Ok(Err(refusal)),
     };
     let plain_d = plain(under, d);
     let most = goltximen::read_description(&plain_d).map_or(0, usize::from);
@@ -371,7 +406,7 @@ pub fn normal_form(
         "its normal form has another number of entries",
     )?;
     case.ensure(again == written, "its normal form has other bytes")?;
-    Ok(Answer::Count(entries))
+    Ok(Ok((entries, again)))
 }
 
 /// The comparison, with an output of this length. A 'not contained' has to be shown by its specimen under the same list.
@@ -547,25 +582,6 @@ pub fn contained(
         "D asks less than C and the answer is not 'contained'",
     )?;
     Ok(answer)
-}
-
-/// Two descriptions of which it is known that they mean the same under a list have one normal form.
-///
-/// # Errors
-///
-/// The difference.
-pub fn same_normal_form(under: Under, d: &[Entry], other: &[Entry]) -> Result<(), Difference> {
-    let written = |entries: &[Entry]| {
-        let d = encode(entries);
-        let mut out = vec![0; plain(under, &d).len()];
-        let count = under.normal_form(&d, &mut out).map(usize::from);
-        out.truncate(length_of(count.unwrap_or(0)));
-        (count, out)
-    };
-    if written(d) == written(other) {
-        return Ok(());
-    }
-    Err(found("normal form: not one", under, &[d, other]))
 }
 
 /// A difference that was found without the other side.

@@ -41,7 +41,7 @@ pub fn weaker(chance: &mut Chance, c: &[Entry]) -> Vec<Entry> {
 }
 
 /// An entry that every item meets: of a link that leads to one item only also at most 1 or more.
-fn says_nothing(chance: &mut Chance, owner: u16, link: u16) -> Entry {
+pub(crate) fn says_nothing(chance: &mut Chance, owner: u16, link: u16) -> Entry {
     if Link(link).is_single() && chance.once_in(2) {
         return entry(4, owner, link, chance.one_of([1, 1, 2, 65_535]));
     }
@@ -49,7 +49,7 @@ fn says_nothing(chance: &mut Chance, owner: u16, link: u16) -> Entry {
 }
 
 /// The entry, or one that asks less.
-fn weakened(chance: &mut Chance, e: Entry) -> Entry {
+pub(crate) fn weakened(chance: &mut Chance, e: Entry) -> Entry {
     let number = match e.kind {
         3 => e.number - chance.up_to(e.number.min(3)),
         4 => e.number.saturating_add(chance.up_to(3)),
@@ -113,6 +113,23 @@ fn add(chance: &mut Chance, d: &mut Vec<Entry>, owner: u16, name: u16) {
         kind @ 3..=4 => entry(kind, owner, name, number),
         _ => entry(6, owner, 0, 0),
     });
+}
+
+/// Puts an entry in anywhere after its owner; the entries after it keep their owners.
+pub(crate) fn insert(chance: &mut Chance, entries: &mut Vec<Entry>, new: Entry) {
+    let owner = usize::from(new.owner);
+    let at = owner + chance.below(entries.len() + 1 - owner);
+    insert_at(entries, at, new);
+}
+
+/// Puts an entry in at this place; the entries after it keep their owners.
+pub(crate) fn insert_at(entries: &mut Vec<Entry>, at: usize, new: Entry) {
+    for e in entries.iter_mut() {
+        if usize::from(e.owner) > at {
+            e.owner += 1;
+        }
+    }
+    entries.insert(at, new);
 }
 
 /// The links from the top to the place of this owner.

@@ -5,11 +5,12 @@ use std::collections::BTreeMap;
 use reference::notation::entry;
 use reference::{decode, encode, Comparison, Entry};
 
+use crate::catalogue::services;
 use crate::chance::Chance;
 use crate::damage::{damaged, Sort};
 use crate::draw::{self, Shape};
 use crate::excluding::{self, Given};
-use crate::naming::{self, Dictionary};
+use crate::naming::{self, laid, Dictionary};
 use crate::vectors::{Answer, Vector, MOST_LENGTH};
 use crate::{derived, length_of, BLOCK, BLOCK_ENTRIES, MOST_DESCRIPTION, MOST_SPECIMEN};
 
@@ -124,6 +125,41 @@ const NAMING: [(&str, usize); 33] = [
     ("fit no by the names", 8),
     ("fit refused 13 input 2 later", 2),
     ("fit refused 1 input 100 by the names", 2),
+];
+
+/// What the sort of a catalogue's answer is followed by: whether all, some or none of the services contain the supplier.
+const ALL: &str = " all";
+const SOME: &str = " some";
+const NONE: &str = " none";
+
+/// The sorts of answers of the catalogue, and how many are wanted of each.
+const CATALOGUES: [(&str, usize); 26] = [
+    ("catalogue all", 5),
+    ("catalogue some", 8),
+    ("catalogue none", 5),
+    ("catalogue refused 7 input 0", 3),
+    ("catalogue refused 1 input 2", 2),
+    ("catalogue refused 2 input 3", 2),
+    ("catalogue refused 3 input 2", 2),
+    ("catalogue refused 3 input 3", 2),
+    ("catalogue refused 1 input 1", 1),
+    ("catalogue refused 2 input 1", 1),
+    ("catalogue refused 3 input 1", 1),
+    ("catalogue refused 4 input 1 later", 1),
+    ("catalogue refused 13 input 1", 1),
+    ("catalogue refused 2 input 2", 1),
+    ("catalogue refused 3 input 2 later", 1),
+    ("catalogue refused 3 input 4", 1),
+    ("catalogue refused 4 input 2", 1),
+    ("catalogue refused 4 input 2 later", 1),
+    ("catalogue refused 4 input 3", 1),
+    ("catalogue refused 4 input 4 later", 1),
+    ("catalogue refused 5 input 2 later", 1),
+    ("catalogue refused 5 input 3 later", 1),
+    ("catalogue refused 6 input 3 later", 1),
+    ("catalogue refused 13 input 2", 1),
+    ("catalogue refused 13 input 3", 1),
+    ("catalogue refused 13 input 3 later", 1),
 ];
 
 /// The most bytes of the dictionary of a drawn vector.
@@ -285,6 +321,57 @@ fn with_names(chance: &mut Chance) -> Vector {
         }
     };
     vector.with(&bytes)
+}
+
+/// The drawn vectors of the catalogue.
+pub fn catalogues() -> Vec<Vector> {
+    let wanted = CATALOGUES.map(|(sort, times)| (sort.to_string(), times));
+    kept(SEED + 4, wanted.into(), catalogue, catalogue_sort)
+}
+
+/// The sort of the answer of a catalogue, and of its bytes: all contained, none, or some.
+fn catalogue_sort(vector: &Vector) -> String {
+    let (answer, out) = vector.answer();
+    let bytes = match answer {
+        Answer::Wrote(count) => &out[..count],
+        _ => return sort(vector),
+    };
+    let which = match (bytes.contains(&1), bytes.contains(&0)) {
+        (true, true) => SOME,
+        (true, false) => ALL,
+        _ => NONE,
+    };
+    sort(vector) + which
+}
+
+/// A catalogue of a few services drawn for the supplier; now and then with a list, with names, with a slip in the services, or with a
+/// damaged supplier.
+fn catalogue(chance: &mut Chance) -> Vector {
+    let shape = shape(chance);
+    let names = chance.one_of([0, 0, 2]);
+    let dictionary = Dictionary::of_drawn(chance, &shape, names, 5);
+    let plain = draw::description(chance, &shape);
+    let c = dictionary.naming(chance, &plain);
+    let count = 1 + chance.below(4);
+    let all = services(chance, &dictionary, &c, count);
+    let list = match chance.once_in(2) {
+        true => laid(&all),
+        false => {
+            let slip = chance.below(naming::SLIPS);
+            naming::slipped(chance, &Dictionary::of(&all), slip)
+        }
+    };
+    let pairs = match chance.once_in(3) {
+        true => excluding::drawn(chance, &[&c[..], &all.concat()].concat()),
+        false => Vec::new(),
+    };
+    let c = match chance.once_in(6) {
+        true => damaged(chance, Sort::Description, &c),
+        false => encode(&c),
+    };
+    let output = chance.one_of([count, count, count, count - 1, count + 2]);
+    let dictionary = dictionary.bytes();
+    Vector::catalogue(c, list, output).given(Given { pairs, dictionary })
 }
 
 /// The description once it is unfolded, by the reference; as it is if it or the dictionary is refused.

@@ -5,6 +5,7 @@ use reference::notation::entry;
 use reference::Entry;
 
 use crate::chance::Chance;
+use crate::derived::insert;
 use crate::{word, MOST_DESCRIPTION, MOST_SPECIMEN};
 
 /// The most pairs of a list.
@@ -179,21 +180,9 @@ pub fn with_partner(chance: &mut Chance, pairs: &[u8], s: &[Entry]) -> Vec<Entry
     if chance.once_in(3) {
         partner.owner = chance.any(&owners).unwrap_or(0);
     }
-    // Anywhere after its owner, so also before the property that excludes it.
-    let owner = usize::from(partner.owner);
-    let at = owner + chance.below(s.len() + 1 - owner);
-    insert(&mut s, at, partner);
+    // Also before the property that excludes it.
+    insert(chance, &mut s, partner);
     s
-}
-
-/// Puts an entry in at this place; the entries after it keep their owners.
-fn insert(entries: &mut Vec<Entry>, at: usize, new: Entry) {
-    for e in entries.iter_mut() {
-        if usize::from(e.owner) > at {
-            e.owner += 1;
-        }
-    }
-    entries.insert(at, new);
 }
 
 /// For some entries of kind 1, at most four, an entry with the same owner and a partner of the property.

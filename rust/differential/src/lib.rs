@@ -2,9 +2,10 @@
 //!
 //! Drawn descriptions and specimens are handed to both. Answers, places and every byte of the outputs have to be the same. What
 //! the paper says of an answer is looked at as well, without the reference: a specimen has to show its 'not contained', a normal
-//! form has to be its own normal form, and 'contained' has to be true in small records. Records and specimens keep the rule that links
-//! from 32,768 up never lead to two items, and the list of properties that exclude each other which a call is given. A call with a
-//! dictionary has to give what the call without one gives for the unfolded descriptions.
+//! form has to be its own normal form, two descriptions have to have one normal form exactly if each is contained in the other, and
+//! 'contained' has to be true in small records. Records and specimens keep the rule that links from 32,768 up never lead to two items,
+//! and the list of properties that exclude each other which a call is given. A call with a dictionary has to give what the call
+//! without one gives for the unfolded descriptions, and the catalogue what single comparisons give.
 //!
 //! | Module | Subject |
 //! |---|---|
@@ -13,6 +14,8 @@
 //! | [`derived`] | descriptions made from others: weaker, in another order, wrong by one entry |
 //! | [`excluding`] | lists of properties that exclude each other, right and wrong, and what is made for them |
 //! | [`naming`] | dictionaries, right, wrong and hostile, and descriptions that name what is in them |
+//! | [`catalogue`] | lists of services |
+//! | [`doubles`] | descriptions made from others with the same meaning, and whether they have one normal form |
 //! | [`damage`] | bytes with one fault or several |
 //! | [`exchange`] | two entries of one block exchanged, and whether the checks tell |
 //! | [`agree`] | the calls on both sides, compared, under a list and without, with a dictionary and without |
@@ -26,9 +29,11 @@
 #![deny(missing_docs)]
 
 pub mod agree;
+pub mod catalogue;
 pub mod chance;
 pub mod damage;
 pub mod derived;
+pub mod doubles;
 pub mod draw;
 pub mod drawn;
 pub mod exchange;

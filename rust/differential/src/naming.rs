@@ -159,6 +159,14 @@ impl Dictionary {
         entries
     }
 
+    /// Whether a description that names these is accepted, where each of its entries is.
+    pub fn accepts(&self, description: &[Entry]) -> bool {
+        let long = description.len() > MOST_DESCRIPTION;
+        // The name of a description without entries adds no depth once unfolded, and has its own all the same.
+        let deep = depths(description).iter().any(|&depth| depth > MOST_DEPTH);
+        !long && !deep && !self.extent(description).is_too_much()
+    }
+
     /// The description without so many last entries that it comes to more than is allowed.
     pub fn within(&self, description: &[Entry]) -> Vec<Entry> {
         let mut entries = description.to_vec();

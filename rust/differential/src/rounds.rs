@@ -1,5 +1,7 @@
 //! Rounds of cases, and how often each answer came.
 
+mod catalogue;
+
 use std::collections::BTreeMap;
 use std::fmt;
 
@@ -10,6 +12,7 @@ use crate::agree::{self, Answer, Difference};
 use crate::chance::Chance;
 use crate::damage::{damaged, Sort};
 use crate::derived;
+use crate::doubles::{self, Background};
 use crate::draw::{self, Names, Shape};
 use crate::exchange;
 use crate::excluding::{self, Given};
@@ -46,6 +49,8 @@ impl Tally {
         let name = match answer {
             // The descriptions of a dictionary together.
             Answer::Refused(number, 101..) => format!("refused {number} input 100 + n"),
+            // The services of a list after the first.
+            Answer::Refused(number, 3..=65) => format!("refused {number} input 2 + n"),
             Answer::Refused(number, input) => format!("refused {number} input {input}"),
             Answer::Count(_) => "count".to_string(),
             Answer::Yes => "yes".to_string(),
@@ -112,6 +117,13 @@ fn pool(names: Names) -> Pool {
     pool
 }
 
+/// Two descriptions, and what is answered where the first is compared with the second, and the second with the first.
+struct Two {
+    c: Vec<Entry>,
+    d: Vec<Entry>,
+    answers: [Answer; 2],
+}
+
 /// A run of rounds.
 pub struct Rounds {
     /// What is drawn from.
@@ -144,8 +156,9 @@ impl Rounds {
     ///
     /// The difference.
     pub fn any(&mut self) -> Found {
-        match self.chance.below(64) {
-            0..=17 => self.pair(),
+        match self.chance.below(68) {
+            0..=13 => self.pair(),
+            14..=17 => self.doubles(),
             18..=24 => self.normal(),
             25..=33 => self.fits(),
             34..=43 => self.damage(),
@@ -154,9 +167,12 @@ impl Rounds {
             49..=51 => self.exchange(),
             52..=54 => self.outputs(),
             55..=57 => self.unfolds(),
-            58..=61 => self.small(),
+            58..=60 => self.small(),
+            61 => self.small_doubles(),
             62 => self.hostile(),
-            _ => self.full(),
+            63 => self.full(),
+            64..=65 => self.catalogues(),
+            _ => self.wrong_lists_of_services(),
         }
     }
 
@@ -288,8 +304,7 @@ impl Rounds {
         past.map_or(Ok(()), |past| self.contained(c, &past))
     }
 
-    /// The normal form of a description; each of the two is contained in the other. With implied lacks and in another order the
-    /// description has the same normal form.
+    /// The normal form of a description; each of the two is contained in the other.
     ///
     /// # Errors
     ///
@@ -311,11 +326,77 @@ impl Rounds {
         let entries = under.normal_form(&bytes, &mut out).map_or(0, usize::from);
         let normal = reference::decode(out.get(..crate::length_of(entries)).unwrap_or(&[]));
         self.contained(d, &normal)?;
-        self.contained(&normal, d)?;
+        self.contained(&normal, d)
+    }
+
+    /// Two descriptions, half of the time made so that they mean the same: they have one normal form exactly where each is contained
+    /// in the other.
+    ///
+    /// # Errors
+    ///
+    /// The difference.
+    pub fn doubles(&mut self) -> Found {
+        self.draw_dictionary();
+        let shape = draw::shape(&mut self.chance);
+        self.two(&shape).map(|_| ())
+    }
+
+    /// The same for small ones, with their answers looked at in records: where they have one normal form, the same items fit both, and
+    /// where they do not, an item of a specimen's record fits one of them.
+    ///
+    /// # Errors
+    ///
+    /// The difference.
+    pub fn small_doubles(&mut self) -> Found {
+        let (shape, pool) = self.draw_small();
+        let Two { c, d, answers } = self.two(&shape)?;
+        let pool = pool.keeping(&self.given.pairs);
+        let few = pool.some(&mut self.chance, 200);
+        let (c, d) = (self.plain_in(&few, &c)?, self.plain_in(&few, &d)?);
+        confirm(&pool, self.given.under(), &c, &d, answers[0])?;
+        confirm(&pool, self.given.under(), &d, &c, answers[1])
+    }
+
+    /// A description of this shape and another one, which is a double of it half of the time. The other half it is made from what is
+    /// not known to mean the same, by the same steps.
+    fn two(&mut self, shape: &Shape) -> Result<Two, Difference> {
+        let c = self.shaped(shape);
+        if self.chance.once_in(2) {
+            doubles::give_name(&mut self.chance, &mut self.dictionary, &c);
+        }
+        let made = self.chance.once_in(2);
+        let mut d = match made {
+            true => c.clone(),
+            false => self.another(shape, &c),
+        };
+        self.give_list(&[&c[..], &d].concat());
+        let (chance, under) = (&mut self.chance, self.given.under());
+        let background = Background {
+            pairs: under.pairs,
+            dictionary: &self.dictionary,
+        };
+        d = doubles::double(chance, background, &d);
+        let (call, answers) = match made {
+            true => ("double", doubles::compared_double(chance, under, &c, &d)?),
+            false => ("another", doubles::compared(chance, under, &c, &d)?),
+        };
+        let alike = match doubles::are_alike(answers) {
+            true => Answer::Yes,
+            false => Answer::No,
+        };
+        self.count(call, alike);
+        Ok(Two { c, d, answers })
+    }
+
+    /// Another description: one drawn on its own, one that asks less than this one, or one that misses it by an entry.
+    fn another(&mut self, shape: &Shape, c: &[Entry]) -> Vec<Entry> {
         let chance = &mut self.chance;
-        let more = excluding::with_implied_lacks(chance, &self.given.pairs, d);
-        let other = derived::reordered(chance, &self.dictionary.within(&more));
-        agree::same_normal_form(self.given.under(), d, &other)
+        let d = match chance.below(3) {
+            0 => return self.shaped(shape),
+            1 => derived::weaker(chance, c),
+            _ => derived::missed(chance, c),
+        };
+        self.dictionary.within(&d)
     }
 
     /// Specimens against descriptions: drawn on their own, and made for the description and then changed a little or given a
@@ -377,6 +458,7 @@ impl Rounds {
             let both = self.needed(c) + self.needed(d);
             let length = self.chance.one_of([0, both]);
             self.compare(c, d, length)?;
+            self.catalogue(c, d, length)?;
         }
         for (s, d) in [
             (&bad_specimen, &good),
@@ -424,6 +506,7 @@ impl Rounds {
                 self.fit(s, d)?;
                 self.normal_form(d, length)?;
                 self.compare(d, d, length)?;
+                self.catalogue(d, d, length)?;
             }
         }
         Ok(())
@@ -454,6 +537,7 @@ impl Rounds {
                 self.fit(s, d)?;
                 self.normal_form(d, length)?;
                 self.compare(d, d, length)?;
+                self.catalogue(d, d, length)?;
                 self.unfold(d, length)?;
             }
         }
@@ -516,6 +600,9 @@ impl Rounds {
         self.normal_form(&bytes, crate::length_of(MOST_DESCRIPTION))?;
         self.fit(&encode(&[]), &bytes)?;
         self.compare(&bytes, &bytes, 2 * crate::length_of(MOST_DESCRIPTION))?;
+        let empty = encode(&[]);
+        self.catalogue(&bytes, &empty, 1)?;
+        self.catalogue(&empty, &[&empty[..], &bytes].concat(), 2)?;
         Ok(())
     }
 
@@ -623,22 +710,8 @@ impl Rounds {
     ///
     /// The difference.
     pub fn small(&mut self) -> Found {
+        let (shape, pool) = self.draw_small();
         let chance = &mut self.chance;
-        let entries = chance.below(draw::SMALL.entries + 1);
-        let (names, pool) = &self.pools[chance.below(3)];
-        let names = *names;
-        let shape = Shape {
-            entries,
-            names,
-            ..draw::SMALL
-        };
-        self.dictionary = match chance.once_in(3) {
-            true => {
-                let count = 1 + chance.below(3);
-                Dictionary::of_drawn(chance, &shape, count, 4)
-            }
-            false => Dictionary::default(),
-        };
         let c = draw::description(chance, &shape);
         let c = self.dictionary.naming(chance, &c);
         let weaker = derived::weaker(chance, &c);
@@ -647,20 +720,17 @@ impl Rounds {
         let other = self.dictionary.naming(chance, &other);
         let s = draw::specimen(chance, &shape);
         let more = with_one_more(chance, &s);
-        let mut pool = pool.some(chance, 1000);
-        pool.add_drawn(chance, size(names, 3), 1000);
         self.give_list(&[&c[..], &missed].concat());
         let pool = pool.keeping(&self.given.pairs);
-        let plain = |d: &[Entry]| reference::decode(&agree::plain(self.given.under(), &encode(d)));
-        let plain_c = plain(&c);
-        let plains = [&weaker, &missed, &other].map(|d| plain(d));
         let few = pool.some(&mut self.chance, 200);
-        confirm_unfolded(&few, &self.dictionary, &c, &plain_c)?;
-        for (d, plain_d) in [&weaker, &missed, &other].into_iter().zip(&plains) {
-            confirm_unfolded(&few, &self.dictionary, d, plain_d)?;
+        let plain_c = self.plain_in(&few, &c)?;
+        for d in [&weaker, &missed, &other] {
+            let plain_d = self.plain_in(&few, d)?;
             let answer = self.compare_entries(&c, d)?;
-            confirm(&pool, self.given.under(), &plain_c, plain_d, answer)?;
+            confirm(&pool, self.given.under(), &plain_c, &plain_d, answer)?;
         }
+        // Each byte is that of a comparison, which the records have confirmed.
+        self.catalogue(&encode(&c), &naming::laid(&[weaker, missed, other]), 3)?;
         let made = self.specimen_for(&c);
         let changed = changed(&mut self.chance, &made);
         let both =
@@ -670,6 +740,36 @@ impl Rounds {
             confirm_fit(self.given.under(), s, &plain_c, answer)?;
         }
         Ok(())
+    }
+
+    /// A small shape, for which a small dictionary is drawn or none, and records to look at its descriptions in: some of all those
+    /// of one or two items, and some of three.
+    fn draw_small(&mut self) -> (Shape, Pool) {
+        let chance = &mut self.chance;
+        let entries = chance.below(draw::SMALL.entries + 1);
+        let (names, pool) = &self.pools[chance.below(3)];
+        let shape = Shape {
+            entries,
+            names: *names,
+            ..draw::SMALL
+        };
+        self.dictionary = match chance.once_in(3) {
+            true => {
+                let count = 1 + chance.below(3);
+                Dictionary::of_drawn(chance, &shape, count, 4)
+            }
+            false => Dictionary::default(),
+        };
+        let mut pool = pool.some(chance, 1000);
+        pool.add_drawn(chance, size(*names, 3), 1000);
+        (shape, pool)
+    }
+
+    /// What a description is once unfolded, after a look in these records whether the same items fit it.
+    fn plain_in(&self, pool: &Pool, d: &[Entry]) -> Result<Vec<Entry>, Difference> {
+        let plain = reference::decode(&agree::plain(self.given.under(), &encode(d)));
+        confirm_unfolded(pool, &self.dictionary, d, &plain)?;
+        Ok(plain)
     }
 
     /// Descriptions and specimens at the limit.
@@ -690,7 +790,7 @@ impl Rounds {
         self.fit(&encode(&s), &encode(&c))?;
         let made = self.specimen_for(&c);
         self.fit(&encode(&made), &encode(&c))?;
-        Ok(())
+        self.two(&shape).map(|_| ())
     }
 }
 

@@ -85,10 +85,15 @@ impl Pool {
 
     /// For each item of each record, whether it fits the accepted description.
     pub fn fitting(&self, d: &[Entry]) -> Vec<bool> {
-        let items = |record: &Record| 0..record.items;
+        self.fitting_named(&Dictionary::default(), d)
+    }
+
+    /// The same by what the names of this dictionary mean.
+    pub fn fitting_named(&self, dictionary: &Dictionary, d: &[Entry]) -> Vec<bool> {
+        let (names, items) = (&dictionary.descriptions, |record: &Record| 0..record.items);
         self.records
             .iter()
-            .flat_map(|record| items(record).map(move |item| fits(record, item, d, 0)))
+            .flat_map(|record| items(record).map(move |item| fits_named(record, item, names, d, 0)))
             .collect()
     }
 

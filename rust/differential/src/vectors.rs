@@ -8,16 +8,17 @@
 //! | 2-3 | the length of the list of pairs |
 //! | 4-5 | the length of the dictionary |
 //! | 6-7 | the length of input 1 |
-//! | 8-9 | the length of input 2, 0 for a call of one input |
+//! | 8-9 | the length of input 2, which of the catalogue is its list of services; 0 for a call of one input |
 //! | 10-11 | the length of the output, 0 for a call without one |
 //! | 12-13 | a number for a call that takes one; no call of today does, and it is 0 |
 //! | 14-15 | 0 |
 //!
 //! After byte 15 come the list, the dictionary, input 1 and input 2, with nothing between them and nothing before the next header.
-//! The fit answer, the normal form and the comparison are always made with the list and the dictionary, which may be empty; the
-//! unfolding is made with the dictionary, and its list has length 0; the two readers take neither. A call without pairs is one with
-//! a list of length 0, and one without a dictionary one with a dictionary of length 0. No length of a dictionary is above
-//! [`MOST_DICTIONARY`], and no other above [`MOST_LENGTH`]. Each byte of the output is [`FILL`] before the call.
+//! The fit answer, the normal form, the comparison and the catalogue are always made with the list and the dictionary, which may be
+//! empty; the unfolding is made with the dictionary, and its list has length 0; the two readers take neither. A call without pairs
+//! is one with a list of length 0, and one without a dictionary one with a dictionary of length 0. No length of a dictionary is
+//! above [`MOST_DICTIONARY`], none of a list of services above [`MOST_LIST`], and no other above [`MOST_LENGTH`]. Each byte of
+//! the output is [`FILL`] before the call.
 
 use std::fmt;
 
@@ -32,6 +33,8 @@ pub const FILL: u8 = 165;
 pub const MOST_LENGTH: usize = 17_408;
 /// The most bytes of a dictionary of a vector: 66 blocks.
 pub const MOST_DICTIONARY: usize = 33_792;
+/// The most bytes of the list of services of a vector: 66 blocks.
+pub const MOST_LIST: usize = 33_792;
 /// The most vectors of a list.
 pub const MOST_VECTORS: usize = 1500;
 /// What the digest of an output stays below, the largest prime below 2^32.
@@ -52,12 +55,14 @@ pub enum Call {
     Compare = 5,
     /// Input 1 unfolded, with the dictionary.
     Unfold = 6,
+    /// Input 1 compared with each service of the list in input 2, under the list of pairs and the dictionary.
+    Catalogue = 7,
 }
 
 impl Call {
     /// Whether the call has an output.
-    fn writes(self) -> bool {
-        matches!(self, Call::NormalForm | Call::Compare | Call::Unfold)
+    pub fn writes(self) -> bool {
+        !matches!(self, Call::Description | Call::Specimen | Call::Fit)
     }
 }
 
@@ -70,6 +75,7 @@ impl fmt::Display for Call {
             Call::NormalForm => "normal form",
             Call::Compare => "compare",
             Call::Unfold => "unfold",
+            Call::Catalogue => "catalogue",
         })
     }
 }
@@ -81,7 +87,7 @@ pub enum Answer {
     Accepted(usize),
     /// Whether the top item fits.
     Fits(bool),
-    /// So many entries that are written.
+    /// So many entries that are written, or bytes that are filled.
     Wrote(usize),
     /// The answer of the comparison.
     Compared(Comparison),
@@ -170,6 +176,11 @@ impl Vector {
         Vector::of(Call::Unfold, description, Vec::new(), output)
     }
 
+    /// The catalogue, with an output of this length.
+    pub fn catalogue(c: Vec<u8>, list: Vec<u8>, output: usize) -> Vector {
+        Vector::of(Call::Catalogue, c, list, output)
+    }
+
     fn of(call: Call, first: Vec<u8>, second: Vec<u8>, output: usize) -> Vector {
         Vector {
             call,
@@ -231,6 +242,9 @@ impl Vector {
                 reference::compare_with(pairs, dict, first, second, &mut out).map(Answer::Compared)
             }
             Call::Unfold => reference::unfold(dict, first, &mut out).map(Answer::Wrote),
+            Call::Catalogue => {
+                reference::catalogue(pairs, dict, first, second, &mut out).map(Answer::Wrote)
+            }
         };
         (answer.unwrap_or_else(Answer::Refused), out)
     }
@@ -266,11 +280,14 @@ pub fn all() -> Vec<Vector> {
         named::single_links(),
         named::excluding::all(),
         named::naming::all(),
+        named::catalogue::all(),
+        named::doubles::all(),
         named::desk(),
         named::report(),
         drawn::drawn(),
         drawn::listed(),
         drawn::naming(),
+        drawn::catalogues(),
         drawn::at_the_limit(),
     ];
     lists.into_iter().flatten().collect()

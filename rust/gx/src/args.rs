@@ -21,6 +21,8 @@ pub enum Command {
     Fit,
     /// The comparison.
     Compare,
+    /// One description compared with many.
+    Catalogue,
     /// A description without named entries.
     Unfold,
     /// The question in OWL.
@@ -31,13 +33,14 @@ pub enum Command {
 
 impl Command {
     /// All commands, in the order of the help.
-    pub const ALL: [Command; 9] = [
+    pub const ALL: [Command; 10] = [
         Command::Show,
         Command::Write,
         Command::Check,
         Command::Normal,
         Command::Fit,
         Command::Compare,
+        Command::Catalogue,
         Command::Unfold,
         Command::Owl,
         Command::FromOwl,
@@ -52,6 +55,7 @@ impl Command {
             Command::Normal => "normal",
             Command::Fit => "fit",
             Command::Compare => "compare",
+            Command::Catalogue => "catalogue",
             Command::Unfold => "unfold",
             Command::Owl => "owl",
             Command::FromOwl => "from-owl",
@@ -112,7 +116,9 @@ impl Command {
                 "--numbers",
                 "--out",
             ],
-            Command::Fit => &["--names", "--pairs", "--dictionary", "--json", "--from"],
+            Command::Fit | Command::Catalogue => {
+                &["--names", "--pairs", "--dictionary", "--json", "--from"]
+            }
             Command::Compare => &[
                 "--names",
                 "--pairs",
@@ -151,7 +157,10 @@ impl Command {
 
     /// Whether what it prints is an answer and not data: then a refusal is an answer too.
     pub fn answers(self) -> bool {
-        matches!(self, Command::Check | Command::Fit | Command::Compare)
+        matches!(
+            self,
+            Command::Check | Command::Fit | Command::Compare | Command::Catalogue
+        )
     }
 }
 
@@ -292,6 +301,11 @@ impl<'a> Line<'a> {
         let (word, count) = (self.command.word(), self.files.len());
         if self.command.takes_pair() && count != 2 {
             return Err(format!("{word} takes two inputs, and {count} are given"));
+        }
+        if self.command == Command::Catalogue && count < 2 {
+            return Err(format!(
+                "{word} takes two inputs or more, and {count} are given"
+            ));
         }
         let read = self.files.iter().chain(&self.options.pairs);
         let read = read.chain(&self.options.dictionary);

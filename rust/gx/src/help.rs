@@ -39,6 +39,9 @@ pub fn of(command: Command) -> String {
         Command::Compare => {
             "0 contained, 1 not contained, 2 refused or a mistake in the input, 64 wrong usage.\n"
         }
+        Command::Catalogue => {
+            "0 contained in each, 1 not in one or more, 2 refused or a mistake in an input, 64 wrong usage.\n"
+        }
         _ => "0 done, 2 refused or a mistake in the input, 64 wrong usage.\n",
     });
     out.push_str("gx --help tells how inputs, texts and names files are written.\n");
@@ -49,6 +52,7 @@ fn inputs(command: Command) -> &'static str {
     match command {
         Command::Fit => "SPECIMEN DESCRIPTION",
         Command::Compare | Command::Owl => "SUPPLIER SERVICE",
+        Command::Catalogue => "SUPPLIER SERVICES...",
         _ => "[FILE...]",
     }
 }
@@ -73,6 +77,10 @@ fn about(command: Command) -> (&'static str, &'static str) {
             "compare SUPPLIER SERVICE",
             "whether the first is contained in the second; a no explained",
         ),
+        Command::Catalogue => (
+            "catalogue SUPPLIER SERVICES",
+            "which services contain the supplier's description",
+        ),
         Command::Unfold => (
             "unfold FILE",
             "a description with its named entries replaced by what they stand for",
@@ -96,6 +104,7 @@ fn detail(command: Command) -> &'static str {
         Command::Normal => NORMAL,
         Command::Fit => "Answers whether the top item of the specimen fits the description; for a no it names the first entry that is not met.\nWith --pairs a specimen is refused in which an item has both properties of a pair (12).\n",
         Command::Compare => COMPARE,
+        Command::Catalogue => CATALOGUE,
         Command::Unfold => UNFOLD,
         Command::Owl => "Writes an ontology with the classes Supplier and Service, and SupplierOnly for what fits the first and not the second. The\nsupplier's description is contained in the service's exactly if a reasoner finds Supplier below Service, or SupplierOnly\nunsatisfiable. Property 7 is the class property_7, link 1 the object property link_1; words become labels. Links from 32768 up\nare functional. With --pairs the two properties of a pair are disjoint classes. Named entries are unfolded.\n",
         Command::FromOwl => FROM_OWL,
@@ -132,6 +141,13 @@ Answers whether every item that fits the supplier's description fits the service
 where it stands, what the supplier's description says there, and shows a specimen that fits the first and not the second. With
 --pairs the answer is about the records that keep the list, and so is the specimen. Named entries are unfolded: what is told and
 shown, and the numbers of entries, are those of the plain descriptions.
+";
+
+const CATALOGUE: &str = "\
+Answers for each service whether every item that fits the supplier's description fits the service's: a line with its file name, and
+'contained' or 'not contained'. 'gx compare' explains a no. Services are files, folders of files, or one file that is a list: the
+blocks of up to 64 services laid end to end, where each block numbered 1 begins one. A service that is refused stops none of the
+others. The library is asked once for 64 services. With --pairs and --dictionary the answers are those of 'gx compare' with them.
 ";
 
 const FROM_OWL: &str = "\
@@ -219,6 +235,9 @@ them too; each may name only earlier ones. With --dictionary an entry 'named 2',
 in at that place. A name that the dictionary does not have is refused (13), so is a description that has more than 1,008 entries
 or goes deeper than 32 once unfolded (14), and so is a dictionary with more than 64 descriptions (8). A refusal of the dictionary
 has input 100, one of its n-th description input 100 + n.
+
+A list of services, for gx catalogue, is the blocks of up to 64 descriptions laid end to end, where each block numbered 1 begins
+one. A refusal of the list has input 2 (1, 8), one of its n-th service input 1 + n.
 
 A names file has lines like
     property 7 \"sealed\"

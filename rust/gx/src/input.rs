@@ -203,7 +203,8 @@ impl Reading {
         accepted(path, draft, input, naming)
     }
 
-    fn form_of(&self, bytes: &[u8]) -> Form {
+    /// The form that is forced, or the one that these bytes have.
+    pub fn form_of(&self, bytes: &[u8]) -> Form {
         self.form.unwrap_or(Form::of(bytes))
     }
 
@@ -399,6 +400,21 @@ pub fn accepted_list(path: &Path, draft: List) -> Result<List, Trouble> {
         shown: refused::shown_pairs(refusal, &draft),
         refusal,
         at: draft.positions.get(place.wrapping_sub(1)).copied(),
+    })
+}
+
+/// The list of services, if the library does not refuse it as a whole.
+///
+/// # Errors
+///
+/// The refusal.
+pub fn accepted_services(path: &Path, list: &[u8]) -> Result<(), Trouble> {
+    library::read_services(list).map_err(|refusal| Trouble::Refused {
+        file: named(path),
+        why: refused::why_services(refusal, list),
+        shown: String::new(),
+        refusal,
+        at: None,
     })
 }
 

@@ -120,6 +120,37 @@ pub fn compare(under: Under<'_>, c: &[u8], d: &[u8]) -> Result<Compared, Refusal
     })
 }
 
+/// The most services of a list.
+pub const MOST_SERVICES: usize = 64;
+
+/// The refusal of a list of services as a whole, if it has one: its length is wrong, or it has too many. It is looked at after the
+/// supplier's description and before the services, so one without entries tells. A first service that is too long has the same
+/// number and place; but then the list has whole blocks.
+///
+/// # Errors
+///
+/// The library's refusal.
+pub fn read_services(list: &[u8]) -> Result<(), Refusal> {
+    let whole = !list.is_empty() && list.len().is_multiple_of(BLOCK);
+    match Under::default().catalogue(&encode(&[]), list, &mut []) {
+        Err(refusal) if refusal.reason == Reason::TooMany || !whole => Err(refusal),
+        _ => Ok(()),
+    }
+}
+
+/// Whether a supplier's description is contained in each of these services, at most [`MOST_SERVICES`].
+///
+/// # Errors
+///
+/// The library's refusal.
+pub fn catalogue(
+    under: Under<'_>,
+    supplier: &[u8],
+    services: &[&[u8]],
+) -> Result<Vec<bool>, Refusal> {
+    under.catalogue_of(supplier, services)
+}
+
 /// The bytes of the blocks that hold so many entries.
 fn length_of(entries: usize) -> usize {
     BLOCK * entries.div_ceil(BLOCK_ENTRIES).max(1)

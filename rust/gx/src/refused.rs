@@ -7,6 +7,7 @@ use goltximen::{Reason, Refusal};
 use crate::blocks::{self, Frame, BLOCK, BLOCK_ENTRIES};
 use crate::dictionary::{self, measure, Dictionary, Measure, Naming, MOST_DESCRIPTIONS};
 use crate::entry::{Entry, Named, Property, Sort};
+use crate::library::MOST_SERVICES;
 use crate::names::Names;
 use crate::pairs::{List, Pair, MOST_PAIRS, PAIR};
 use crate::text;
@@ -64,6 +65,18 @@ pub fn why_list(refusal: Refusal, list: &List) -> String {
             counted(list.pairs.len(), "whole pair", "whole pairs"),
             counted(rest, "byte more", "bytes more")
         ),
+    }
+}
+
+/// Why a list of services is refused as a whole, in words.
+pub fn why_services(refusal: Refusal, list: &[u8]) -> String {
+    match (refusal.reason, list.len()) {
+        (Reason::TooMany, _) => format!(
+            "the list has {} services, and the most is {MOST_SERVICES}",
+            grouped(dictionary::split(list).len() as u32)
+        ),
+        (_, 0) => "there is no service".into(),
+        (_, length) => length_fault("the list", length),
     }
 }
 

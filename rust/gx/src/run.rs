@@ -1,5 +1,7 @@
 //! One run of the program: the inputs of the command line, one by one, and what is printed of each answer.
 
+mod catalogue;
+
 use std::collections::BTreeSet;
 use std::ffi::OsString;
 use std::io::{ErrorKind, IsTerminal, Write};
@@ -60,6 +62,19 @@ fn complain(words: &str) {
     let _ = std::io::stderr().lock().write_all(words.as_bytes());
 }
 
+/// Tells how far the run is, where somebody looks on.
+fn show_progress(looked_at: bool, at: usize, of: usize) {
+    if looked_at {
+        complain(&format!("\r{at} of {of}"));
+    }
+}
+
+fn end_progress(looked_at: bool) {
+    if looked_at {
+        complain("\r\x1b[K");
+    }
+}
+
 fn done(command: Command, files: &[PathBuf], options: Options) -> u8 {
     let names = options
         .names
@@ -90,6 +105,9 @@ fn done(command: Command, files: &[PathBuf], options: Options) -> u8 {
         run.print_trouble(&trouble, many);
         return Status::Bad.code();
     }
+    if command == Command::Catalogue {
+        return run.catalogue(files);
+    }
     if many {
         return run.lines(files);
     }
@@ -105,6 +123,17 @@ fn done(command: Command, files: &[PathBuf], options: Options) -> u8 {
 struct Run {
     command: Command,
     context: Context,
+}
+
+/// Fields for programs.
+type Fields = Vec<(&'static str, Json)>;
+
+/// What is said of one of many: how it ends, a line, and the same for programs.
+type Said = (Status, String, Fields);
+
+/// What is said of one that has no answer.
+fn said_of(trouble: &Trouble) -> Said {
+    (Status::Bad, trouble.line(), trouble.json())
 }
 
 impl Run {
@@ -187,17 +216,7 @@ impl Run {
 
     /// A line for each input, or for each pair of inputs; the worst status.
     fn lines(&self, files: &[PathBuf]) -> u8 {
-        let mut worst = Status::Yes;
-        let mut sides = Vec::new();
-        for file in files {
-            match self.side(file) {
-                Ok(side) => sides.push(side),
-                Err(trouble) => {
-                    complain(&format!("gx: {}", trouble.lines()));
-                    worst = Status::Bad;
-                }
-            }
-        }
+        let (sides, mut worst) = self.sides(files);
         let jobs = match (self.command.takes_pair(), sides.as_slice()) {
             (false, _) => sides
                 .concat()
@@ -215,16 +234,28 @@ impl Run {
         }
         let progress = std::io::stderr().is_terminal();
         for (at, job) in jobs.iter().enumerate() {
-            if progress {
-                complain(&format!("\r{} of {}", at + 1, jobs.len()));
-            }
+            show_progress(progress, at + 1, jobs.len());
             let status = self.line(job, files, progress);
             worst = worst.max(status);
         }
-        if progress {
-            complain("\r\x1b[K");
-        }
+        end_progress(progress);
         worst.code()
+    }
+
+    /// The files that each argument names. A folder that cannot be read is told, and makes the status a bad one.
+    fn sides(&self, files: &[PathBuf]) -> (Vec<Vec<PathBuf>>, Status) {
+        let mut worst = Status::Yes;
+        let mut sides = Vec::new();
+        for file in files {
+            match self.side(file) {
+                Ok(side) => sides.push(side),
+                Err(trouble) => {
+                    complain(&format!("gx: {}", trouble.lines()));
+                    worst = Status::Bad;
+                }
+            }
+        }
+        (sides, worst)
     }
 
     /// A name that two answers have, where answers are written into files called by their names.
@@ -257,23 +288,30 @@ impl Run {
             }
             Ok(answer)
         });
-        let (status, line, json) = match answer {
+        let said = match answer {
             Ok(answer) => (answer.status, answer.line, answer.json),
             Err(trouble) => {
                 self.store_refused(&trouble, Some(&name));
-                (Status::Bad, trouble.line(), trouble.json())
+                said_of(&trouble)
             }
         };
+        let first = vec![("file", Json::text(&name))];
+        self.print_line(&name, first, said, progress)
+    }
+
+    /// Prints what is said of one of many: on a line after its name, or for programs after these fields.
+    fn print_line(
+        &self,
+        name: &str,
+        first: Fields,
+        (status, line, json): Said,
+        progress: bool,
+    ) -> Status {
         let shown = match self.options().json {
-            true => {
-                let first = Json::Object(vec![("file", Json::text(&name))]);
-                format!("{}\n", first.with(json))
-            }
+            true => format!("{}\n", Json::Object(first).with(json)),
             false => format!("{name}: {line}\n"),
         };
-        if progress && std::io::stdout().is_terminal() {
-            complain("\r\x1b[K");
-        }
+        end_progress(progress && std::io::stdout().is_terminal());
         printed(shown.as_bytes(), status)
     }
 

@@ -74,7 +74,11 @@ pub fn compare_with(
 }
 
 /// The first entry of D that fails, with its number.
-fn first_that_fails(n: &Place, d_entries: &[Entry], pairs: &Pairs) -> Option<(usize, Entry)> {
+pub(crate) fn first_that_fails(
+    n: &Place,
+    d_entries: &[Entry],
+    pairs: &Pairs,
+) -> Option<(usize, Entry)> {
     (1..)
         .zip(d_entries)
         .find(|(_, e)| !holds(n, &way(d_entries, e), e, pairs))

@@ -5,12 +5,12 @@
 //! works on trees of places, then writes its answer as blocks. Comments in
 //! quotation marks are sentences of that paper, or of the requests "A second
 //! check in each block", "Links that lead to one item only", "Properties that
-//! exclude each other" and "Named descriptions" that came after it; "P1" in
-//! them is the request "All services in one call".
+//! exclude each other", "Named descriptions" and "All services in one call",
+//! which is P1 in them, that came after it.
 //!
-//! [`fit_with`], [`normal_with`] and [`compare_with`] take a list of excluding
-//! pairs and a dictionary; [`fit`], [`normal_form`] and [`compare`] are the
-//! calls with no pairs and no dictionary. [`unfold`] takes a dictionary.
+//! [`fit_with`], [`normal_with`], [`compare_with`] and [`catalogue`] take a list
+//! of excluding pairs and a dictionary; [`fit`], [`normal_form`] and [`compare`]
+//! are the calls with no pairs and no dictionary. [`unfold`] takes a dictionary.
 //!
 //! No call panics, whatever bytes it is given. [`notation`] is for tests.
 
@@ -19,6 +19,7 @@
 
 mod background;
 mod blocks;
+mod catalogue;
 mod compare;
 mod dictionary;
 mod list;
@@ -35,6 +36,7 @@ mod tree;
 mod unfolding;
 
 pub use blocks::{decode, encode, Entry};
+pub use catalogue::catalogue;
 pub use compare::{compare, compare_with, Comparison};
 pub use normal::{normal_form, normal_with};
 pub use program::run_program;

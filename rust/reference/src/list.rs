@@ -3,7 +3,8 @@
 use crate::blocks::{stored_number, BLOCK_BYTES};
 use crate::refusal::{Refusal, LENGTH, TOO_MANY};
 
-/// "a list of 1 to 64 [...] descriptions laid end to end"
+/// "a list of 1 to 64 service descriptions laid end to end", and "A dictionary
+/// is a list like P1's"
 const MOST_DESCRIPTIONS: usize = 64;
 
 /// The bytes of each description in a list; a list of length 0 has none.

@@ -4,15 +4,17 @@
 ///
 /// "A place counts blocks or entries of that input from 1 by position, not
 /// by a stored number. A refusal also returns the input (1 or 2; 0 for
-/// number 7)." Later requests add input 0 for number 11, which counts pairs,
-/// and for a dictionary input 100, "its n-th description as 100 + n".
+/// number 7)." Later requests add input 0 for number 11, which counts pairs;
+/// for a dictionary input 100, "its n-th description as 100 + n"; and for a
+/// service in a list "1 plus the service's position".
 #[derive(Clone, Copy, Debug, PartialEq, Eq)]
 pub struct Refusal {
     /// The number in the first column of the table of refusals, 1 to 7, or a
     /// number that a request adds: 8, 9 or 11 to 14.
     pub number: u8,
-    /// The input that is refused: 1 or 2; 0 for numbers 7 and 11; 100 for the
-    /// dictionary and 101 to 164 for its descriptions.
+    /// The input that is refused: 1 or 2; 0 for numbers 7 and 11; 2 for a list
+    /// of services and 2 to 65 for the services in it; 100 for the dictionary
+    /// and 101 to 164 for its descriptions.
     pub input: u16,
     /// The block, entry or pair that decides, or 0 for numbers 1, 7, 8 and 14
     /// and for a list of pairs of a wrong length.

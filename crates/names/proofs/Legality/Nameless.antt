@@ -126,9 +126,13 @@ not-large i s e =
     rw (plain-itself i s e) (of-small (entriesOf s)
     (record { size = entries-limit (sound-of-accepted (Named 0) i s e .blocks); depth = accepted-legal 0 i s e .depth }))
 
+-- so that what no number up to 13 refuses is taken
+pub nameless-taken : (i : ℕ) (s : List ℕ) {n : ℕ} → readingOf (Named 0) i s ≡ Accepted n → namedReading [] i s ≡ Accepted n
+nameless-taken i s e = named-taken [] i s e (not-large i s e)
+
 -- with no dictionary: 13 in place of 4 where the entry is a name
 pub named-none : (i : ℕ) (s : List ℕ) → namedReading [] i s ≡ unnamed (λ p. entryOf s p p) (readingOf Description i s)
 named-none i s =
     reading-cases (readingOf (Named 0) i s)
     (λ k j p e. named-refused [] i s e ∙ sym e ∙ reading-unnamed i s)
-    (λ n e. named-taken [] i s e (not-large i s e) ∙ sym e ∙ reading-unnamed i s)
+    (λ n e. nameless-taken i s e ∙ sym e ∙ reading-unnamed i s)

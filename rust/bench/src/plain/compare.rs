@@ -70,12 +70,8 @@ fn sized<const N: usize>(
     out: &mut [u8],
 ) -> Result<Comparison, Refusal> {
     let mut slots = Slots::<N>::new();
-    c.read::<N>(1, |number, entry| slots.enter(number, entry))?;
-    if let Some(pairs) = pairs {
-        slots.restrict(pairs);
-    }
-    slots.settle();
-    let failing = first_failing(pairs, &slots, d)?;
+    enter_all(&mut slots, pairs, c)?;
+    let failing = first_failing::<N, N>(pairs, &slots, d, 2)?;
     let (c, d) = (c.bytes(), d.bytes());
     if out.len() < c.len() + d.len() {
         return Err(TOO_SHORT);
@@ -90,18 +86,34 @@ fn sized<const N: usize>(
     })
 }
 
-/// Reads D, and answers the first entry that fails, or 0.
+/// Reads C into slots that are still free, and settles them.
 #[inline(always)]
-fn first_failing<const N: usize>(
+pub fn enter_all<const N: usize>(
+    slots: &mut Slots<N>,
+    pairs: Option<&Pairs>,
+    c: Described,
+) -> Result<(), Refusal> {
+    c.read::<N>(1, |number, entry| slots.enter(number, entry))?;
+    if let Some(pairs) = pairs {
+        slots.restrict(pairs);
+    }
+    slots.settle();
+    Ok(())
+}
+
+/// Reads D, of fewer than M entries, as the input of this number, and answers the first entry that fails, or 0.
+#[inline(always)]
+pub fn first_failing<const N: usize, const M: usize>(
     pairs: Option<&Pairs>,
     slots: &Slots<N>,
     d: Described,
+    input: u16,
 ) -> Result<usize, Refusal> {
     // A state for each 'every' entry: the place of C that it owns, or one of the two above.
-    let mut states = [0u16; N];
+    let mut states = [0u16; M];
     states[0] = if slots.is_broken() { PASSED } else { 0 };
     let mut failing = 0;
-    d.read::<N>(2, |number, entry| {
+    d.read::<M>(input, |number, entry| {
         if failing == 0 {
             let state = states[entry.owner()];
             let (holds, below) = look(pairs, slots, state, entry);

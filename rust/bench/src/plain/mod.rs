@@ -3,9 +3,11 @@
 //!
 //! Each call is compiled for three sizes of its tables, so that a small input doesn't pay for clearing large ones.
 
+mod catalogue;
 mod compare;
 mod entry;
 mod fit;
+mod list;
 mod names;
 mod normal;
 mod order;
@@ -19,6 +21,7 @@ mod slots;
 mod specimen;
 mod unfold;
 
+pub use catalogue::catalogue;
 pub use compare::{compare, compare_with, Comparison};
 pub use fit::{fit, fit_with};
 pub use names::unfold;
@@ -33,7 +36,8 @@ const BLOCK: usize = 512;
 pub struct Refusal {
     /// The number in the table of refusals, 1 to 9 or 11 to 14.
     pub number: u8,
-    /// The input, 1 or 2; 0 for numbers 7 and 11, 100 for the dictionary and 100 + n for its n-th description.
+    /// The input, 1 or 2; 0 for numbers 7 and 11, 1 + n for the n-th service of a list, 100 for the dictionary and 100 + n for its
+    /// n-th description.
     pub input: u16,
     /// The block, entry or pair; 0 for numbers 1, 7, 8 and 14 and for a list of a wrong length.
     pub place: u16,

@@ -1,5 +1,6 @@
 //! The dictionary: what its descriptions come to once unfolded, and calls that have one.
 
+use super::list::{Parts, MOST};
 use super::read::{
     entries_of, fault, is_right, place_fault, read, refusal, right_blocks, Block, DEEPEST, NAMING,
     NEVER,
@@ -7,8 +8,6 @@ use super::read::{
 use super::unfold::unfold_into;
 use super::{Refusal, BLOCK, TOO_SHORT};
 
-/// The most descriptions of a dictionary.
-const MOST: usize = 64;
 /// The most entries of a description once unfolded.
 const MOST_ENTRIES: u32 = 1008;
 /// The input number of the dictionary.
@@ -36,32 +35,21 @@ struct Extent {
 impl<'a> Names<'a> {
     /// Reads a dictionary; none where its length is 0.
     pub fn read(dictionary: &'a [u8]) -> Result<Option<Names<'a>>, Refusal> {
-        let (blocks, rest) = dictionary.as_chunks::<BLOCK>();
-        if !rest.is_empty() {
-            return Err(refusal(1, DICTIONARY, 0));
-        }
-        if blocks.is_empty() {
+        let parts = Parts::of(dictionary, DICTIONARY)?;
+        if parts.is_empty() {
             return Ok(None);
-        }
-        let later = blocks[1..].iter().filter(|block| begins(block));
-        if later.count() >= MOST {
-            return Err(refusal(8, DICTIONARY, 0));
         }
         let mut names = Names {
             parts: [&[]; MOST + 1],
             extents: [Extent::default(); MOST + 1],
             count: 0,
         };
-        let mut rest = blocks;
-        while let Some((_, later)) = rest.split_first() {
-            let length = later.iter().position(begins).unwrap_or(later.len());
-            let (part, next) = rest.split_at(length + 1);
+        for part in parts {
             let number = names.count + 1;
             let extent = names.extent(part.as_flattened(), DICTIONARY + number as u16)?;
             names.parts[number] = part;
             names.extents[number] = extent;
             names.count = number;
-            rest = next;
         }
         Ok(Some(names))
     }
@@ -150,11 +138,6 @@ impl<'a> Names<'a> {
             _ => unfold_into::<512>(self, blocks, out),
         }
     }
-}
-
-/// Whether a block that is not the first begins a description.
-fn begins(block: &Block) -> bool {
-    block[..2] == [1, 0]
 }
 
 /// The bytes of the blocks of this many entries.

@@ -1,5 +1,6 @@
 //! The plain Rust gives the same answers and output bytes as the reference, and so does the proved library.
 
+mod catalogue;
 mod excluding;
 mod naming;
 

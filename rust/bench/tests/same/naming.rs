@@ -31,7 +31,7 @@ fn naming(entries: &mut [Entry], count: usize, chance: &mut Chance) {
 }
 
 /// Entries that name some of so many descriptions.
-fn drawn_naming(entries: usize, count: usize, chance: &mut Chance) -> Vec<Entry> {
+pub fn drawn_naming(entries: usize, count: usize, chance: &mut Chance) -> Vec<Entry> {
     let names = [2, 4, 40, 65_535][chance.below(4)];
     let mut drawn = draw(
         &Draw {
@@ -46,7 +46,7 @@ fn drawn_naming(entries: usize, count: usize, chance: &mut Chance) -> Vec<Entry>
 }
 
 /// A dictionary of any number of descriptions, mostly small ones; one in eight is spoiled.
-fn drawn_dictionary(chance: &mut Chance) -> (usize, Vec<u8>) {
+pub fn drawn_dictionary(chance: &mut Chance) -> (usize, Vec<u8>) {
     let count = [0, 1, 2, 5, 20, 63, MOST_NAMES, 65][chance.below(8)];
     let mut dictionary = Vec::new();
     for earlier in 0..count {

@@ -2,6 +2,7 @@
 //!
 //! An entry is written as its kind, owner, name and number.
 
+mod catalogue;
 mod named;
 mod under;
 

@@ -4,12 +4,12 @@ use super::*;
 use goltximen::{unfold, Under};
 
 /// "as described under this number", owned by this entry.
-fn named(owner: u16, name: u16) -> [u16; 4] {
+pub fn named(owner: u16, name: u16) -> [u16; 4] {
     [9, owner, name, 0]
 }
 
 /// The blocks of these descriptions, end to end.
-fn laid(descriptions: &[&[[u16; 4]]]) -> Vec<u8> {
+pub fn laid(descriptions: &[&[[u16; 4]]]) -> Vec<u8> {
     descriptions.iter().flat_map(|d| blocks(d)).collect()
 }
 

@@ -1,5 +1,7 @@
 //! Vectors of the paper's cases, of the requests' statements and of the examples that the report prints.
 
+pub mod catalogue;
+pub mod doubles;
 pub mod excluding;
 pub mod naming;
 

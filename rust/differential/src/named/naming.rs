@@ -31,7 +31,7 @@ pub fn all() -> Vec<Vector> {
 }
 
 /// The blocks of these texts, end to end.
-fn dictionary(texts: &[&str]) -> Vec<u8> {
+pub(super) fn dictionary(texts: &[&str]) -> Vec<u8> {
     texts.iter().flat_map(|text| blocks(text)).collect()
 }
 
@@ -51,7 +51,7 @@ fn unfold_entries(entries: &[Entry]) -> Vector {
 }
 
 /// The vectors with this dictionary.
-fn with(dictionary: &[u8], vectors: Vec<Vector>) -> Vec<Vector> {
+pub(super) fn with(dictionary: &[u8], vectors: Vec<Vector>) -> Vec<Vector> {
     let each = vectors.into_iter();
     each.map(|vector| vector.with(dictionary)).collect()
 }
@@ -81,9 +81,9 @@ fn in_each_input(dictionary: &[u8], d: &[u8]) -> Vec<Vector> {
 }
 
 /// The block of one property, with this number and right checks.
-fn numbered(number: u8) -> Vec<u8> {
+pub(super) fn numbered(number: u16) -> Vec<u8> {
     let mut block = blocks("1,7");
-    block[0] = number;
+    block[..2].copy_from_slice(&number.to_le_bytes());
     seal(&mut block);
     block
 }

@@ -1,5 +1,7 @@
 //! A fixed number of drawn cases, and sweeps over every byte, place and length that decides.
 
+mod catalogue;
+mod doubles;
 mod excluding;
 mod naming;
 
@@ -174,14 +176,8 @@ fn all_tiny_pairs_of_both_sorts_of_links() {
     assert_eq!(count, (1 + 17 + 17 * 17 + 2 * 17, 8 + 4 * 16 * 9));
 }
 
-/// All pairs of descriptions of at most two entries over so many properties and links, against all records of at most so many
-/// items that keep the rule and the list. Gives the numbers of descriptions and records.
-fn all_tiny_pairs(
-    given: &Given,
-    names: Names,
-    (properties, links): (u16, u16),
-    most_items: usize,
-) -> (usize, usize) {
+/// All records of at most so many items over so many properties and links that keep the rule.
+fn all_records(names: Names, (properties, links): (u16, u16), most_items: usize) -> Pool {
     let mut pool = Pool::empty();
     for items in 1..=most_items {
         pool.add_all(Size {
@@ -191,6 +187,18 @@ fn all_tiny_pairs(
             names,
         });
     }
+    pool
+}
+
+/// All pairs of descriptions of at most two entries over so many properties and links, against all records of at most so many
+/// items that keep the rule and the list. Gives the numbers of descriptions and records.
+fn all_tiny_pairs(
+    given: &Given,
+    names: Names,
+    (properties, links): (u16, u16),
+    most_items: usize,
+) -> (usize, usize) {
+    let pool = all_records(names, (properties, links), most_items);
     let (pool, under) = (pool.keeping(&given.pairs), given.under());
     let all = tiny_descriptions(names, properties, links);
     let fitting: Vec<Vec<bool>> = all.iter().map(|d| pool.fitting(d)).collect();

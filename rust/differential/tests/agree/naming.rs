@@ -465,15 +465,7 @@ fn no_dictionary() {
 /// fit by what the names mean.
 #[test]
 fn all_tiny_names_in_all_records() {
-    let mut pool = Pool::empty();
-    for items in 1..=2 {
-        pool.add_all(Size {
-            items,
-            properties: 1,
-            links: 1,
-            names: Names::Low,
-        });
-    }
+    let pool = all_records(Names::Low, (1, 1), 2);
     let all = tiny_descriptions(Names::Low, 1, 1);
     let chance = &mut Chance::from_seed(25);
     for first in &all {

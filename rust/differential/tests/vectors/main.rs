@@ -1,6 +1,8 @@
 //! The vectors: the files that are kept are the ones that are made, every answer comes often enough, and the named cases give what
 //! the paper and the report say.
 
+mod catalogue;
+mod doubles;
 mod excluding;
 mod naming;
 
@@ -12,7 +14,7 @@ use differential::chance::Chance;
 use differential::excluding::Given;
 use differential::vectors::{
     digest, standard_input, standard_output, Answer, Call, Vector, FILL, MOST_DICTIONARY,
-    MOST_LENGTH, MOST_VECTORS,
+    MOST_LENGTH, MOST_LIST, MOST_VECTORS,
 };
 use differential::{drawn, named};
 use reference::notation::{blocks, entry};
@@ -69,17 +71,12 @@ fn wrote_entries(answer: &'static str, entries: &[Entry]) -> Expected {
     }
 }
 
-/// Whether the call has an output.
-fn writes(call: Call) -> bool {
-    matches!(call, Call::NormalForm | Call::Compare | Call::Unfold)
-}
-
 /// Each vector gives the line that is expected, with the digest of an output that starts with what is written.
 fn check(vectors: &[Vector], expected: &[Expected]) {
     assert_eq!(vectors.len(), expected.len());
     for (number, (vector, expected)) in (1..).zip(vectors.iter().zip(expected)) {
         let mut line = format!("{number} {}", expected.answer);
-        if writes(vector.call) {
+        if vector.call.writes() {
             let mut out = vec![FILL; vector.output];
             out[..expected.written.len()].copy_from_slice(&expected.written);
             line += &format!(" output {}", digest(&out));
@@ -122,16 +119,19 @@ fn the_digest() {
 fn as_many_and_as_long_as_allowed() {
     let vectors = all();
     assert!(vectors.len() <= MOST_VECTORS);
-    assert!(standard_input(vectors).len() < 2_400_000);
+    assert!(standard_input(vectors).len() < 2_900_000);
     for vector in vectors {
         let [pairs, dictionary, first, second] = vector.parts().map(<[u8]>::len);
         assert!(dictionary <= MOST_DICTIONARY);
-        let lengths = [pairs, first, second];
-        assert!(lengths.iter().all(|&length| length <= MOST_LENGTH));
+        let most_second = match vector.call {
+            Call::Catalogue => MOST_LIST,
+            _ => MOST_LENGTH,
+        };
+        assert!(pairs.max(first) <= MOST_LENGTH && second <= most_second);
         assert!(vector.output <= MOST_LENGTH);
-        let one_input = !matches!(vector.call, Call::Fit | Call::Compare);
+        let one_input = !matches!(vector.call, Call::Fit | Call::Compare | Call::Catalogue);
         assert!(vector.second.is_empty() || !one_input);
-        assert!(vector.output == 0 || writes(vector.call));
+        assert!(vector.output == 0 || vector.call.writes());
         // The unfolding takes no list.
         assert!(pairs == 0 || vector.call != Call::Unfold);
     }
@@ -140,7 +140,7 @@ fn as_many_and_as_long_as_allowed() {
 /// Each answer of each call at least ten times, in the whole list and in the drawn parts; a call's refusals together are one.
 #[test]
 fn each_answer_of_each_call() {
-    let drawn = [drawn::drawn(), drawn::naming()].concat();
+    let drawn = [drawn::drawn(), drawn::naming(), drawn::catalogues()].concat();
     for vectors in [all(), &drawn] {
         let sorts = sorts(vectors);
         for answer in [
@@ -152,6 +152,7 @@ fn each_answer_of_each_call() {
             "compare contained",
             "compare not contained",
             "unfold",
+            "catalogue",
         ] {
             assert!(sorts[answer] >= 10, "{answer}");
         }
@@ -162,6 +163,7 @@ fn each_answer_of_each_call() {
             "normal form",
             "compare",
             "unfold",
+            "catalogue",
         ] {
             let refused = format!("{call} refused");
             let times = sorts.iter().filter(|(sort, _)| sort.starts_with(&refused));
@@ -217,6 +219,29 @@ fn each_refusal() {
     ] {
         assert!(sorts[&format!("unfold {refusal}")] >= 2, "unfold {refusal}");
     }
+    for (number, input) in [
+        (11, 0),
+        (1, 100),
+        (13, 103),
+        (1, 1),
+        (4, 1),
+        (13, 1),
+        (14, 1),
+        (1, 2),
+        (8, 2),
+        (2, 2),
+        (3, 3),
+        (4, 4),
+        (5, 4),
+        (6, 4),
+        (13, 4),
+        (14, 4),
+        (1, 3),
+        (7, 0),
+    ] {
+        let sort = format!("catalogue refused {number} input {input}");
+        assert!(sorts.contains_key(&sort), "{sort}");
+    }
     assert!(sorts["fit refused 12 input 1"] >= 3);
     assert!(sorts["normal form refused 7 input 0"] >= 3);
     assert!(sorts["compare refused 7 input 0"] >= 3);
@@ -247,6 +272,7 @@ fn the_library_agrees() {
             Call::NormalForm => agree::normal_form(&mut chance, under, first, vector.output),
             Call::Compare => agree::compare(&mut chance, under, first, second, vector.output),
             Call::Unfold => agree::unfold(&mut chance, under.dictionary, first, vector.output),
+            Call::Catalogue => agree::catalogue(&mut chance, under, first, second, vector.output),
         };
         if let Err(difference) = agreed {
             panic!("vector {number}: {difference}");

@@ -1,5 +1,6 @@
 //! What each command answers. A command knows nothing of folders, terminals and exit statuses: see [`crate::run`].
 
+mod catalogue;
 mod check;
 mod compare;
 mod dictionary;
@@ -22,6 +23,8 @@ use crate::names::Names;
 use crate::pairs::List;
 use crate::text::{self, Numbers};
 use crate::trouble::Trouble;
+
+pub use catalogue::Service;
 
 /// How an answer ends the program.
 #[derive(Clone, Copy, Debug, PartialEq, Eq, PartialOrd, Ord)]
@@ -146,12 +149,25 @@ impl Context {
     }
 
     /// A description, the call's input of this number, once unfolded.
-    fn description(&self, file: &Path, input: u16) -> Result<Input, Trouble> {
+    ///
+    /// # Errors
+    ///
+    /// What keeps the input from an answer.
+    pub fn description(&self, file: &Path, input: u16) -> Result<Input, Trouble> {
+        self.description_of(&self.reading, file, bytes_of(file)?, input)
+    }
+
+    /// The same for the bytes of that file, read so.
+    fn description_of(
+        &self,
+        reading: &Reading,
+        file: &Path,
+        bytes: Vec<u8>,
+        input: u16,
+    ) -> Result<Input, Trouble> {
         let dictionary = &self.background.dictionary;
         let sort = Some(Sort::Description);
-        let read = self
-            .reading
-            .input(file, sort, input, Naming::All(dictionary))?;
+        let read = reading.input_of(file, bytes, sort, input, Naming::All(dictionary))?;
         let unfolded = read.unfolded(dictionary);
         unfolded.map_err(|refusal| not_refused(file, refusal))
     }

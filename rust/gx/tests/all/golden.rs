@@ -7,7 +7,7 @@ use crate::support::{repository, Folder};
 
 const NAMES: &str = "link 1 \"sample\" \"samples\"\nlink 2 \"core\" \"cores\"\nlink 32768 \"field\" \"fields\"\nproperty 7 \"sealed\"\nproperty 8 \"<wet & 'cold'>\"\n";
 
-fn is_golden(name: &str, bytes: &[u8]) {
+pub fn is_golden(name: &str, bytes: &[u8]) {
     let path = Path::new(env!("CARGO_MANIFEST_DIR"))
         .join("tests/golden")
         .join(name);

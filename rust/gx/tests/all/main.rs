@@ -2,6 +2,7 @@
 //! looked at, that answers are the library's, and the same questions asked of OWL reasoners.
 
 mod answers;
+mod catalogue;
 mod commands;
 mod dictionaries;
 mod folders;

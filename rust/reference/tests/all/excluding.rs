@@ -4,8 +4,8 @@ use std::collections::BTreeMap;
 
 use reference::record::{fits, specimen_record, Record};
 use reference::{
-    compare, compare_with, encode, fit, fit_with, normal_form, normal_with, Comparison, Entry,
-    Link, Property, Refusal,
+    catalogue, compare, compare_with, encode, fit, fit_with, normal_form, normal_with, Comparison,
+    Entry, Link, Property, Refusal,
 };
 
 use crate::chance::{all_records, description, specimen, Chance, Size};
@@ -54,6 +54,7 @@ pub fn refused_before_the_inputs(pairs: &[u8], dict: &[u8], due: Refusal) {
                 let out = &mut out[..length];
                 assert_eq!(normal_with(pairs, dict, input, out), Err(due));
                 assert_eq!(compare_with(pairs, dict, input, other, out), Err(due));
+                assert_eq!(catalogue(pairs, dict, input, other, out), Err(due));
             }
         }
     }

@@ -1,5 +1,6 @@
 //! Tests of the reference.
 
+mod catalogue;
 mod chance;
 mod comparing;
 mod desk;

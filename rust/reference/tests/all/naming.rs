@@ -2,7 +2,7 @@
 
 use reference::record::{fits, fits_named, Record};
 use reference::{
-    compare, compare_with, decode, encode, fit, fit_with, normal_form, normal_with,
+    catalogue, compare, compare_with, decode, encode, fit, fit_with, normal_form, normal_with,
     read_description, read_specimen, run_program, unfold, Comparison, Entry, Link, Property,
     Refusal,
 };
@@ -21,7 +21,7 @@ const SMALL: Size = Size {
     number: 2,
 };
 
-fn refusal(number: u8, input: u16, place: u32) -> Refusal {
+pub fn refusal(number: u8, input: u16, place: u32) -> Refusal {
     Refusal {
         number,
         input,
@@ -30,12 +30,12 @@ fn refusal(number: u8, input: u16, place: u32) -> Refusal {
 }
 
 /// A named entry.
-fn named(owner: u16, name: u16) -> Entry {
+pub fn named(owner: u16, name: u16) -> Entry {
     entry(9, owner, name, 0)
 }
 
 /// An 'every' of link 1 below another, so many: entry k has depth k - 1.
-fn chain(length: u16) -> Vec<Entry> {
+pub fn chain(length: u16) -> Vec<Entry> {
     (0..length).map(|owner| entry(5, owner, 1, 0)).collect()
 }
 
@@ -68,6 +68,8 @@ fn refused(dict: &[u8], bytes: &[u8], number: u8, place: u32) {
         }
         let answer = compare_with(&[], dict, &good, bytes, out);
         assert_eq!(answer, due(2).map(|()| Comparison::Contained));
+        assert_eq!(catalogue(&[], dict, bytes, &good, out), due(1).map(|()| 0));
+        assert_eq!(catalogue(&[], dict, &good, bytes, out), due(2).map(|()| 0));
     }
     assert_eq!(fit_with(&[], dict, &good, bytes), due(2).map(|()| true));
     assert!(out.iter().all(|&byte| byte == FILL));
@@ -644,7 +646,7 @@ fn depth(entries: &[Entry], e: &Entry) -> usize {
 }
 
 /// Draws a description in which some entries name one of this many.
-fn drawn(chance: &mut Chance, size: Size, names: usize) -> Vec<Entry> {
+pub fn drawn(chance: &mut Chance, size: Size, names: usize) -> Vec<Entry> {
     let mut entries = description(chance, size);
     for e in &mut entries {
         if names > 0 && e.kind != 5 && chance.once_in(3) {
@@ -655,7 +657,7 @@ fn drawn(chance: &mut Chance, size: Size, names: usize) -> Vec<Entry> {
 }
 
 /// Draws the descriptions of a dictionary.
-fn drawn_dictionary(chance: &mut Chance, size: Size, count: usize) -> Vec<Vec<Entry>> {
+pub fn drawn_dictionary(chance: &mut Chance, size: Size, count: usize) -> Vec<Vec<Entry>> {
     (0..count)
         .map(|before| drawn(chance, size, before))
         .collect()
@@ -1108,7 +1110,7 @@ fn a_dictionary_that_nothing_names() {
 }
 
 /// The blocks with a few bytes changed, and the checks put right or not.
-fn spoilt(chance: &mut Chance, mut bytes: Vec<u8>) -> Vec<u8> {
+pub fn spoilt(chance: &mut Chance, mut bytes: Vec<u8>) -> Vec<u8> {
     for _ in 0..chance.below(3) {
         let at = match chance.below(3) {
             0 => chance.below(bytes.len().max(1)),

@@ -5,9 +5,10 @@ use mathlib.Core.List.{List}
 use mathlib.Core.Path.{_∙_, ap, sym}
 use native.Mathlib.Omega.{arith}
 use Rattle.fit.specs.Answer.{fitOf}
-use Rattle.named.proofs.UnfoldedLaws.{at-buffer, buffer-ends, buffer-plain, fit-early, fit-goes, fit-late}
+use Rattle.named.proofs.UnfoldedLaws.{fit-early, fit-goes, fit-late, part-ends, part-plain}
 use Rattle.named.proofs.fitting.fit_unfolded.Statement.{statement}
 use Rattle.named.proofs.fitting.fit_unfolded.Tie as tie
+use Rattle.unfolding.proofs.BufferLaws.{at-buffer}
 
 returns : tie.Need-returns
 returns c =
@@ -30,7 +31,7 @@ part-end c =
     let b = a .args .buffer .now in
     let u = c .before .before .before .before .before .before .before .unfold-into .ensures in
     let e = sym (at-buffer D 2 d b (a .pre .2)) ∙ sym (u .0) ∙ c .before .before .before .reading2 .given .1 in
-    buffer-ends D 2 d e b (a .pre .2) (u .1) (c .before .bytes-for .ensures .0)
+    part-ends D 2 d e b (a .pre .2) (u .1) (c .before .bytes-for .ensures .0)
 
 returns-2 : tie.Need-returns-2
 returns-2 c =
@@ -53,7 +54,7 @@ returns-3 c =
     let b = a .args .buffer .now in
     let u = c .before .before .before .before .before .before .before .before .before .unfold-into .ensures in
     let e = sym (at-buffer D 2 d b (a .pre .2)) ∙ sym (u .0) ∙ c .before .before .before .before .before .reading2 .given .1 in
-    let p = buffer-plain D 2 d e b (a .pre .2) (u .1) (c .before .before .before .bytes-for .ensures .0) in
+    let p = part-plain D 2 d e b (a .pre .2) (u .1) (c .before .before .before .bytes-for .ensures .0) in
     c .fit .ensures ∙ ap (λ (x : List ℕ). fitOf P s x) p ∙ fit-goes P D (a .pre .0) (a .pre .1) s d e
 
 pub fit-unfolded-spec : {M : Type 1} → statement M

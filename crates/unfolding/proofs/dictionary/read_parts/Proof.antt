@@ -4,7 +4,8 @@ use borrow.Author.Needs.{needs}
 use lib.ListN.{length}
 use mathlib.Core.Path.{_≡_, sym}
 use native.Mathlib.Omega.{arith}
-use Rattle.unfolding.proofs.DictionaryRead.{Passed, passed-accepted, passed-further, passed-known, passed-many, passed-more, passed-ready, passed-refused, passed-some, passed-start}
+use Rattle.lists.proofs.LoopLaws.{reached-further, reached-some}
+use Rattle.unfolding.proofs.DictionaryRead.{Passed, passed-accepted, passed-known, passed-many, passed-more, passed-ready, passed-refused, passed-start}
 use Rattle.unfolding.proofs.dictionary.read_parts.Statement.{statement}
 use Rattle.unfolding.proofs.dictionary.read_parts.Tie as tie
 
@@ -18,7 +19,7 @@ loop-holds : tie.Need-loop-holds Inv-loop μ-loop
 loop-holds c = passed-start _ _ _ (c .before .pre .1) (c .before .pre .2)
 
 cast-t18 : tie.Need-cast-t18 Inv-loop μ-loop
-cast-t18 c = omega (arith, c .before .loop .inv .few, c .before .before .before .pre .0)
+cast-t18 c = omega (arith, c .before .loop .inv .reached .few, c .before .before .before .pre .0)
 
 -- there is a description at the offset
 before-end : (c : tie.Else1 Inv-loop μ-loop) → c .before .loop .at < length (c .before .before .before .args .dictionary .now)
@@ -26,19 +27,19 @@ before-end c = omega (arith, c .if1 .left)
 
 -- and the tables have room for it
 room : (c : tie.Else1 Inv-loop μ-loop) → c .before .loop .n < 64
-room c = omega (arith, passed-some (c .before .loop .inv) (before-end c), c .before .before .before .pre .0)
+room c = omega (arith, reached-some (c .before .loop .inv .reached) (before-end c), c .before .before .before .pre .0)
 
 cast-read-named : tie.Need-cast-read-named Inv-loop μ-loop
-cast-read-named c = omega (arith, c .before .before .before .before .loop .inv .few, c .before .before .before .before .before .before .pre .0)
+cast-read-named c = omega (arith, c .before .before .before .before .loop .inv .reached .few, c .before .before .before .before .before .before .pre .0)
 
 cast-read-named-2 : tie.Need-cast-read-named-2 Inv-loop μ-loop
-cast-read-named-2 c = omega (arith, c .before .before .before .before .loop .inv .few, c .before .before .before .before .before .before .pre .0)
+cast-read-named-2 c = omega (arith, c .before .before .before .before .loop .inv .reached .few, c .before .before .before .before .before .before .pre .0)
 
 add-read-named : tie.Need-add-read-named Inv-loop μ-loop
-add-read-named c = omega (arith, c .before .before .before .before .loop .inv .few, c .before .before .before .before .before .before .pre .0)
+add-read-named c = omega (arith, c .before .before .before .before .loop .inv .reached .few, c .before .before .before .before .before .before .pre .0)
 
 read-named-requires : tie.Need-read-named-requires Inv-loop μ-loop
-read-named-requires c κs = omega (arith, c .before .before .before .before .before .before .before .loop .inv .few, c .before .before .before .before .before .before .before .before .before .pre .0)
+read-named-requires c κs = omega (arith, c .before .before .before .before .before .before .before .loop .inv .reached .few, c .before .before .before .before .before .before .before .before .before .pre .0)
 
 add-n : tie.Need-add-n Inv-loop μ-loop
 add-n c = omega (arith, room (c .before .before .before .before .before .before .before .before .before .before))
@@ -55,7 +56,7 @@ element-write-levels c = omega (arith, room (c .before .before .before .before .
 loop-less : tie.Need-loop-less Inv-loop μ-loop
 loop-less c =
     let b = c .before .before .before .before .before .before .before .before .before .before in
-    omega (arith, before-end b, passed-further (b .before .loop .inv) (before-end b) (c .before .before .before .before .before .before .before .before .part-length .ensures .0))
+    omega (arith, before-end b, reached-further (b .before .loop .inv .reached) (before-end b) (c .before .before .before .before .before .before .before .before .part-length .ensures .0))
 
 loop-again : tie.Need-loop-again Inv-loop μ-loop
 loop-again c =
