@@ -94,11 +94,11 @@
  *     gx_fit_counted        70,008 bytes
  *     gx_normal             72,312 bytes
  *     gx_compare            69,160 bytes
- *     gx_unfold             61,692 bytes
+ *     gx_unfold             53,612 bytes
  *     gx_fit_with           86,536 bytes
  *     gx_normal_with        88,856 bytes
  *     gx_compare_with       94,040 bytes
- *     gx_catalogue         103,516 bytes
+ *     gx_catalogue          95,436 bytes
  *
  * The library calls memset and memcpy; a program that binds them at their first call took up to 1,072 bytes more there. A
  * thread with 128 KiB of stack has room for each call.

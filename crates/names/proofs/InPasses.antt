@@ -6,5 +6,5 @@ pub mod MovedUnfolding
 pub mod UnfoldTwice
 -- Names replaced by what stands for the same change nothing, once all are unfolded.
 pub mod Replaced
--- Unfolding in passes, the greatest name first, is unfolding; and no pass needs more room than what is unfolded.
+-- Unfolding in passes is unfolding; and no pass needs more room than what is unfolded.
 pub mod PassStages

@@ -12,7 +12,7 @@ use Rattle.logic.specs.Tree.{tree}
 use Rattle.names.specs.Measures.{levelsFrom, levelsNamed, levelsNth, sizeBy, sizeNamed, sizeNth}
 use Rattle.names.specs.NamedMeaning.{fitsNamed, fitsNth, fitsPlace, namedPlace, namedRow}
 use Rattle.names.specs.Unfold.{contents, described, inTurn, unfoldFrom, unfolded, unfoldedBy}
-use Rattle.names.specs.code.Passes.{opened, replacedBy}
+use Rattle.names.specs.code.Passes.{inside, keptBy}
 
 -- ---- "Suppliers repeat 'sealed core' forty times"
 
@@ -85,13 +85,13 @@ inside-every : unfoldedBy nested (entry 5 0 1 0 ∷ entry 9 1 2 0 ∷ entry 9 0 
 unfolding unfoldedBy contents inTurn unfolded unfoldFrom
 inside-every = refl
 
--- the first pass puts in names of the first description, the second leaves none
-nested-first : unfolded (opened nested 2) (entry 5 0 1 0 ∷ entry 9 1 2 0 ∷ [])
-    ≡ entry 5 0 1 0 ∷ entry 5 1 2 0 ∷ entry 9 2 1 0 ∷ entry 9 1 1 0 ∷ []
-unfolding replacedBy sizeNth described inTurn sizeBy unfolded unfoldFrom
+-- the first pass puts in both, with names of the first description, the second leaves none
+nested-first : unfolded (inside nested) (entry 5 0 1 0 ∷ entry 9 1 2 0 ∷ entry 9 0 1 0 ∷ [])
+    ≡ entry 5 0 1 0 ∷ entry 5 1 2 0 ∷ entry 9 2 1 0 ∷ entry 9 1 1 0 ∷ entry 1 0 7 0 ∷ []
+unfolding keptBy sizeNth described inTurn sizeBy unfolded unfoldFrom
 nested-first = refl
 
-nested-second : unfolded (opened nested 1) (entry 5 0 1 0 ∷ entry 5 1 2 0 ∷ entry 9 2 1 0 ∷ entry 9 1 1 0 ∷ [])
-    ≡ entry 5 0 1 0 ∷ entry 5 1 2 0 ∷ entry 1 2 7 0 ∷ entry 1 1 7 0 ∷ []
-unfolding replacedBy sizeNth described inTurn sizeBy unfolded unfoldFrom
+nested-second : unfolded (inside nested) (entry 5 0 1 0 ∷ entry 5 1 2 0 ∷ entry 9 2 1 0 ∷ entry 9 1 1 0 ∷ entry 1 0 7 0 ∷ [])
+    ≡ entry 5 0 1 0 ∷ entry 5 1 2 0 ∷ entry 1 2 7 0 ∷ entry 1 1 7 0 ∷ entry 1 0 7 0 ∷ []
+unfolding keptBy sizeNth described inTurn sizeBy unfolded unfoldFrom
 nested-second = refl

@@ -1,4 +1,4 @@
 -- Mirrors of the code: no promise to the customer cites these.
 
--- Unfolding in passes, the greatest name first.
+-- Unfolding in passes: each replaces all names that are there.
 pub mod Passes

@@ -34,7 +34,7 @@ fn unfold_read(
         × ((n : ℕ) → r ≡ Reading.Accepted n → entriesIn (now (rows .exit)) n ≡ unfoldedBy (dictionaryOf (now (dictionary .entry))) (entriesOf (now (d .entry)))) ⌝ }
 {
     let mut next = [0u64; 1008];
-    let mut inner = [0u64; 1008];
+    let mut inner = [0u16; 1009];
     let m = read_named(d, most, input, size, levels, &mut next);
     match m {
         Measured::Refused(number, i, place) => Reading::Refused(number, i, place),

@@ -1,8 +1,9 @@
 // Unfolding: descriptions that name others of a dictionary are read, or refused, and written as the plain descriptions that they stand for.
 //
 // A dictionary is read once: two tables keep, for each of its descriptions, how many entries it has once unfolded and how deep they stand.
-// So 14 is told without unfolding anything. A description is then unfolded in passes, the greatest name first; each pass puts in the entries
-// of one description, without the names in it that stand for nothing. So every row stands for an entry at least, and 1,008 are always enough.
+// So 14 is told without unfolding anything. A description is then unfolded in passes: each replaces all names that are there by the entries
+// of their descriptions, without the names in them that stand for nothing. So there are at most as many passes as names are nested, every
+// row stands for an entry at least, and 1,008 are always enough. What a name becomes is read once in a pass, and copied where it is used again.
 //
 // The contracts cite `names` (NamedReading) and specs/Answer. What unfolding means is proved in `names`.
 mod calls;

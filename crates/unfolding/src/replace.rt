@@ -1,25 +1,30 @@
-// One pass over the entries of a table: names that stand for nothing go, one name becomes the entries of another table, and all other
-// entries are taken over. Owners get their new numbers by a table.
+// Putting in the entries of a description: straight from its bytes, without names that stand for nothing, where owners get their new
+// numbers by a table; and again, from where they were put in before.
 ghost use mathlib.Core.Path.{_≡_};
-ghost use mathlib.Core.Bool.{true};
+ghost use mathlib.Core.Bool.{cond, true};
 ghost use mathlib.Core.List.{_++_, map};
-ghost use Prim.Native.Nat.{_+_, _≤_, _<_};
-ghost use lib.ListN.{length};
-ghost use Rattle.blocks.specs.Entries.{isNamed};
+ghost use Prim.Native.Nat.{_+_, _-_, _≤_, _<_, ℕ};
+ghost use lib.Dec.{leb};
+ghost use lib.ListN.{getD, length};
+ghost use Rattle.base.proofs.Lists.{listed};
+ghost use Rattle.blocks.specs.Entries.{entriesOf, isNamed, zeroEntry};
+ghost use Rattle.blocks.specs.code.Blockwise.{InBlock, Whole};
 ghost use Rattle.names.specs.NamedForm.{namedFormOk};
 ghost use Rattle.names.specs.Promise.{FormsOk, OwnersOk};
 ghost use Rattle.names.specs.Unfold.{ownedBy, relocate, unfolded};
-ghost use Rattle.names.specs.code.Passes.{replacedBy};
+ghost use Rattle.names.specs.code.Passes.{keptBy};
 ghost use Rattle.unfolding.specs.code.Known.{tabled};
 ghost use Rattle.unfolding.specs.code.Rows.{entriesIn};
-ghost use Rattle.unfolding.specs.code.Replacing.{NamesFew, OwnersWithin};
+ghost use Rattle.unfolding.specs.code.Replacing.{NamesFew, Passing, again, pending};
+use crate::rows::entry_from;
 use crate::rows::entry_of_row;
 use crate::rows::push;
 use base::wide;
 use blocks::Entry;
+use blocks::next_count;
 
 // An entry with another owner.
-fn owned(e: Entry, o: u16) -> Entry
+pub(crate) fn owned(e: Entry, o: u16) -> Entry
     ensures { λ r. ⌜ r ≡ ownedBy o e ⌝ }
 {
     Entry {
@@ -31,89 +36,108 @@ fn owned(e: Entry, o: u16) -> Entry
     }
 }
 
-// An entry put in after m entries, at the place of o.
-fn moved(e: Entry, m: usize, o: u16) -> Entry
-    requires { ⌜ m + e .owner < 65536 ⌝ }
-    ensures { λ r. ⌜ r ≡ relocate m o e ⌝ }
-{
-    if e.owner == 0 {
-        return owned(e, o);
-    }
-    owned(e, (m + wide(e.owner)) as u16)
-}
-
-// Puts k entries of a table in after the first m of another, at the place of o.
-fn put_moved(inner: &[u64], k: usize, m: usize, o: u16, out: &mut [u64])
-    requires { ⌜ (k ≤ length (now inner)) × (m + k ≤ length (now out)) × (length (now out) ≤ 1008) × OwnersWithin (entriesIn (now inner) k) ⌝ }
-    ensures { λ _. ⌜ (entriesIn (now (out .exit)) (m + k) ≡ entriesIn (now (out .entry)) m ++ map (relocate m o) (entriesIn (now (inner .entry)) k)) × (length (now (out .exit)) ≡ length (now (out .entry))) ⌝ }
-{
-    let mut j: usize = 0;
-    while j < k {
-        push(out, m + j, moved(entry_of_row(inner[j]), m, o));
-        j += 1;
-    }
-}
-
-// Puts in what a name becomes, behind the first m entries, and returns how many there are then.
-fn put_name(
-    e: Entry,
-    o: u16,
-    size: &[u16; 65],
-    n: u16,
-    inner: &[u64],
-    k: usize,
-    m: usize,
-    out: &mut [u64],
-) -> usize
-    requires { ⌜ (isNamed e ≡ true) × (namedFormOk e ≡ true) × (e .name ≤ 64) × (k ≤ length (now inner)) × OwnersWithin (entriesIn (now inner) k)
-        × (m + length (replacedBy (tabled (now size)) n (entriesIn (now inner) k) (e .name)) ≤ length (now out)) × (length (now out) ≤ 1008) ⌝ }
-    ensures { λ r. ⌜ (r ≡ m + length (replacedBy (tabled (now (size .entry))) n (entriesIn (now (inner .entry)) k) (e .name)))
-        × (entriesIn (now (out .exit)) r ≡ entriesIn (now (out .entry)) m ++ map (relocate m o) (replacedBy (tabled (now (size .entry))) n (entriesIn (now (inner .entry)) k) (e .name)))
+// Puts a name behind the first m entries, at the place of o, if it stands for something, and returns how many there are then.
+fn keep_name(e: Entry, o: u16, size: &[u16; 65], m: usize, out: &mut [u64]) -> usize
+    requires { ⌜ (isNamed e ≡ true) × (namedFormOk e ≡ true) × (e .name ≤ 64) × (m + length (keptBy (tabled (now size)) (e .name)) ≤ length (now out)) × (length (now out) ≤ 1008) ⌝ }
+    ensures { λ r. ⌜ (r ≡ m + length (keptBy (tabled (now (size .entry))) (e .name)))
+        × (entriesIn (now (out .exit)) r ≡ entriesIn (now (out .entry)) m ++ map (relocate m o) (keptBy (tabled (now (size .entry))) (e .name)))
         × (length (now (out .exit)) ≡ length (now (out .entry))) ⌝ }
 {
     if size[wide(e.name)] == 0 {
         return m;
     }
-    if e.name == n {
-        put_moved(inner, k, m, o, out);
-        return m + k;
-    }
     push(out, m, owned(e, o));
     m + 1
 }
 
-// Writes the entries of a table to another, with name n replaced by the k entries of `inner` and names that stand for nothing left out;
-// returns how many there are then.
-pub(crate) fn replace(
-    rows: &[u64],
+// Puts in `count` entries of a description, those after the first `done`, whose bytes start at `from`: behind `had` entries, without names
+// that stand for nothing. Returns how many there are then. The table has the new numbers of owners.
+fn put_block(
+    s: &[u8],
+    from: usize,
     count: usize,
+    done: usize,
     size: &[u16; 65],
-    n: u16,
-    inner: &[u64],
-    k: usize,
+    had: usize,
+    number: &mut [u16],
     out: &mut [u64],
 ) -> usize
-    requires { ⌜ (count ≤ length (now rows)) × (count ≤ 1008) × FormsOk (entriesIn (now rows) count) × OwnersOk (entriesIn (now rows) count) × NamesFew (entriesIn (now rows) count)
-        × (k ≤ length (now inner)) × OwnersWithin (entriesIn (now inner) k)
-        × (length (unfolded (replacedBy (tabled (now size)) n (entriesIn (now inner) k)) (entriesIn (now rows) count)) ≤ length (now out)) × (length (now out) ≤ 1008) ⌝ }
-    ensures { λ r. ⌜ (entriesIn (now (out .exit)) r ≡ unfolded (replacedBy (tabled (now (size .entry))) n (entriesIn (now (inner .entry)) k)) (entriesIn (now (rows .entry)) count))
-        × (r ≡ length (unfolded (replacedBy (tabled (now (size .entry))) n (entriesIn (now (inner .entry)) k)) (entriesIn (now (rows .entry)) count)))
-        × (length (now (out .exit)) ≡ length (now (out .entry))) ⌝ }
+    requires { ⌜ InBlock (now s) from count done × (done + count ≤ 1008) × FormsOk (entriesOf (now s)) × OwnersOk (entriesOf (now s)) × NamesFew (entriesOf (now s))
+        × (1009 ≤ length (now number)) × (had ≤ length (now out)) × (length (pending (keptBy (tabled (now size))) (entriesOf (now s)) (now number) done had (entriesIn (now out) had)) ≤ length (now out)) × (length (now out) ≤ 1008) ⌝ }
+    ensures { λ r. ⌜ Passing (keptBy (tabled (now (size .entry)))) (entriesOf (now (s .entry)))
+        (pending (keptBy (tabled (now (size .entry)))) (entriesOf (now (s .entry))) (now (number .entry)) done had (entriesIn (now (out .entry)) had))
+        (now (number .exit)) (done + count) r (entriesIn (now (out .exit)) r)
+        × (length (now (out .exit)) ≡ length (now (out .entry))) × (length (now (number .exit)) ≡ length (now (number .entry))) ⌝ }
 {
-    let mut number = [0u16; 1009];
-    let mut m: usize = 0;
+    let mut m = had;
     let mut i: usize = 0;
     while i < count {
-        let e = entry_of_row(rows[i]);
+        let e = entry_from(s, from + 8 * i);
         let o = number[wide(e.owner)];
         i += 1;
         if e.kind == 9 {
-            m = put_name(e, o, size, n, inner, k, m, out);
+            m = keep_name(e, o, size, m, out);
         } else {
             push(out, m, owned(e, o));
             m += 1;
-            number[i] = m as u16;
+            number[done + i] = m as u16;
         }
     }
     m
+}
+
+// Puts in the `total` entries of a description, behind `had` entries, at the place of o, without names that stand for nothing; returns how
+// many there are then. The table is for the new numbers of owners.
+pub(crate) fn put_part(
+    s: &[u8],
+    total: usize,
+    size: &[u16; 65],
+    o: u16,
+    had: usize,
+    number: &mut [u16],
+    out: &mut [u64],
+) -> usize
+    requires { ⌜ (total ≡ length (entriesOf (now s))) × Whole (now s) total × (total ≤ 1008) × FormsOk (entriesOf (now s)) × OwnersOk (entriesOf (now s)) × NamesFew (entriesOf (now s))
+        × (1009 ≤ length (now number)) × (had + length (unfolded (keptBy (tabled (now size))) (entriesOf (now s))) ≤ length (now out)) × (length (now out) ≤ 1008) ⌝ }
+    ensures { λ r. ⌜ (r ≡ had + length (unfolded (keptBy (tabled (now (size .entry)))) (entriesOf (now (s .entry)))))
+        × (entriesIn (now (out .exit)) r ≡ entriesIn (now (out .entry)) had ++ map (relocate had o) (unfolded (keptBy (tabled (now (size .entry)))) (entriesOf (now (s .entry)))))
+        × (length (now (out .exit)) ≡ length (now (out .entry))) × (length (now (number .exit)) ≡ length (now (number .entry))) ⌝ }
+{
+    number[0] = o;
+    let mut m = had;
+    let mut n: usize = 0;
+    let mut at: usize = 4;
+    while n < total {
+        let count = next_count(total - n);
+        m = put_block(s, at, count, n, size, m, number, out);
+        n += count;
+        at += 512;
+    }
+    m
+}
+
+// The number of an owner, where contents that were put in after p entries are put in again after m, at the place of o.
+fn owner_again(q: u16, p: usize, m: usize, o: u16) -> u16
+    requires { ⌜ m + (q - p) < 65536 ⌝ }
+    ensures { λ r. ⌜ r ≡ cond (leb q p) o (m + (q - p)) ⌝ }
+{
+    let owner = wide(q);
+    if owner <= p {
+        return o;
+    }
+    (m + (owner - p)) as u16
+}
+
+// Puts in again, behind the first m entries, at the place of o, the k entries that were put in after the first p.
+pub(crate) fn put_again(out: &mut [u64], p: usize, k: usize, m: usize, o: u16)
+    requires { ⌜ (p + k ≤ m) × (m + k ≤ length (now out)) × (length (now out) ≤ 1008) × ((j : ℕ) → j < k → getD (entriesIn (now out) m) (p + j) zeroEntry .owner ≤ p + k) ⌝ }
+    ensures { λ _. ⌜ (entriesIn (now (out .exit)) (m + k) ≡ entriesIn (now (out .entry)) m ++ listed (λ i. again p m o (getD (entriesIn (now (out .entry)) m) i zeroEntry)) p k)
+        × (length (now (out .exit)) ≡ length (now (out .entry))) ⌝ }
+{
+    let mut j: usize = 0;
+    while j < k {
+        let e = entry_of_row(out[p + j]);
+        push(out, m + j, owned(e, owner_again(e.owner, p, m, o)));
+        j += 1;
+    }
 }

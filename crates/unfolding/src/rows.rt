@@ -41,7 +41,7 @@ pub(crate) fn push(rows: &mut [u64], n: usize, e: Entry)
 }
 
 // The entry whose 8 bytes start at an index: a pass over a block knows that they are there.
-fn entry_from(s: &[u8], at: usize) -> Entry
+pub(crate) fn entry_from(s: &[u8], at: usize) -> Entry
     requires { ⌜ at + 8 ≤ length (now s) ⌝ }
     ensures { λ r. ⌜ r ≡ entryFrom (now (s .entry)) at ⌝ }
 {

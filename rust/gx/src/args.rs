@@ -299,23 +299,30 @@ impl<'a> Line<'a> {
     /// Whether there are as many files as the command takes.
     fn counted(self) -> Result<Args, String> {
         let (word, count) = (self.command.word(), self.files.len());
+        let given = match count {
+            1 => "1 is given".into(),
+            _ => format!("{count} are given"),
+        };
         if self.command.takes_pair() && count != 2 {
-            return Err(format!("{word} takes two inputs, and {count} are given"));
+            return Err(format!("{word} takes two inputs, and {given}"));
         }
         if self.command == Command::Catalogue && count < 2 {
-            return Err(format!(
-                "{word} takes two inputs or more, and {count} are given"
-            ));
-        }
-        let read = self.files.iter().chain(&self.options.pairs);
-        let read = read.chain(&self.options.dictionary);
-        let stdin = read.filter(|file| file.as_os_str() == "-");
-        if stdin.count() > 1 {
-            return Err("standard input can be read once only".into());
+            return Err(format!("{word} takes two inputs or more, and {given}"));
         }
         let mut files = self.files;
         if files.is_empty() {
             files.push("-".into());
+        }
+        let Options {
+            names,
+            pairs,
+            dictionary,
+            ..
+        } = &self.options;
+        let read = files.iter().chain(names).chain(pairs).chain(dictionary);
+        let stdin = read.filter(|file| file.as_os_str() == "-");
+        if stdin.count() > 1 {
+            return Err("standard input can be read once only".into());
         }
         Ok(Args::Do(self.command, files, Box::new(self.options)))
     }

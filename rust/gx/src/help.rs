@@ -119,9 +119,8 @@ the words of the dictionary.
 
 const CHECK: &str = "\
 Says what the library's reader says. Of a refusal it tells the row of the table, what is wrong in words, and shows the block or
-entry in its surroundings; of an entry of a text also the line. A list of pairs and a dictionary are known by their headings or by
---sort. The reader takes no dictionary; with --dictionary a description may name others. With --pairs a specimen is refused in
-which an item has both properties of a pair (12).
+entry in its surroundings; of an entry of a text also the line. The reader takes no dictionary; with --dictionary a description may
+name others. With --pairs a specimen is refused in which an item has both properties of a pair (12).
 ";
 
 const NORMAL: &str = "\
@@ -235,6 +234,9 @@ them too; each may name only earlier ones. With --dictionary an entry 'named 2',
 in at that place. A name that the dictionary does not have is refused (13), so is a description that has more than 1,008 entries
 or goes deeper than 32 once unfolded (14), and so is a dictionary with more than 64 descriptions (8). A refusal of the dictionary
 has input 100, one of its n-th description input 100 + n.
+
+A list of pairs or a dictionary that is shown, written or checked is known by its heading, by the ending of its file, .pairs or
+.dictionary, or by --sort. After --pairs and --dictionary either may be text or bytes.
 
 A list of services, for gx catalogue, is the blocks of up to 64 descriptions laid end to end, where each block numbered 1 begins
 one. A refusal of the list has input 2 (1, 8), one of its n-th service input 1 + n.

@@ -35,10 +35,17 @@ impl Form {
     }
 
     /// The bytes of a list of pairs may have no zero byte; but a text has no sign before the space other than tabs and the ends
-    /// of lines.
+    /// of lines, and is UTF-8. Where its words are in another code, which is a mistake, its own words still tell that it is one.
     fn of_list(bytes: &[u8]) -> Form {
         let control = |byte: &u8| *byte < b' ' && !b"\t\r\n".contains(byte);
-        match bytes.iter().any(control) {
+        let has = |word: &str| {
+            bytes
+                .windows(word.len())
+                .any(|part| part == word.as_bytes())
+        };
+        let own_words = has(text::PAIRS) || has(text::EXCLUDES);
+        let no_text = std::str::from_utf8(bytes).is_err() && !own_words;
+        match no_text || bytes.iter().any(control) {
             true => Form::Blocks,
             false => Form::of(bytes),
         }

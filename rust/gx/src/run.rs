@@ -98,6 +98,7 @@ fn done(command: Command, files: &[PathBuf], options: Options) -> u8 {
             reading,
             background: Default::default(),
         },
+        alike: matches!(files, [one, other] if title(one) == title(other)),
     };
     let folders = files.iter().any(|file| file.is_dir());
     let many = folders || (!command.takes_pair() && files.len() > 1);
@@ -123,6 +124,8 @@ fn done(command: Command, files: &[PathBuf], options: Options) -> u8 {
 struct Run {
     command: Command,
     context: Context,
+    /// Two inputs have the same name, and only their folders tell them apart. Else no folder is printed as a part of an answer.
+    alike: bool,
 }
 
 /// Fields for programs.
@@ -131,9 +134,13 @@ type Fields = Vec<(&'static str, Json)>;
 /// What is said of one of many: how it ends, a line, and the same for programs.
 type Said = (Status, String, Fields);
 
-/// What is said of one that has no answer.
-fn said_of(trouble: &Trouble) -> Said {
-    (Status::Bad, trouble.line(), trouble.json())
+/// What is said of one that has no answer, on the line of this file. Where the trouble is another file's, that is named too.
+fn said_of(trouble: &Trouble, file: &str) -> Said {
+    let line = match trouble.title() {
+        title if title == file => trouble.line(),
+        title => format!("{title}: {}", trouble.line()),
+    };
+    (Status::Bad, line, trouble.json())
 }
 
 impl Run {
@@ -208,7 +215,11 @@ impl Run {
         if self.options().json {
             print(format!("{}\n", Json::Object(trouble.json())).as_bytes());
         } else if self.command.answers() && !unread {
-            print(trouble.lines().as_bytes());
+            let lines = match self.alike {
+                true => trouble.lines(),
+                false => trouble.titled_lines(),
+            };
+            print(lines.as_bytes());
         } else {
             complain(&format!("gx: {}", trouble.lines()));
         }
@@ -292,7 +303,7 @@ impl Run {
             Ok(answer) => (answer.status, answer.line, answer.json),
             Err(trouble) => {
                 self.store_refused(&trouble, Some(&name));
-                said_of(&trouble)
+                said_of(&trouble, &name)
             }
         };
         let first = vec![("file", Json::text(&name))];

@@ -77,10 +77,14 @@ impl Trouble {
         format!("{}: {}", self.file(), self.told())
     }
 
-    /// The same with the file's name without its folder, for what is written into files.
+    /// The file's name without its folder.
+    pub fn title(&self) -> &str {
+        self.file().rsplit(['/', '\\']).next().unwrap_or("")
+    }
+
+    /// The same with the file's name without its folder, for what is not to depend on where the file lies.
     pub fn titled_lines(&self) -> String {
-        let name = self.file().rsplit(['/', '\\']).next().unwrap_or("");
-        format!("{name}: {}", self.told())
+        format!("{}: {}", self.title(), self.told())
     }
 
     fn told(&self) -> String {
@@ -93,19 +97,23 @@ impl Trouble {
         }
     }
 
-    /// For programs.
+    /// For programs. Of a refusal the number of the input tells which file it is about; of anything else its name does.
     pub fn json(&self) -> Vec<(&'static str, Json)> {
+        let of = ("of", Json::text(self.title()));
         match self {
             Trouble::File { why, .. } => vec![
                 ("answer", Json::text("unreadable")),
+                of,
                 ("words", Json::text(why)),
             ],
             Trouble::Unwritten { why, .. } => vec![
                 ("answer", Json::text("unwritten")),
+                of,
                 ("words", Json::text(why)),
             ],
             Trouble::Mistake { mistake, .. } => vec![
                 ("answer", Json::text("mistake")),
+                of,
                 ("line", Json::number(mistake.at.line)),
                 ("column", Json::number(mistake.at.column)),
                 ("expected", Json::text(&mistake.expected)),

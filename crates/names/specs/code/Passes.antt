@@ -1,4 +1,5 @@
--- Unfolding in passes, the greatest name first: a description names only earlier ones, so that what a pass puts in has lesser names.
+-- Unfolding in passes: each replaces all names that are there. A description names only earlier ones, so that what is put in for a name has
+-- lesser names.
 -- Assumes nothing.
 use Prim.Native.Nat.{_≤_, ℕ}
 use lib.Dec.{eqb}
@@ -26,27 +27,22 @@ pub record StandsFor (K : List (List Entry)) (S : ℕ → List Entry) : Type 0 w
 
 -- ---- passes
 
--- one pass: names that stand for no entries, by S, go; name n becomes `inner`; the others stay
-unfoldable pub replacedBy : (ℕ → ℕ) → ℕ → List Entry → ℕ → List Entry
-replacedBy S n inner x = cond (eqb (S x) 0) [] (cond (eqb x n) inner (nameAgain x))
+-- names that stand for no entries, by S, go; the others stay
+unfoldable pub keptBy : (ℕ → ℕ) → ℕ → List Entry
+keptBy S x = cond (eqb (S x) 0) [] (nameAgain x)
 
--- names that stand for nothing go, the others stay: no name is 0
 abbrev pub emptied : List (List Entry) → ℕ → List Entry
-emptied K = replacedBy (sizeNth K) 0 []
+emptied K = keptBy (sizeNth K)
 
--- the entries of description n, without names that stand for nothing
+-- what a pass puts in for name n: the entries of its description, without names that stand for nothing
 abbrev pub inside : List (List Entry) → ℕ → List Entry
 inside K n = unfolded (emptied K) (described K n)
-
--- name n becomes the entries of its description
-abbrev pub opened : List (List Entry) → ℕ → ℕ → List Entry
-opened K n = replacedBy (sizeNth K) n (inside K n)
 
 -- an entry that is no name, or a name up to r that stands for something
 abbrev pub Left : List (List Entry) → ℕ → Entry → Type 0
 Left K r e = isNamed e ≡ true → (1 ≤ sizeNth K (e .name)) × (e .name ≤ r)
 
--- where unfolding stands before the pass of name r: the entries stand for `whole`, and names up to r are left
+-- where unfolding stands between passes: the entries stand for `whole`, and names up to r are left
 pub record Stage (K : List (List Entry)) (whole : List Entry) (r : ℕ) (es : List Entry) : Type 0 where
   pub form : FormsOk es
   pub owner : OwnersOk es

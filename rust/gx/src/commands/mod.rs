@@ -121,17 +121,25 @@ impl Context {
         }
     }
 
-    /// A file of any sort: a list of pairs or a dictionary where the options or its heading say so. A description may name what the
-    /// dictionary has; without one, these.
+    /// What a file holds, where its heading, or else the ending of its name, tells that it is a list of pairs or a dictionary.
+    fn told(&self, file: &Path, bytes: &[u8]) -> Option<Content> {
+        let words = [
+            (text::PAIRS, Content::Pairs),
+            (text::DICTIONARY, Content::Dictionary),
+        ];
+        let headed = |word| self.reading.is_headed(bytes, word);
+        let ended = |word| file.extension().is_some_and(|ending| ending == word);
+        let by_heading = words.iter().find(|&&(word, _)| headed(word));
+        let told = by_heading.or_else(|| words.iter().find(|&&(word, _)| ended(word)));
+        told.map(|&(_, content)| content)
+    }
+
+    /// A file of any sort: a list of pairs or a dictionary where the options, its heading or its ending say so. A description may
+    /// name what the dictionary has; without one, these.
     fn alone(&self, file: &Path, naming: Naming<'_>) -> Result<Alone, Trouble> {
         let reading = &self.reading;
         let bytes = bytes_of(file)?;
-        let content = match self.options.sort {
-            None if reading.is_headed(&bytes, text::PAIRS) => Some(Content::Pairs),
-            None if reading.is_headed(&bytes, text::DICTIONARY) => Some(Content::Dictionary),
-            sort => sort,
-        };
-        let sort = match content {
+        let sort = match self.options.sort.or_else(|| self.told(file, &bytes)) {
             Some(Content::Pairs) => return reading.list_of(file, bytes).map(Alone::Pairs),
             Some(Content::Dictionary) => {
                 let read = reading.dictionary_of(file, bytes);

@@ -40,9 +40,10 @@ pub fn read(text: &str, class: Option<&str>, names: &Names) -> Result<Found, Mis
     let mut reader = Reader::new(text, names)?;
     if reader.is_ontology() {
         reader.document()?;
+        let chosen = reader.chosen(class)?;
         reader.only_functions()?;
         reader.excluding()?;
-        reader.at = reader.chosen(class)?;
+        reader.at = chosen;
         reader.expression(0, 0)?;
     } else {
         reader.expression(0, 0)?;

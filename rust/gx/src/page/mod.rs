@@ -25,13 +25,12 @@ pub fn page(
     words: Words<'_>,
     whole: bool,
 ) -> String {
-    let body = match explained {
-        Explained::Contained => contained(supplier, service, words),
-        Explained::NotContained(failure) => not_contained(failure, supplier, service, words, whole),
-    };
-    let title = match explained {
-        Explained::Contained => "Contained",
-        Explained::NotContained(_) => "Not contained",
+    let (title, body) = match explained {
+        Explained::Contained => ("Contained", contained(list, supplier, service, words)),
+        Explained::NotContained(failure) => (
+            "Not contained",
+            not_contained(failure, list, supplier, service, words, whole),
+        ),
     };
     let title = format!("{title}: {} in {}", supplier.title, service.title);
     let (listed, footer) = match list.pairs.is_empty() {
@@ -42,6 +41,18 @@ pub fn page(
         ),
     };
     framed(&title, &format!("{body}{listed}{footer}"))
+}
+
+/// Of which records the answer speaks, where there is a list.
+fn where_kept(list: &List) -> String {
+    match list.pairs.len() {
+        0 => String::new(),
+        count => format!(
+            " The answer is about records that keep the <a href=\"#pairs\">{}</a> of {}.",
+            words::pairs(count),
+            escaped(&list.title)
+        ),
+    }
 }
 
 /// The properties that exclude each other.
@@ -91,9 +102,10 @@ fn answer(class: &str, sign: &str, says: &str, sentence: &str) -> String {
     )
 }
 
-fn contained(supplier: &Input, service: &Input, words: Words<'_>) -> String {
+fn contained(list: &List, supplier: &Input, service: &Input, words: Words<'_>) -> String {
     let sentence = "Every consignment that the supplier’s description allows is one that the service’s description allows.";
-    let mut out = answer("yes", "✓", "Contained", sentence);
+    let sentence = format!("{sentence}{}", where_kept(list));
+    let mut out = answer("yes", "✓", "Contained", &sentence);
     out.push_str(&both(
         supplier,
         &Marks::default(),
@@ -106,13 +118,15 @@ fn contained(supplier: &Input, service: &Input, words: Words<'_>) -> String {
 
 fn not_contained(
     failure: &Failure,
+    list: &List,
     supplier: &Input,
     service: &Input,
     words: Words<'_>,
     whole: bool,
 ) -> String {
     let sentence = "The supplier’s description allows a consignment that the service’s description does not allow.";
-    let mut out = answer("no", "✕", "Not contained", sentence);
+    let sentence = format!("{sentence}{}", where_kept(list));
+    let mut out = answer("no", "✕", "Not contained", &sentence);
     out.push_str(&why(failure, supplier, service, words));
     out.push_str(&drawn(failure, words, whole));
     let asked = Marks {

@@ -72,7 +72,7 @@ impl Run {
         let said = match answer {
             Ok(true) => said(Status::Yes, "contained"),
             Ok(false) => said(Status::No, "not contained"),
-            Err(trouble) => said_of(&trouble),
+            Err(trouble) => said_of(&trouble, &service.title()),
         };
         self.print_line(&name, first, said, progress)
     }

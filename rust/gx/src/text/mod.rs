@@ -41,6 +41,6 @@ mod write;
 pub use lexer::{Lexer, Sign, Token};
 pub use mistake::{Mistake, Position};
 pub use parse::{is_headed, parse, parse_dictionary, parse_pairs};
-pub use parse::{Parsed, ParsedDictionary, ParsedPairs, DICTIONARY, PAIRS};
+pub use parse::{Parsed, ParsedDictionary, ParsedPairs, DICTIONARY, EXCLUDES, PAIRS};
 pub use write::{description, desk, desk_dictionary, desk_pairs, dictionary};
 pub use write::{entry, pair, pairs, quoted, text, Numbers};

@@ -12,8 +12,7 @@ use crate::entry::{Entry, Link, Named, Property, Sort};
 use crate::names::{Clash, Names};
 
 pub use dictionary::{parse_dictionary, ParsedDictionary, DICTIONARY};
-pub(super) use pairs::EXCLUDES;
-pub use pairs::{parse_pairs, ParsedPairs, PAIRS};
+pub use pairs::{parse_pairs, ParsedPairs, EXCLUDES, PAIRS};
 
 /// What a text says.
 #[derive(Clone, Debug, Default)]

@@ -117,11 +117,11 @@ fn the_supplier_is_read_first() {
     let folder = desk("catalogue-supplier");
     with_bad_ones(&folder);
     for (supplier, words) in [
-        ("services/bad-1.txt", "mistake: line 1"),
-        ("services/bad-2.blocks", "refused 2: "),
-        ("services/bad-3.blocks", "refused 1: the input is empty"),
+        ("bad-1.txt", "mistake: line 1"),
+        ("bad-2.blocks", "refused 2: "),
+        ("bad-3.blocks", "refused 1: the input is empty"),
     ] {
-        let ran = folder.gx(&["catalogue", supplier, "services"]);
+        let ran = folder.gx(&["catalogue", &format!("services/{supplier}"), "services"]);
         let due = format!("{supplier}: {words}");
         assert_eq!((ran.status, ran.err.as_str()), (2, ""));
         assert!(ran.text().starts_with(&due), "{}", ran.text());

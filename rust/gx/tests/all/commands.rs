@@ -514,6 +514,12 @@ fn mistakes_and_missing_files_are_told() {
         "{}",
         ran.text()
     );
+    let ran = folder.gx(&["compare", "good", "bad", "--json"]);
+    let due = "{\"answer\":\"mistake\",\"of\":\"bad\",\"line\":1,\"column\":1,";
+    assert!(ran.text().starts_with(due), "{}", ran.text());
+    let ran = folder.gx(&["compare", "none", "bad", "--json"]);
+    let due = "{\"answer\":\"unreadable\",\"of\":\"none\",\"words\":";
+    assert!(ran.text().starts_with(due), "{}", ran.text());
     let ran = folder.gx(&["check", "none"]);
     assert_eq!((ran.status, ran.out.len()), (2, 0));
     assert!(ran.err.starts_with("gx: none: cannot be read: "));
@@ -591,6 +597,7 @@ fn wrong_usage_is_64() {
         vec!["compare", "d"],
         vec!["compare", "d", "d", "d"],
         vec!["compare", "-", "-"],
+        vec!["show", "--names", "-"],
         vec!["show", "--svg", "x", "d"],
         vec!["show", "--names"],
         vec!["show", "--json=yes", "d"],
@@ -627,7 +634,7 @@ fn the_help_names_each_command_and_option() {
     let manual = std::fs::read_to_string(repository("rust/gx/gx.1")).unwrap();
     for command in gx::args::Command::ALL {
         assert!(
-            manual.contains(&format!("\n.B gx {}\n", command.word().replace('-', "\\-"))),
+            manual.contains(&format!("\n.B gx {} ", command.word().replace('-', "\\-"))),
             "{}",
             command.word()
         );

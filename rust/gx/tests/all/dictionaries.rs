@@ -246,11 +246,13 @@ fn show_and_write_give_the_same_bytes() {
     let folder = laboratory("dictionary-bytes");
     for _ in 0..25 {
         let bytes = drawn(&mut chance);
-        folder.put("bytes", &bytes);
+        folder.put("bytes", &bytes).put("by-its.dictionary", &bytes);
         for to in ["text", "desk", "blocks"] {
             let args = ["show", "bytes", "--sort", "dictionary", "--to", to];
             let shown = folder.gx(&[&args[..], &["--names", "names"]].concat());
             assert_eq!((shown.status, shown.err.as_str()), (0, ""));
+            let args = ["show", "by-its.dictionary", "--to", to, "--names", "names"];
+            assert_eq!(folder.gx(&args), shown);
             if to == "blocks" {
                 assert_eq!(shown.out, bytes);
                 continue;

@@ -90,6 +90,36 @@ fn a_line_for_each_pair() {
 }
 
 #[test]
+fn the_file_of_a_mistake_is_named() {
+    let folder = desk("mistaken-side");
+    let ran = folder.gx(&["compare", "suppliers/b.txt", "services"]);
+    let begin = "one.txt: b.txt: mistake: line 1, column 1: ";
+    assert!(ran.text().starts_with(begin), "{}", ran.text());
+    let ran = folder.gx(&["compare", "suppliers", "services"]);
+    let told = "\nb.txt and two.txt: b.txt: mistake: line 1, column 1: ";
+    assert!(ran.text().contains(told), "{}", ran.text());
+    let ran = folder.gx(&["compare", "suppliers/b.txt", "services", "--json"]);
+    let begin = "{\"file\":\"one.txt\",\"answer\":\"mistake\",\"of\":\"b.txt\",\"line\":1,";
+    assert!(ran.text().starts_with(begin), "{}", ran.text());
+}
+
+#[test]
+fn an_answer_names_no_folder() {
+    let folder = desk("no-folder");
+    folder.put("services/c.blocks", "");
+    for args in [
+        &["check", "suppliers/c.blocks"][..],
+        &["compare", "suppliers/c.blocks", "services/one.txt"],
+    ] {
+        let ran = folder.gx(args);
+        assert!(ran.text().starts_with("c.blocks: refused 1: "), "{args:?}");
+    }
+    // Only the folder tells these apart.
+    let ran = folder.gx(&["compare", "suppliers/c.blocks", "services/c.blocks"]);
+    assert!(ran.text().starts_with("suppliers/c.blocks: refused 1: "));
+}
+
+#[test]
 fn files_for_each_file() {
     let folder = desk("files");
     let ran = folder.gx(&["write", "suppliers", "--out", "blocks"]);

@@ -168,6 +168,13 @@ const OTHERS: &[(&str, usize, usize, &str, &str)] = &[
         "the end",
     ),
     (
+        "Ontology(FunctionalObjectProperty(:link_32768) EquivalentClasses(:A :B) EquivalentClasses(:B :C))",
+        1,
+        98,
+        "--class with one of A, B",
+        "the end",
+    ),
+    (
         ":property_1 :property_2",
         1,
         13,

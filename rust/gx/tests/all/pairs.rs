@@ -148,6 +148,17 @@ fn show_and_write_give_the_same_bytes() {
     assert_eq!((ran.status, ran.text().as_str()), (0, due));
     let ran = folder.gx(&["check", "list", "--sort", "pairs", "--names", "names"]);
     assert_eq!(ran.text(), "accepted: a list of 2 pairs\n");
+    // In bytes the ending of the file tells.
+    folder.put("soil.pairs", [7, 0, 8, 0]);
+    let ran = folder.gx(&["check", "soil.pairs"]);
+    assert_eq!(ran.text(), "accepted: a list of 1 pair\n");
+    // Bytes that have no zero are no text either, where they are no UTF-8; a text in another code is a mistake.
+    folder.put("soil.pairs", [0xfe, 0xff, 0xff, 0xff]);
+    let ran = folder.gx(&["show", "soil.pairs", "--to", "desk"]);
+    assert_eq!(ran.text(), "pairs: 65534,65535\n");
+    folder.put("soil.pairs", b"property 7 \"S\xe4ure\" excludes property 8");
+    let ran = folder.gx(&["check", "soil.pairs"]);
+    assert!(ran.text().contains("expected text in UTF-8"));
     let ran = folder.gx_with(&["check", "--json"], b"pairs: 7,8");
     let due = "{\"answer\":\"accepted\",\"sort\":\"pairs\",\"pairs\":[{\"pair\":1,\"properties\":[7,8],\"words\":[null,null]}]}\n";
     assert_eq!((ran.status, ran.text().as_str()), (0, due));

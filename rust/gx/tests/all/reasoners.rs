@@ -7,13 +7,14 @@ use std::time::{Duration, Instant};
 use differential::chance::Chance;
 use differential::derived::{missed, weaker};
 use differential::draw::{self, Names as Drawn, Shape};
-use differential::excluding::{drawn, with_implied_lacks};
-use gx::blocks::encode;
-use gx::entry::Entry;
+use differential::excluding::{self, with_implied_lacks};
+use differential::naming::{laid, named, Dictionary};
 use gx::library::{compare, Compared, Under};
 use gx::names::Names;
 use gx::owl::question;
 use gx::pairs;
+use reference::notation::entry;
+use reference::{encode, Entry};
 
 use crate::support::{ours, Folder};
 
@@ -26,9 +27,32 @@ const TRIES: usize = 2;
 /// How long it may take for all. One that does not end has said nothing, and what it has not said is no difference.
 const LIMIT: Duration = Duration::from_secs(60);
 
-/// A small pair with small numbers: a reasoner may make as many items as a number says. And a list of properties that exclude each
-/// other, half of the time an empty one.
-fn pair(seed: u64) -> (Vec<Entry>, Vec<Entry>, Vec<u8>) {
+/// Words with signs that a reasoner has to read past.
+const WORDS: &str = "link 1 \"sample\" \"samples\"\nlink 32768 \"field (of 'clay')\"\nlink 65535 \"a \\\"core\\\"\"\n\
+                     property 1 \"<wet & cold>\"\nproperty 32768 \"sealed: Ü\"\n";
+
+/// What is asked: whether the one description is contained in the other under a list of properties that exclude each other and with
+/// a dictionary.
+struct Asked {
+    c: Vec<u8>,
+    d: Vec<u8>,
+    pairs: Vec<u8>,
+    dictionary: Vec<u8>,
+}
+
+/// A reasoner may make as many items as a number says, and does not end with 65,535 of them.
+const MOST_ITEMS: u16 = 9;
+
+/// The entries with no larger number than that.
+fn countable(mut entries: Vec<Entry>) -> Vec<Entry> {
+    for e in &mut entries {
+        e.number = e.number.min(MOST_ITEMS);
+    }
+    entries
+}
+
+/// A small pair with small numbers. Half of the lists are empty, and so are two thirds of the dictionaries.
+fn drawn(seed: u64) -> Asked {
     let mut chance = Chance::from_seed(seed);
     let shape = Shape {
         entries: 4 + chance.below(8),
@@ -52,12 +76,88 @@ fn pair(seed: u64) -> (Vec<Entry>, Vec<Entry>, Vec<u8>) {
             },
         ),
     };
-    let list = match chance.once_in(2) {
-        true => drawn(&mut chance, &[&c[..], &d].concat()),
+    let pairs = match chance.once_in(2) {
+        true => excluding::drawn(&mut chance, &[&c[..], &d].concat()),
         false => Vec::new(),
     };
-    let d = with_implied_lacks(&mut chance, &list, &d);
-    (ours(&c), ours(&d), list)
+    let d = with_implied_lacks(&mut chance, &pairs, &d);
+    let (c, d, dictionary) = match chance.once_in(3) {
+        true => with_names(&mut chance, &shape, &c, &d),
+        false => (c, d, Vec::new()),
+    };
+    Asked {
+        c: encode(&countable(c)),
+        d: encode(&countable(d)),
+        pairs,
+        dictionary,
+    }
+}
+
+/// Both with the same named entry beside what they say, at the top or by a link, so that what is contained stays so; sometimes the
+/// second has another one. The descriptions of the dictionary may name earlier ones.
+fn with_names(
+    chance: &mut Chance,
+    shape: &Shape,
+    c: &[Entry],
+    d: &[Entry],
+) -> (Vec<Entry>, Vec<Entry>, Vec<u8>) {
+    let drawn = Dictionary::of_drawn(chance, shape, 3, 3).descriptions;
+    let dictionary = laid(&drawn.into_iter().map(countable).collect::<Vec<_>>());
+    let mut name = || 1 + chance.up_to(2);
+    let (one, other) = (name(), name());
+    let by_link = chance.once_in(2).then_some(shape.names.name(1));
+    let other = if chance.once_in(4) { other } else { one };
+    (
+        beside(c, one, by_link),
+        beside(d, other, by_link),
+        dictionary,
+    )
+}
+
+/// The description with a named entry after its own.
+fn beside(entries: &[Entry], name: u16, by_link: Option<u16>) -> Vec<Entry> {
+    let mut entries = entries.to_vec();
+    let mut owner = 0;
+    if let Some(link) = by_link {
+        entries.push(entry(5, 0, link, 0));
+        owner = entries.len() as u16;
+    }
+    entries.push(named(owner, name));
+    entries
+}
+
+impl Asked {
+    /// The question as `gx owl` writes it.
+    fn in_owl(&self, folder: &Folder) -> String {
+        folder
+            .put("c.blocks", &self.c)
+            .put("d.blocks", &self.d)
+            .put("list.pairs", &self.pairs)
+            .put("named.dictionary", &self.dictionary)
+            .put("words.names", WORDS);
+        let ran = folder.gx(&[
+            "owl",
+            "c.blocks",
+            "d.blocks",
+            "--pairs",
+            "list.pairs",
+            "--dictionary",
+            "named.dictionary",
+            "--names",
+            "words.names",
+        ]);
+        assert_eq!((ran.status, ran.err.as_str()), (0, ""));
+        ran.text()
+    }
+
+    /// The library's answer.
+    fn is_contained(&self) -> bool {
+        let under = Under {
+            pairs: &self.pairs,
+            dictionary: &self.dictionary,
+        };
+        compare(under, &self.c, &self.d).unwrap() == Compared::Contained
+    }
 }
 
 /// What a program prints, if it ends in time. Konclude now and then does not end, so it is asked again.
@@ -98,33 +198,50 @@ fn installed(program: &str) -> bool {
     found
 }
 
-/// Asks of all pairs, and wants the reasoner's answers to be the library's. A pair that it does not answer in time is counted.
+/// Asks of all pairs, and wants the reasoner's answers to be the library's. A pair that it does not answer in time is passed over;
+/// one that answers less than half of them is not asked rightly.
 fn agree(program: &str, ask: impl Fn(&Folder, &str) -> Option<bool>) {
     if !installed(program) {
         return;
     }
     let folder = Folder::new(program);
     let begin = Instant::now();
-    let (mut answered, mut contained) = (0, 0);
+    let (mut asked, mut answered) = (0, 0);
     for seed in 0..PAIRS {
-        let (c, d, list) = pair(seed);
-        let text = question(&pairs::decode(&list), &c, &d, &Names::default());
-        let under = Under {
-            pairs: &list,
-            dictionary: &[],
-        };
-        let ours = compare(under, &encode(&c), &encode(&d)).unwrap() == Compared::Contained;
-        contained += u64::from(ours);
         if begin.elapsed() > LIMIT {
-            continue;
+            break;
         }
+        let pair = drawn(seed);
+        let text = pair.in_owl(&folder);
+        asked += 1;
         if let Some(theirs) = ask(&folder, &text) {
-            assert_eq!(theirs, ours, "{program}, pair {seed}:\n{text}");
+            assert_eq!(
+                theirs,
+                pair.is_contained(),
+                "{program}, pair {seed}:\n{text}"
+            );
             answered += 1;
         }
     }
-    println!("{program} agrees on {answered} of {PAIRS} pairs, of which {contained} are contained");
+    println!("{program} agrees on {answered} of {asked} pairs");
+    assert!(2 * answered > asked);
+}
+
+#[test]
+fn pairs_of_each_sort_are_asked() {
+    let folder = Folder::new("reasoners");
+    let [mut contained, mut listed, mut functional, mut naming] = [0; 4];
+    for seed in 0..PAIRS {
+        let pair = drawn(seed);
+        let text = pair.in_owl(&folder);
+        contained += u64::from(pair.is_contained());
+        listed += u64::from(text.contains("DisjointClasses("));
+        functional += u64::from(text.contains("FunctionalObjectProperty("));
+        naming += u64::from(!pair.dictionary.is_empty());
+    }
+    println!("of {PAIRS} pairs {contained} are contained, {listed} under a list, {functional} with single links, {naming} with names");
     assert!(contained > 40 && contained < PAIRS - 40);
+    assert!(listed > 40 && functional > 40 && naming > 40);
 }
 
 #[test]

@@ -19,7 +19,7 @@ pub struct ParsedPairs {
 /// The heading of a text of pairs.
 pub const PAIRS: &str = "pairs";
 /// The word between the two properties of a pair.
-pub(in crate::text) const EXCLUDES: &str = "excludes";
+pub const EXCLUDES: &str = "excludes";
 
 const A_PAIR: &str = "a pair (property 7 excludes property 8, or 7,8)";
 const A_PROPERTY: &str = "a property from 0 to 65,535";
