@@ -1,6 +1,8 @@
 // The frames of blocks: which of them breaks number 2 or number 3 of the table.
 ghost use mathlib.Core.Path.{_≡_};
+ghost use mathlib.Core.Bool.{cond};
 ghost use Prim.Native.Nat.{_+_, _-_, _*_, _≤_, _<_};
+ghost use lib.Dec.{eqb};
 ghost use lib.ListN.{length};
 ghost use Rattle.base.specs.Range.{all};
 ghost use Rattle.blocks.specs.Frame.{plain, checkWrong, zeroAt, usedOk, frameWrong};
@@ -11,19 +13,25 @@ use blocks::block_check;
 use blocks::block_second;
 use blocks::word;
 
-// Whether the bytes from one index up to another are zero.
+// 1 where a byte is not zero, else what was found before. It takes no jump, so that the loop below goes over many bytes at a step.
+fn found_with(found: u8, b: u8) -> u8
+    ensures { λ r. ⌜ r ≡ cond (eqb b 0) found 1 ⌝ }
+{
+    if b == 0 { found } else { 1 }
+}
+
+// Whether the bytes from one index up to another are zero. All of them are looked at: in a block that is right they are.
 fn all_zero(s: &[u8], from: usize, to: usize) -> bool
     requires { ⌜ (from ≤ to) × (to ≤ length (now s)) ⌝ }
     ensures { λ r. ⌜ r ≡ all (zeroAt (now (s .entry))) from (to - from) ⌝ }
 {
+    let mut found: u8 = 0;
     let mut i = from;
     while i < to {
-        if s[i] != 0 {
-            return false;
-        }
+        found = found_with(found, s[i]);
         i += 1;
     }
-    true
+    found == 0
 }
 
 // Whether block i of n, counted from 0, may use this many entries: all 63, or fewer in the last, and none in the only one.
