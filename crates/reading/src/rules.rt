@@ -1,7 +1,10 @@
 // The rules of single entries: the table of kinds, names, owners and depths, numbers 4, 13, 5 and 6 of the table of refusals.
 ghost use mathlib.Core.Path.{_≡_};
+ghost use mathlib.Core.Bool.{_||_, not};
 ghost use Prim.Native.Nat.{_+_, _*_, _/_, _≤_, _<_};
+ghost use lib.Dec.{eqb};
 ghost use lib.ListN.{length};
+ghost use Rattle.base.specs.Range.{bit};
 ghost use Rattle.blocks.specs.Entries.{kindOk, nameGiven, nameOk, namesOk, numberOk, formOk, owningKind, entriesOf, entryFrom};
 ghost use Rattle.blocks.specs.Faults.{first};
 ghost use Rattle.blocks.specs.code.Blockwise.{InBlock, Whole};
@@ -35,10 +38,10 @@ pub(crate) fn entry_from(s: &[u8], at: usize) -> Entry
 fn named_kind(kind: u8) -> bool
     ensures { λ r. ⌜ r ≡ kindOk (Schema.Named 0) kind ⌝ }
 {
-    if kind == 9 {
-        return true;
+    if kind <= 6 {
+        return 0 < kind;
     }
-    0 < kind && kind <= 6
+    kind == 9
 }
 
 // Whether a kind stands in the schema's table.
@@ -63,29 +66,42 @@ fn owning_kind(schema: Schema) -> u8
     }
 }
 
-// Whether the table allows the name for the kind.
+// Whether the table allows the name for the kind. Most entries have a name, so that this is asked first and guessed right.
 fn name_ok(kind: u8, name: u16) -> bool
     ensures { λ r. ⌜ r ≡ nameOk kind name ⌝ }
 {
-    if kind == 6 {
-        return name == 0;
-    }
     if 0 < name {
-        return true;
+        return kind != 6;
     }
-    kind == 9
+    kind == 6 || kind == 9
+}
+
+// 0 where the table allows any number for a kind, else 1. Kinds end at 9, and 8 and 9 are like 0 and 1 here; so all that is asked of a kind
+// is a look into a table of eight, without a jump: entries come in any order of kinds, and a jump would be guessed wrong.
+fn pinned(kind: u8) -> u32
+    requires { ⌜ kind ≤ 9 ⌝ }
+    ensures { λ r. ⌜ r ≡ bit (not (eqb kind 3 || (eqb kind 4 || eqb kind 7))) ⌝ }
+{
+    let low = kind % 8;
+    match low {
+        0 => 1,
+        1 => 1,
+        2 => 1,
+        3 => 0,
+        4 => 0,
+        5 => 1,
+        6 => 1,
+        7 => 0,
+        _ => 2,
+    }
 }
 
 // Whether the table allows the number for the kind.
 fn number_ok(kind: u8, number: u16) -> bool
+    requires { ⌜ kind ≤ 9 ⌝ }
     ensures { λ r. ⌜ r ≡ numberOk kind number ⌝ }
 {
-    match kind {
-        3 => true,
-        4 => true,
-        7 => true,
-        _ => number == 0,
-    }
+    pinned(kind) * (number as u32) == 0
 }
 
 // Whether an entry by itself is as the table has it: the contrary of number 4.

@@ -2,6 +2,7 @@
 use borrow.Author.Needs.{needs}
 use Rattle.base.proofs.Tests.{confirmed, eq-eqb, ne-eqb, refuted}
 use Rattle.blocks.specs.Entries.{formOk}
+use Rattle.reading.proofs.rules.KindLaws.{kind-few}
 use Rattle.reading.proofs.rules.form_ok.Statement.{statement}
 use Rattle.reading.proofs.rules.form_ok.Tie as tie
 
@@ -34,7 +35,11 @@ returns-4 c =
       confirmed (c .before .before .name-ok .ensures) (c .before .if3 .left),
     ) (c .number-ok .ensures)
 
+number-ok-requires : tie.Need-number-ok-requires
+number-ok-requires c κs =
+    kind-few (c .before .before .before .before .before .before .args .schema) _ (confirmed (c .before .before .before .before .before .kind-ok .ensures) (c .before .before .before .before .if1 .left))
+
 pub form-ok-spec : {M : Type 1} → statement M
 form-ok-spec =
     tie.close
-    (tie.spec (λ c κs. search needs) returns returns-2 (λ c κs. search needs) returns-3 (λ c κs. search needs) returns-4)
+    (tie.spec (λ c κs. search needs) returns returns-2 (λ c κs. search needs) returns-3 number-ok-requires returns-4)
