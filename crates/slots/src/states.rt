@@ -1,79 +1,55 @@
 // Which entries of a second description hold: one pass over them, with the state of each 'every' in a table, and one look at the slots for
 // an entry. The slots are not sorted.
 ghost use mathlib.Core.Path.{_≡_};
-ghost use mathlib.Core.Bool.{_&&_, _||_, cond, false, true};
+ghost use mathlib.Core.Bool.{cond};
 ghost use mathlib.Core.List.{List};
-ghost use Prim.Native.Nat.{_+_, _≤_, _<_};
+ghost use Prim.Native.Nat.{_+_, _*_, _≤_, _<_};
 ghost use lib.Dec.{eqb};
 ghost use lib.ListN.{getD, length};
 ghost use Rattle.blocks.specs.Entries.{entriesOf};
 ghost use Rattle.blocks.specs.code.Blockwise.{InBlock};
+ghost use Rattle.base.specs.Range.{bit};
 ghost use Rattle.base.specs.Search.{firstFrom};
 ghost use Rattle.logic.specs.Background.{standing};
-ghost use Rattle.logic.specs.Normal.{atMost, found};
+ghost use Rattle.logic.specs.Normal.{atMost};
 ghost use Rattle.meaning.specs.Owned.{Owned};
 ghost use Rattle.pairs.specs.Pairs.{under};
 ghost use Rattle.pairs.specs.code.Index.{PairsIndexed};
 ghost use Rattle.passes.specs.code.Restrict.{excludedAt};
 ghost use Rattle.passes.specs.code.Slots.{Slot};
-ghost use Rattle.slots.specs.code.States.{Indexed, Searched, Stated, entrySlot, holdsInState, holdsBySlots, slotFor, passed, stateBelow, supportedBy};
-ghost use Rattle.slots.specs.code.Tables.{Kept, Readable, highIn, noBound, slotsIn};
+ghost use Rattle.slots.specs.code.States.{Indexed, Searched, Stated, besideBounds, boundsSupport, entrySlot, holdsInState, holdsBySlots, leastAsked, mostAsked, nowhere, passed, stateBelow};
+ghost use Rattle.slots.specs.code.Tables.{Kept, Readable, highIn, highPart, lowPart, noBound, slotsIn};
 use crate::entries::entry_from;
 use crate::excluding::excluded;
 use crate::slots::NO_BOUND;
+use crate::slots::entry_key;
 use crate::slots::high_in;
-use crate::slots::link_key;
 use crate::slots::low_in;
-use crate::slots::property_key;
 use crate::slots::search;
 use base::long;
 use base::wide;
 use blocks::Entry;
-use blocks::Link;
-use blocks::Property;
 use blocks::next_count;
 
 // Two states that are no place of the normal form: below NOWHERE nothing stands, and after PASSED, an at most 0, all holds. A slot has
 // neither number.
-const NOWHERE: u64 = 1023;
+const NOWHERE: u16 = 1023;
 
-const PASSED: u64 = 1024;
+const PASSED: u16 = 1024;
 
-// The slot of a property at a place, or 0.
-fn property_slot(
-    table: &[u64],
-    next: &[u16],
-    head: &[u16],
-    used: usize,
-    place: u64,
-    p: Property,
-) -> usize
-    requires { ⌜ Kept (now table) (now next) (now head) used × (used ≤ 1008) × (place < 1024) ⌝ }
-    ensures { λ r. ⌜ (r ≤ used) × ((ss : List Slot) → Indexed ss (now (table .entry)) (now (next .entry)) (now (head .entry)) used → r ≡ slotFor ss place false (p .0)) ⌝ }
-{
-    search(table, next, head, used, property_key(place, p))
-}
+// Upper bounds below NO_BOUND are listed; no upper bound is above ANY, and no lower one is at least NEVER.
+const LISTED: u64 = 65535;
 
-// The slot of a link at a place, or 0.
-fn link_slot(table: &[u64], next: &[u16], head: &[u16], used: usize, place: u64, l: Link) -> usize
-    requires { ⌜ Kept (now table) (now next) (now head) used × (used ≤ 1008) × (place < 1024) ⌝ }
-    ensures { λ r. ⌜ (r ≤ used) × ((ss : List Slot) → Indexed ss (now (table .entry)) (now (next .entry)) (now (head .entry)) used → r ≡ slotFor ss place true (l .0)) ⌝ }
-{
-    search(table, next, head, used, link_key(place, l))
-}
+const ANY: u64 = 131071;
 
-// The slot of an entry at a place, or 0. One way for each kind, so that the kind is known when its bounds are judged.
+const NEVER: u64 = 131072;
+
+// The slot of an entry at a place, or 0.
 fn entry_slot(table: &[u64], next: &[u16], head: &[u16], used: usize, place: u64, e: Entry) -> usize
     requires { ⌜ Kept (now table) (now next) (now head) used × (used ≤ 1008) × (place < 1024) ⌝ }
     ensures { λ r. ⌜ (r ≤ used) × ((ss : List Slot) → Indexed ss (now (table .entry)) (now (next .entry)) (now (head .entry)) used → r ≡ entrySlot ss place e) ⌝ }
 {
-    let kind = e.kind;
-    match kind {
-        3 => link_slot(table, next, head, used, place, e.link()),
-        4 => link_slot(table, next, head, used, place, e.link()),
-        5 => link_slot(table, next, head, used, place, e.link()),
-        _ => property_slot(table, next, head, used, place, e.property()),
-    }
+    search(table, next, head, used, entry_key(place, e))
 }
 
 // The bounds of a slot, as a slot; none where there is no slot.
@@ -87,6 +63,53 @@ fn bounds(table: &[u64], s: usize) -> u64
     table[s]
 }
 
+// What an entry asks of the bounds of its slot, kind by kind: "Kinds 1 and 2 need the same entry; kind 3 needs n = 0 or at least m with
+// m ≥ n; kind 4 needs at most m with m ≤ n; kind 5 always holds; kind 6 never does." There are no other kinds. The entry's own number comes
+// on top where it counts. All that a kind decides is a number known beforehand, so that it takes no jump: services come in any order
+// of kinds, and a jump by kind would be guessed wrong.
+fn least_asked(kind: u8) -> u64
+    ensures { λ r. ⌜ (r ≡ leastAsked kind) × (r ≤ 131072) ⌝ }
+{
+    match kind {
+        1 => 1,
+        2 => 0,
+        3 => 0,
+        4 => 0,
+        5 => 0,
+        _ => NEVER,
+    }
+}
+
+fn most_asked(kind: u8) -> u64
+    ensures { λ r. ⌜ (r ≡ mostAsked kind) × (r ≤ 131071) ⌝ }
+{
+    match kind {
+        1 => ANY,
+        2 => LISTED,
+        3 => ANY,
+        4 => 0,
+        5 => ANY,
+        _ => ANY,
+    }
+}
+
+// The number of an entry where its kind is this one, else 0.
+fn number_of(kind: u8, other: u8, number: u16) -> u64
+    ensures { λ r. ⌜ (r ≡ bit (eqb kind other) * number) × (r < 65536) ⌝ }
+{
+    if kind == other { long(number) } else { 0 }
+}
+
+// Whether a slot's bounds support an entry of this kind and number.
+fn supported(kind: u8, number: u16, x: u64) -> bool
+    ensures { λ r. ⌜ r ≡ boundsSupport kind number (lowPart x) (highIn (highPart x)) ⌝ }
+{
+    if low_in(x) < least_asked(kind) + number_of(kind, 3, number) {
+        return false;
+    }
+    high_in(x) <= most_asked(kind) + number_of(kind, 4, number)
+}
+
 // Whether every record has at most so many of a link: "at most 1 or more is always met" of a link from 32,768 up.
 fn always(link: u16, number: u16) -> bool
     ensures { λ r. ⌜ r ≡ atMost number (standing .cap link) ⌝ }
@@ -94,45 +117,9 @@ fn always(link: u16, number: u16) -> bool
     32768 <= link && 1 <= number
 }
 
-// "kind 4 needs at most m with m ≤ n", or that every record keeps it.
-fn most_holds(link: u16, number: u16, hi: u64) -> bool
-    ensures { λ r. ⌜ r ≡ atMost number (highIn hi) || atMost number (standing .cap link) ⌝ }
-{
-    if hi <= number as u64 {
-        return true;
-    }
-    always(link, number)
-}
-
-// "Kinds 1 and 2 need the same entry", and a lack may be implied.
-fn lack_holds(hi: u64, out: bool) -> bool
-    ensures { λ r. ⌜ r ≡ found (highIn hi) || out ⌝ }
-{
-    if hi < NO_BOUND {
-        return true;
-    }
-    out
-}
-
-// Whether a slot's bounds support an entry of this kind and number: "Kinds 1 and 2 need the same entry; kind 3 needs n = 0 or at least m
-// with m ≥ n; kind 4 needs at most m with m ≤ n; kind 5 always holds; kind 6 never does." There are no other kinds. An at most that every
-// record keeps holds too, and a lack that is implied.
-fn supported(kind: u8, name: u16, number: u16, lo: u64, hi: u64, out: bool) -> bool
-    ensures { λ r. ⌜ r ≡ supportedBy standing out kind name number lo (highIn hi) ⌝ }
-{
-    match kind {
-        1 => lo != 0,
-        2 => lack_holds(hi, out),
-        3 => number as u64 <= lo,
-        4 => most_holds(name, number, hi),
-        5 => true,
-        6 => false,
-        _ => false,
-    }
-}
-
-// Whether an entry is a lack that its place implies: the place has a property that excludes the entry's.
-fn implied(
+// Whether an entry holds at a place that does not list it: an at most that every record keeps, or a lack that the place implies, since it
+// has a property that excludes the entry's.
+fn holds_beside(
     pairs: &[u8],
     index: &[u8; 512],
     table: &[u64],
@@ -143,66 +130,68 @@ fn implied(
     e: Entry,
 ) -> bool
     requires { ⌜ PairsIndexed (now pairs) (now index) × Kept (now table) (now next) (now head) used × (place < 1024) ⌝ }
-    ensures { λ r. ⌜ r ≡ (eqb (e .kind) 2 && excludedAt (under (now (pairs .entry))) (slotsIn (now (table .entry)) used) place (e .name)) ⌝ }
+    ensures { λ r. ⌜ r ≡ besideBounds standing (excludedAt (under (now (pairs .entry))) (slotsIn (now (table .entry)) used) place (e .name)) (e .kind) (e .name) (e .number) ⌝ }
 {
-    if e.kind != 2 {
-        return false;
+    let kind = e.kind;
+    match kind {
+        2 => excluded(pairs, index, table, next, head, used, place, e.property()),
+        4 => always(e.name, e.number),
+        _ => false,
     }
-    excluded(pairs, index, table, next, head, used, place, e.property())
 }
 
-// Whether an entry holds in a place of this state. An 'every' is not looked up: it holds in any case.
-fn holds(
+// The state below an entry of slot s, if it is an 'every', whose link has at most `hi` there.
+fn state_below(s: usize, hi: u64) -> u16
+    requires { ⌜ s ≤ 1008 ⌝ }
+    ensures { λ r. ⌜ (r ≡ cond (eqb s 0) nowhere (cond (eqb hi 0) passed s)) × (r ≤ passed) ⌝ }
+{
+    if s == 0 {
+        return NOWHERE;
+    }
+    if hi == 0 { PASSED } else { s as u16 }
+}
+
+// Whether an entry holds, and the state of the place that it owns, if it is an 'every'.
+struct Looked {
+    holds: bool,
+    below: u16,
+}
+
+// Looks an entry up in a place of this state: once, for both.
+fn look(
     pairs: &[u8],
     index: &[u8; 512],
     table: &[u64],
     next: &[u16],
     head: &[u16],
     used: usize,
-    state: u64,
+    state: u16,
     e: Entry,
-) -> bool
+) -> Looked
     requires { ⌜ PairsIndexed (now pairs) (now index) × Kept (now table) (now next) (now head) used × (used ≤ 1008) × (state ≤ passed) ⌝ }
-    ensures { λ r. ⌜ ((ss : List Slot) → Indexed ss (now (table .entry)) (now (next .entry)) (now (head .entry)) used → r ≡ holdsInState (under (now (pairs .entry))) ss state e) ⌝ }
-{
-    if e.kind == 5 {
-        return true;
-    }
-    if state == PASSED {
-        return true;
-    }
-    let x = bounds(table, entry_slot(table, next, head, used, state, e));
-    let out = implied(pairs, index, table, next, head, used, state, e);
-    supported(e.kind, e.name, e.number, low_in(x), high_in(x), out)
-}
-
-// The state that a link leads to from a place of this state.
-fn state_below(table: &[u64], next: &[u16], head: &[u16], used: usize, state: u64, l: Link) -> u64
-    requires { ⌜ Kept (now table) (now next) (now head) used × (used ≤ 1008) × (state ≤ passed) ⌝ }
-    ensures { λ r. ⌜ (r ≤ passed) × ((ss : List Slot) → Indexed ss (now (table .entry)) (now (next .entry)) (now (head .entry)) used → r ≡ stateBelow ss state (l .0)) ⌝ }
+    ensures { λ r. ⌜ (r .below ≤ passed) × ((ss : List Slot) → Indexed ss (now (table .entry)) (now (next .entry)) (now (head .entry)) used → r .holds ≡ holdsInState (under (now (pairs .entry))) ss state e)
+        × (e .kind ≡ 5 → (ss : List Slot) → Indexed ss (now (table .entry)) (now (next .entry)) (now (head .entry)) used → r .below ≡ stateBelow ss state (e .name)) ⌝ }
 {
     if state == PASSED {
-        return PASSED;
+        return Looked {
+            holds: true,
+            below: PASSED,
+        };
     }
-    let s = link_slot(table, next, head, used, state, l);
-    if s == 0 {
-        return NOWHERE;
+    let place = long(state);
+    let s = entry_slot(table, next, head, used, place, e);
+    let x = bounds(table, s);
+    let below = state_below(s, high_in(x));
+    if supported(e.kind, e.number, x) {
+        return Looked {
+            holds: true,
+            below: below,
+        };
     }
-    if high_in(table[s]) == 0 {
-        return PASSED;
+    Looked {
+        holds: holds_beside(pairs, index, table, next, head, used, place, e),
+        below: below,
     }
-    s as u64
-}
-
-// The state that an 'every' leads to; 0 for any other entry.
-fn leads_to(table: &[u64], next: &[u16], head: &[u16], used: usize, state: u64, e: Entry) -> u64
-    requires { ⌜ Kept (now table) (now next) (now head) used × (used ≤ 1008) × (state ≤ passed) ⌝ }
-    ensures { λ r. ⌜ (r ≤ passed) × (e .kind ≡ 5 → (ss : List Slot) → Indexed ss (now (table .entry)) (now (next .entry)) (now (head .entry)) used → r ≡ stateBelow ss state (e .name)) ⌝ }
-{
-    if e.kind != 5 {
-        return 0;
-    }
-    state_below(table, next, head, used, state, e.link())
 }
 
 // The number of the first that fails of `count` entries, those after the first `done`, whose bytes start at `from`; 0 where all hold.
@@ -229,12 +218,13 @@ fn failing_in_block(
             break 0;
         }
         let e = entry_from(d, from + 8 * i);
-        let s = long(states[wide(e.owner)]);
+        let s = states[wide(e.owner)];
         i += 1;
-        if !holds(pairs, index, table, next, head, used, s, e) {
+        let v = look(pairs, index, table, next, head, used, s, e);
+        if !v.holds {
             break done + i;
         }
-        states[done + i] = leads_to(table, next, head, used, s, e) as u16;
+        states[done + i] = v.below;
     }
 }
 

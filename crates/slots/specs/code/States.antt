@@ -3,7 +3,7 @@
 use Prim.Native.Nat.{_+_, _<_, _≤_, suc, zero, ℕ}
 use lib.Dec.{eqb, leb}
 use lib.ListN.{getD, length}
-use mathlib.Core.Bool.{Bool, _||_, cond, not, true}
+use mathlib.Core.Bool.{Bool, _||_, cond, false, not, true}
 use mathlib.Core.List.{List}
 use mathlib.Core.Logic.{_≢_}
 use mathlib.Core.Option.{Option, none}
@@ -61,6 +61,21 @@ unfoldable pub supportedBy : Background → Bool → ℕ → ℕ → ℕ → ℕ
 supportedBy b x k l n lo hi =
     cond (eqb k 1) (not (eqb lo 0))
     (cond (eqb k 2) (found hi || x) (cond (eqb k 3) (leb n lo) (cond (eqb k 4) (atMost n hi || atMost n (b .cap l)) (eqb k 5))))
+
+-- the part of this that the slot's bounds decide, and the part that the background decides beside them
+unfoldable pub boundsSupport : ℕ → ℕ → ℕ → Option ℕ → Bool
+boundsSupport k n lo hi =
+    cond (eqb k 1) (not (eqb lo 0)) (cond (eqb k 2) (found hi) (cond (eqb k 3) (leb n lo) (cond (eqb k 4) (atMost n hi) (eqb k 5))))
+
+unfoldable pub besideBounds : Background → Bool → ℕ → ℕ → ℕ → Bool
+besideBounds b x k l n = cond (eqb k 2) x (cond (eqb k 4) (atMost n (b .cap l)) false)
+
+-- what a kind asks of the two bounds of a slot beside the entry's number: no lower bound is 131,072, and no upper one is above 131,071
+unfoldable pub leastAsked : ℕ → ℕ
+leastAsked k = cond (eqb k 1) 1 (cond (eqb k 2) 0 (cond (eqb k 3) 0 (cond (eqb k 4) 0 (cond (eqb k 5) 0 131072))))
+
+unfoldable pub mostAsked : ℕ → ℕ
+mostAsked k = cond (eqb k 1) 131071 (cond (eqb k 2) 65535 (cond (eqb k 3) 131071 (cond (eqb k 4) 0 131071)))
 
 -- the slot of an entry at place v
 abbrev pub entrySlot : List Slot → ℕ → Entry → ℕ

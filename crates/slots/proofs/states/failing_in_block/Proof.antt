@@ -34,11 +34,11 @@ entry-there : (c : tie.After-entry-from Inv-loop μ-loop) → suc (c .before .be
 entry-there c = omega (arith, c .before .if1 .left, c .before .before .before .before .before .before .before .before .before .pre .5 .within)
 
 -- the state of its owner is read
-state-read : (c : tie.After-long Inv-loop μ-loop) → c .long .result ≡ getD (c .before .before .before .before .before .loop .states) (c .before .before .before .entry-from .result .owner) 0
-state-read c = c .long .ensures .0 ∙ ap (λ (o : ℕ). getD (c .before .before .before .before .before .loop .states) o 0) (c .before .before .wide .ensures .0)
+state-read : (c : tie.After-slice-known2 Inv-loop μ-loop) → getD (c .before .before .before .before .loop .states) (c .before .wide .result) 0 ≡ getD (c .before .before .before .before .loop .states) (c .before .before .entry-from .result .owner) 0
+state-read c = ap (λ (o : ℕ). getD (c .before .before .before .before .loop .states) o 0) (c .before .wide .ensures .0)
 
-state-little : (c : tie.After-long Inv-loop μ-loop) → c .long .result ≤ 1024
-state-little c = state-small (c .before .before .before .before .before .before .before .before .before .before .before .before .pre .3) (c .before .before .before .before .before .loop .inv .1) (entry-there (c .before .before .before)) (entry-read (c .before .before .before)) (state-read c)
+state-little : (c : tie.After-slice-known2 Inv-loop μ-loop) → getD (c .before .before .before .before .loop .states) (c .before .wide .result) 0 ≤ 1024
+state-little c = state-small (c .before .before .before .before .before .before .before .before .before .before .before .pre .3) (c .before .before .before .before .loop .inv .1) (entry-there (c .before .before)) (entry-read (c .before .before)) (state-read c)
 
 loop-holds : tie.Need-loop-holds Inv-loop μ-loop
 loop-holds c =
@@ -50,45 +50,41 @@ loop-holds c =
 entry-from-requires : tie.Need-entry-from-requires Inv-loop μ-loop
 entry-from-requires c κs = omega (arith, c .if1 .left, c .before .before .before .before .before .before .before .before .pre .5 .there)
 
-slice-read-long : tie.Need-slice-read-long Inv-loop μ-loop
-slice-read-long c =
+slice-read-s : tie.Need-slice-read-s Inv-loop μ-loop
+slice-read-s c =
     omega (arith, c .before .wide .ensures .0, owner-before (c .before .before .before .before .before .before .before .before .before .before .before .pre .3) (entry-there (c .before .before)) (entry-read (c .before .before)), entry-there (c .before .before), c .before .before .before .before .loop .inv .1 .room)
 
-holds-requires : tie.Need-holds-requires Inv-loop μ-loop
-holds-requires c κs = (c .before .before .before .before .before .before .before .before .before .before .before .before .pre .0, c .before .before .before .before .before .before .before .before .before .before .before .before .pre .1, c .before .before .before .before .before .before .before .before .before .before .before .before .pre .2, state-little c)
+look-requires : tie.Need-look-requires Inv-loop μ-loop
+look-requires c κs =
+    let p = c .before .before .before .before .before .before .before .before .before .before .before .pre in
+    (p .0, p .1, p .2, state-little c)
 
 add-result : tie.Need-add-result Inv-loop μ-loop
 add-result c = omega (arith, entry-there (c .before .before .before .before .before), c .before .before .before .before .before .before .before .before .before .before .before .before .before .before .pre .4)
 
-leads-to-requires : tie.Need-leads-to-requires Inv-loop μ-loop
-leads-to-requires c κs = (c .before .before .before .before .before .before .before .before .before .before .before .before .before .before .pre .1, c .before .before .before .before .before .before .before .before .before .before .before .before .before .before .pre .2, state-little (c .before .before))
-
-cast-states : tie.Need-cast-states Inv-loop μ-loop
-cast-states c = omega (arith, c .leads-to .ensures .0)
-
 add-states : tie.Need-add-states Inv-loop μ-loop
-add-states c = omega (arith, entry-there (c .before .before .before .before .before .before), c .before .before .before .before .before .before .before .before .before .before .before .before .before .before .before .pre .4)
+add-states c = omega (arith, entry-there (c .before .before .before .before .before), c .before .before .before .before .before .before .before .before .before .before .before .before .before .before .pre .4)
 
 mul-states : tie.Need-mul-states Inv-loop μ-loop
-mul-states c = omega (arith, entry-there (c .before .before .before .before .before .before), c .before .before .before .before .before .before .before .before .before .before .before .before .before .before .before .pre .4)
+mul-states c = omega (arith, entry-there (c .before .before .before .before .before), c .before .before .before .before .before .before .before .before .before .before .before .before .before .before .pre .4)
 
 slice-write-states : tie.Need-slice-write-states Inv-loop μ-loop
-slice-write-states c = omega (arith, entry-there (c .before .before .before .before .before .before), c .before .before .before .before .before .before .before .before .loop .inv .1 .room)
+slice-write-states c = omega (arith, entry-there (c .before .before .before .before .before), c .before .before .before .before .before .before .before .loop .inv .1 .room)
 
 loop-again : tie.Need-loop-again Inv-loop μ-loop
 loop-again c =
-    let a = c .before .before .before .before .before .before .before .before .before .before .before .before .before .before .before in
-    let l = c .before .before .before .before .before .before .before .before .loop in
-    let w = c .before .before .before .before .before .before in
-    let b : l .i < a .args .count = omega (arith, c .before .before .before .before .before .before .before .if1 .left) in
+    let a = c .before .before .before .before .before .before .before .before .before .before .before .before .before .before in
+    let l = c .before .before .before .before .before .before .before .loop in
+    let w = c .before .before .before .before .before in
+    let b : l .i < a .args .count = omega (arith, c .before .before .before .before .before .before .if1 .left) in
     let e : a .args .done + (l .i + 1) ≡ a .args .done + l .i + 1 = omega arith in (
       omega (arith, b),
-      stated-more (a .pre .3) (l .inv .1) (entry-there w) (entry-read w) (state-read (c .before .before .before)) (omega arith) (c .leads-to .ensures .0) (c .leads-to .ensures .1),
+      stated-more (a .pre .3) (l .inv .1) (entry-there w) (entry-read w) (state-read (c .before .before .before)) (omega arith) (c .before .before .look .ensures .0) (c .before .before .look .ensures .2),
       simp length-set (l .inv .2),
       λ ss x.
           l .inv .3 ss x
           ∙ first-goes _ _ _ (omega (arith, b))
-          (holds-here (a .pre .3) (l .inv .1) (entry-there w) (entry-read w) (state-read (c .before .before .before)) (omega arith) (under (a .args .pairs .now)) ss x (c .before .before .holds .ensures ss x) ∙ true-of-not _ (c .before .if2 .left))
+          (holds-here (a .pre .3) (l .inv .1) (entry-there w) (entry-read w) (state-read (c .before .before .before)) (omega arith) (under (a .args .pairs .now)) ss x (c .before .before .look .ensures .1 ss x) ∙ true-of-not _ (c .if2 .left))
           ∙ rw e,
     )
 
@@ -114,12 +110,12 @@ returns-2 c =
       stated = λ z. absurd (omega (arith, z));
       first = λ ss x. e
           ∙ sym (l .inv .3 ss x ∙ first-stops _ _ _ (omega (arith, b))
-          (holds-here (a .pre .3) (l .inv .1) (entry-there w) (entry-read w) (state-read (c .before .before)) (omega arith) (under (a .args .pairs .now)) ss x (c .before .holds .ensures ss x) ∙ false-of-not _ (c .if2 .taken)));
+          (holds-here (a .pre .3) (l .inv .1) (entry-there w) (entry-read w) (state-read (c .before .before .before)) (omega arith) (under (a .args .pairs .now)) ss x (c .before .before .look .ensures .1 ss x) ∙ false-of-not _ (c .if2 .taken)));
     }
 
 pub failing-in-block-spec : {M : Type 1} → statement M
 failing-in-block-spec =
     tie.close
-    (tie.spec Inv-loop μ-loop loop-holds (λ c. search needs) (λ c. search needs) entry-from-requires (λ c κs. search needs) (λ c. search needs) slice-read-long
-    (λ c κs. search needs) (λ c. search needs) holds-requires add-result leads-to-requires cast-states add-states mul-states slice-write-states
+    (tie.spec Inv-loop μ-loop loop-holds (λ c. search needs) (λ c. search needs) entry-from-requires (λ c κs. search needs) (λ c. search needs) slice-read-s
+    (λ c. search needs) look-requires add-result add-states mul-states slice-write-states
     (λ c. search needs) loop-again (λ c. search needs) returns (λ c. search needs) returns-2)
