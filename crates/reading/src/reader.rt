@@ -1,11 +1,13 @@
 // Reading an input: number 1 by its length, then its blocks, then its entries.
 ghost use mathlib.Core.Path.{_≡_};
+ghost use mathlib.Core.List.{_∷_};
 ghost use Prim.Native.Nat.{_*_, _-_, _≤_};
 ghost use lib.ListN.{length};
 ghost use Rattle.blocks.specs.Frame.{plain, blocksIn, usedIn, totalIn};
 ghost use Rattle.blocks.specs.Entries.{limitOf, entriesOf};
-ghost use Rattle.blocks.specs.Faults.{entryFaults, first};
+ghost use Rattle.blocks.specs.Faults.{blockFaults, entryFaults, fault, first, lengthWrong};
 ghost use Rattle.blocks.specs.Reading.{answer, readingOf};
+ghost use Rattle.blocks.specs.code.Blockwise.{Whole};
 ghost use Rattle.blocks.specs.code.ReadingSteps.{blocksRead};
 ghost use Rattle.blocks.specs.declared.Schema.{Schema};
 use crate::frame::first_block_fault;
@@ -40,10 +42,18 @@ fn blocks_read(s: &[u8], schema: Schema) -> usize
     n / 512
 }
 
-// Reads an input as a description, with or without names, or a specimen: its number of entries, or the refusal by the first number that applies. The
-// input's own number is only handed on, into the refusal.
-pub fn read(s: &[u8], schema: Schema, input: u16) -> Reading
-    ensures { λ r. ⌜ r ≡ readingOf schema input (now (s .entry)) ⌝ }
+// How many entries n blocks have whose frames are sound.
+fn entries_in(s: &[u8], n: usize) -> usize
+    requires { ⌜ (1 ≤ n) × (n ≤ 32) × (n ≡ blocksIn (now s)) × (usedIn (now s) (n - 1) ≤ 63) ⌝ }
+    ensures { λ r. ⌜ (r ≡ totalIn plain (now (s .entry))) × (r ≤ 2016) ⌝ }
+{
+    let last = n - 1;
+    63 * last + word(s, 512 * last + 2) as usize
+}
+
+// Reads the blocks of an input and not its entries: how many these are, or the refusal by number 1, 2 or 3.
+pub fn read_blocks(s: &[u8], schema: Schema, input: u16) -> Reading
+    ensures { λ r. ⌜ r ≡ answer input (totalIn plain (now (s .entry))) (first (fault (lengthWrong schema (now (s .entry))) 1 0 ∷ blockFaults plain (now (s .entry)) (blocksIn (now (s .entry))) 0 (blocksIn (now (s .entry))))) ⌝ }
 {
     let n = blocks_read(s, schema);
     if n == 0 {
@@ -52,21 +62,34 @@ pub fn read(s: &[u8], schema: Schema, input: u16) -> Reading
     let found = first_block_fault(s, n);
     match found {
         Finding::Faulty(number, place) => Reading::Refused(number, input, place),
-        Finding::Clean => read_entries(s, schema, input, n),
+        Finding::Clean => {
+            let total = entries_in(s, n);
+            Reading::Accepted(total as u16)
+        }
     }
 }
 
-// Reads the entries of n blocks whose frames are sound.
-fn read_entries(s: &[u8], schema: Schema, input: u16, n: usize) -> Reading
-    requires { ⌜ (1 ≤ n) × (n ≤ 32) × (n ≡ blocksIn (now s)) × (512 * n ≤ length (now s)) × (usedIn (now s) (n - 1) ≤ 63) ⌝ }
-    ensures { λ r. ⌜ r ≡ answer input (totalIn plain (now (s .entry))) (first (entryFaults schema (entriesOf (now (s .entry))) 1 (length (entriesOf (now (s .entry)))))) ⌝ }
+// Reads the entries of an input whose blocks are sound.
+fn read_entries(s: &[u8], schema: Schema, input: u16, total: u16) -> Reading
+    requires { ⌜ (total ≡ length (entriesOf (now s))) × (total ≤ 2016) × Whole (now s) total ⌝ }
+    ensures { λ r. ⌜ r ≡ answer input total (first (entryFaults schema (entriesOf (now (s .entry))) 1 total)) ⌝ }
 {
-    let last = n - 1;
-    let total = 63 * last + word(s, 512 * last + 2) as usize;
-    let found = first_entry_fault(s, schema, total);
+    let found = first_entry_fault(s, schema, total as usize);
     match found {
         Finding::Faulty(number, place) => Reading::Refused(number, input, place),
-        Finding::Clean => Reading::Accepted(total as u16),
+        Finding::Clean => Reading::Accepted(total),
+    }
+}
+
+// Reads an input as a description, with or without names, or a specimen: its number of entries, or the refusal by the first number that applies. The
+// input's own number is only handed on, into the refusal.
+pub fn read(s: &[u8], schema: Schema, input: u16) -> Reading
+    ensures { λ r. ⌜ r ≡ readingOf schema input (now (s .entry)) ⌝ }
+{
+    let reading = read_blocks(s, schema, input);
+    match reading {
+        Reading::Refused(number, i, place) => Reading::Refused(number, i, place),
+        Reading::Accepted(total) => read_entries(s, schema, input, total),
     }
 }
 

@@ -151,7 +151,7 @@ fn level_by(level: &[u8], n: usize, o: u16) -> u8
 }
 
 // The number that an entry is refused by whose owner has level l, 4 before 13 before 5 before 6; 0 where none applies.
-fn entry_refusal(schema: Schema, e: Entry, l: u8) -> u8
+pub fn entry_refusal(schema: Schema, e: Entry, l: u8) -> u8
     ensures { λ r. ⌜ r ≡ entryRefusal schema e l ⌝ }
 {
     if !form_ok(schema, e) {

@@ -6,22 +6,20 @@ use lib.ListN.{length}
 use mathlib.Core.Bool.{false, true}
 use mathlib.Core.List.{List}
 use mathlib.Core.Logic.{_≢_}
-use mathlib.Core.Path.{_∙_, _≡_, ap, sym}
+use mathlib.Core.Path.{_∙_, _≡_, ap}
 use native.Mathlib.Omega.{arith}
 use Rattle.base.proofs.Tests.{bool-cases, eq-cases, eq-eqb, ne-eqb, neither-left, neither-right, tests, true-of-not}
-use Rattle.blocks.proofs.Format.EntryBytes.{length-entries}
-use Rattle.blocks.proofs.Refusing.FirstFault.{first-append, orElse}
-use Rattle.blocks.specs.Entries.{entriesOf, limitOf}
-use Rattle.blocks.specs.Faults.{blockFaults, entryFaults, faults, first, lengthWrong}
+use Rattle.blocks.specs.Entries.{limitOf}
+use Rattle.blocks.specs.Faults.{blockFaults, first, lengthWrong}
 use Rattle.blocks.specs.Frame.{blocksIn, plain, totalIn, usedIn}
-use Rattle.blocks.specs.Reading.{answer, readingOf}
+use Rattle.blocks.specs.Reading.{answer}
 use Rattle.blocks.specs.Words.{wordAt}
 use Rattle.blocks.specs.code.ReadingSteps.{blocksRead}
 use Rattle.blocks.specs.declared.Finding.{Finding}
 use Rattle.blocks.specs.declared.Finding.the-variants.{Clean, Faulty}
-use Rattle.blocks.specs.declared.Reading.{Reading}
 use Rattle.blocks.specs.declared.Reading.the-variants.{Accepted, Refused}
 use Rattle.blocks.specs.declared.Schema.{Schema}
+use Rattle.reading.proofs.BlocksRead.{frameFaults}
 
 -- ---- number 1
 
@@ -62,47 +60,27 @@ blocks-cases σ s {n} e refused allowed =
     let m : eqb (length s % 512) 0 ≡ true = true-of-not _ (neither-left _ _ (neither-right (eqb (length s) 0) _ q)) in
     allowed (λ y. omega tests) q g)
 
--- ---- the whole
+-- ---- the blocks
 
-first-of-faults : (σ : Schema) (s : List ℕ) {n : ℕ} → lengthWrong σ s ≡ false → n ≡ blocksIn s
-    → first (faults σ s) ≡ orElse (first (blockFaults plain s n 0 n)) (first (entryFaults σ (entriesOf s) 1 (length (entriesOf s))))
-unfolding faults first
-first-of-faults σ s e f = simp (faults, e, f, first-append)
+first-of-frames : (σ : Schema) (s : List ℕ) {n : ℕ} → lengthWrong σ s ≡ false → n ≡ blocksIn s → first (frameFaults σ s) ≡ first (blockFaults plain s n 0 n)
+unfolding first
+first-of-frames σ s e f = simp (e, f)
 
-pub read-length : (σ : Schema) (i : ℕ) (s : List ℕ) {n : ℕ} → n ≡ blocksRead σ s → n ≡ 0 → Refused 1 i 0 ≡ readingOf σ i s
-unfolding readingOf faults first
+pub read-length : (σ : Schema) (i : ℕ) (s : List ℕ) {n : ℕ} → n ≡ blocksRead σ s → n ≡ 0 → Refused 1 i 0 ≡ answer i (totalIn plain s) (first (frameFaults σ s))
+unfolding first
 read-length σ i s e z =
-    blocks-cases σ s e (λ y q. simp (readingOf, faults, q)) (λ y q g. absurd (y z))
+    blocks-cases σ s e (λ y q. simp q) (λ y q g. absurd (y z))
 
-pub read-block : (σ : Schema) (i : ℕ) (s : List ℕ) {n k p : ℕ} {found : Finding} → n ≡ blocksRead σ s → n ≢ 0
-    → found ≡ first (blockFaults plain s n 0 n) → found ≡ Faulty k p → Refused k i p ≡ readingOf σ i s
-unfolding readingOf
-read-block σ i s e z f g =
-    blocks-cases σ s e (λ y q. absurd (z y)) (λ y q h. rw (readingOf, first-of-faults σ s q h, ← f, g))
+module _ (σ : Schema) (i : ℕ) (s : List ℕ) {n : ℕ} {found : Finding} (e : n ≡ blocksRead σ s) (z : n ≢ 0) (f : found ≡ first (blockFaults plain s n 0 n)) where
+  pub read-block : {k p : ℕ} → found ≡ Faulty k p → Refused k i p ≡ answer i (totalIn plain s) (first (frameFaults σ s))
+  read-block g = blocks-cases σ s e (λ y q. absurd (z y)) (λ y q h. rw (first-of-frames σ s q h, ← f, g))
 
-pub read-entry : (σ : Schema) (i : ℕ) (s : List ℕ) {n : ℕ} {found : Finding} {r : Reading} → n ≡ blocksRead σ s → n ≢ 0
-    → found ≡ first (blockFaults plain s n 0 n) → found ≡ Clean
-    → r ≡ answer i (totalIn plain s) (first (entryFaults σ (entriesOf s) 1 (length (entriesOf s)))) → r ≡ readingOf σ i s
-unfolding readingOf
-read-entry σ i s e z f g h =
-    blocks-cases σ s e (λ y q. absurd (z y)) (λ y q b. h ∙ rw (readingOf, first-of-faults σ s q b, ← f, g))
+  pub read-sound : {total : ℕ} → found ≡ Clean → total ≡ totalIn plain s → Accepted total ≡ answer i (totalIn plain s) (first (frameFaults σ s))
+  read-sound g t = blocks-cases σ s e (λ y q. absurd (z y)) (λ y q h. rw (first-of-frames σ s q h, ← f, g) (ap Accepted t))
 
 pub blocks-are : (σ : Schema) (s : List ℕ) {n : ℕ} → n ≡ blocksRead σ s → n ≢ 0 → n ≡ blocksIn s
 blocks-are σ s e z = blocks-cases σ s e (λ y q. absurd (z y)) (λ y q b. b)
 
--- ---- the entries
-
 pub total-read : (s : List ℕ) {n used : ℕ} → 1 ≤ n → n ≡ blocksIn s → used ≡ wordAt s (512 * (n - 1) + 2) → 63 * (n - 1) + used ≡ totalIn plain s
 unfolding totalIn usedIn
 total-read s h e u = rw (totalIn, usedIn, ← e, ← u)
-
-module _ (σ : Schema) (i : ℕ) (s : List ℕ) {total : ℕ} {found : Finding} (e : total ≡ totalIn plain s) (f : found ≡ first (entryFaults σ (entriesOf s) 1 total)) where
-  total-length : total ≡ length (entriesOf s)
-  total-length = e ∙ sym (length-entries s)
-
-  pub entry-refused : {k p : ℕ} → found ≡ Faulty k p
-      → Refused k i p ≡ answer i (totalIn plain s) (first (entryFaults σ (entriesOf s) 1 (length (entriesOf s))))
-  entry-refused g = rw (← total-length, ← f, g)
-
-  pub entries-accepted : found ≡ Clean → Accepted total ≡ answer i (totalIn plain s) (first (entryFaults σ (entriesOf s) 1 (length (entriesOf s))))
-  entries-accepted g = rw (← total-length, ← f, g) (ap Accepted e)

@@ -1,0 +1,2 @@
+-- Reading the blocks of an input before its entries: what that says of the whole.
+pub mod BlocksRead
