@@ -11,10 +11,12 @@ use native.Mathlib.Omega.{arith}
 use Rattle.base.proofs.Tests.{bool-cases, ge-ltb, le-leb, lt-ltb, tests}
 use Rattle.blocks.proofs.Refusing.Readings.{reading-cases}
 use Rattle.blocks.proofs.RoundTrip.Decoding.{length-encode}
+use Rattle.blocks.proofs.RoundTrip.Faithful.{entries-whole}
 use Rattle.blocks.specs.Encoding.{blocksFor, bytesWritten, encode, encodeRows, rowBytes, written}
 use Rattle.blocks.specs.Entries.{entriesOf, entryBytes}
 use Rattle.blocks.specs.Frame.{plain}
 use Rattle.blocks.specs.Reading.{unlessRefused}
+use Rattle.blocks.specs.code.Blockwise.{Whole}
 use Rattle.blocks.specs.declared.Entry.{Entry}
 use Rattle.blocks.specs.declared.Reading.the-variants as reading
 use Rattle.blocks.specs.declared.Reading.{Reading}
@@ -33,33 +35,34 @@ use Rattle.unfolding.specs.declared.Unfolded.the-variants as unfolded
 
 -- ---- a description that is read
 
--- it is taken, with n entries, which stand in a table
-pub record Took (K : List (List Entry)) (i : ℕ) (s rows : List ℕ) (n : ℕ) : Type 0 where
+-- it is taken, with n entries, which can be gone over
+pub record Took (K : List (List Entry)) (i : ℕ) (s : List ℕ) (n : ℕ) : Type 0 where
   pub reading : namedReading K i s ≡ reading.Accepted n
+  pub count : n ≡ length (entriesOf s)
+  pub whole : Whole s n
   pub few : n ≤ 1008
-  pub entries : entriesIn rows n ≡ entriesOf s
-  pub legal : LegalNamed (length K) (entriesIn rows n)
-  pub small : length (unfoldedBy K (entriesIn rows n)) ≤ 1008
+  pub legal : LegalNamed (length K) (entriesOf s)
+  pub small : length (unfoldedBy K (entriesOf s)) ≤ 1008
 
-module _ (K : List (List Entry)) (i : ℕ) (s rows : List ℕ) {m : Measured} (M : MeasuredBy K i s rows m) where
+module _ (K : List (List Entry)) (i : ℕ) (s : List ℕ) {m : Measured} (M : MeasuredBy K i s m) where
   pub read-refused : {k j p : ℕ} → m ≡ Refused k j p → reading.Refused k j p ≡ namedUnfolding K i s
   unfolding namedUnfolding
-  read-refused {k} {j} {p} e = let q : namedReading K i s ≡ reading.Refused k j p = subst (MeasuredBy K i s rows) e M in rw q
+  read-refused {k} {j} {p} e = let q : namedReading K i s ≡ reading.Refused k j p = subst (MeasuredBy K i s) e M in rw q
 
-  pub read-took : {n z l : ℕ} → m ≡ Taken n z l → Took K i s rows n
+  pub read-took : {n z l : ℕ} → m ≡ Taken n z l → Took K i s n
   read-took {n} {z} {l} e =
-      let t = subst (MeasuredBy K i s rows) e M in
-      let small = small-of (unfoldedBy K (entriesOf s)) (taken-not-large K i s (t .0)) .size in
+      let t = subst (MeasuredBy K i s) e M in
       record {
         reading = t .0;
+        count = t .1;
+        whole = let c = t .1 in rw c (entries-whole (t .6));
         few = t .2;
-        entries = t .5;
-        legal = subst (LegalNamed (length K)) (sym (t .5)) (t .6);
-        small = omega (arith, ap (λ (es : List Entry). length (unfoldedBy K es)) (t .5));
+        legal = t .5;
+        small = small-of (unfoldedBy K (entriesOf s)) (taken-not-large K i s (t .0)) .size;
       }
 
 -- unfolded, it has so many entries
-pub took-unfolds : {K : List (List Entry)} {i : ℕ} {s rows : List ℕ} {n u : ℕ} → Took K i s rows n → u ≡ length (unfoldedBy K (entriesOf s))
+pub took-unfolds : {K : List (List Entry)} {i : ℕ} {s : List ℕ} {n u : ℕ} → Took K i s n → u ≡ length (unfoldedBy K (entriesOf s))
     → reading.Accepted u ≡ namedUnfolding K i s
 unfolding namedUnfolding
 took-unfolds T e = let q = T .reading in rw (q, e)

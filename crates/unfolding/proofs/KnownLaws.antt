@@ -6,16 +6,20 @@ use lib.ListN.{length, length-append, replicate, set}
 use lib.Seq.{getD-set-other, getD-set-same}
 use mathlib.Core.Bool.{true}
 use mathlib.Core.List.{List, [], _++_, _∷_}
-use mathlib.Core.Path.{_∙_, _≡_}
+use mathlib.Core.Path.{_∙_, _≡_, subst, sym}
 use native.Mathlib.Omega.{arith}
 use Rattle.base.proofs.Lists.{zeros-read}
 use Rattle.base.proofs.Tests.{bool-cases, eq-cases, eqb-self, ne-eqb}
+use Rattle.blocks.proofs.Refusing.SingleFirst.{named-first}
 use Rattle.blocks.proofs.RoundTrip.Accepting.{none-of-accepted, sound-of-accepted}
 use Rattle.blocks.proofs.RoundTrip.Faithful.{entries-limit, entries-whole}
 use Rattle.blocks.specs.Entries.{entriesOf, nameGiven, nth}
-use Rattle.blocks.specs.Reading.{readingOf}
+use Rattle.blocks.specs.Faults.{entryFaults, first}
+use Rattle.blocks.specs.Reading.{answer, readingOf}
 use Rattle.blocks.specs.code.Blockwise.{Whole}
+use Rattle.blocks.specs.code.ReadingSteps.{ruleFaults}
 use Rattle.blocks.specs.declared.Entry.{Entry}
+use Rattle.blocks.specs.declared.Finding.the-variants.{Clean, Faulty}
 use Rattle.blocks.specs.declared.Reading.the-variants.{Accepted, Refused}
 use Rattle.blocks.specs.declared.Schema.the-variants.{Named}
 use Rattle.names.proofs.Dictionary.ByAllValues.{given-name}
@@ -27,9 +31,11 @@ use Rattle.names.specs.Measures.{levelsBy, levelsNamed, levelsNth, sizeBy, size
 use Rattle.names.specs.NamedReading.{namedReading}
 use Rattle.names.specs.Promise.{LegalNamed, Within}
 use Rattle.names.specs.Unfold.{inTurn, noted}
+use Rattle.unfolding.specs.code.Checking.{CheckedAll}
 use Rattle.unfolding.specs.code.Known.{Known, MeasuredBy, tabled}
 use Rattle.unfolding.specs.code.Replacing.{NamesFew}
-use Rattle.unfolding.specs.code.Rows.{entriesIn}
+use Rattle.unfolding.specs.declared.Checked.the-variants as checked
+use Rattle.unfolding.specs.declared.Checked.{Checked}
 use Rattle.unfolding.specs.declared.Measured.the-variants as measured
 
 -- ---- the tables
@@ -85,6 +91,20 @@ module _ (K : List (List Entry)) (es : List Entry) where
 
 -- ---- a description that is read
 
+-- by what going over its entries answers, where its blocks are sound
+module _ (most i : ℕ) (s : List ℕ) (total : ℕ) (e : readingOf (Named most) i s ≡ answer i total (first (entryFaults (Named most) (entriesOf s) 1 total)))
+    (S L : ℕ → ℕ) {c : Checked} (C : CheckedAll most S L (entriesOf s) total c) where
+  pub checked-refused : {k p : ℕ} → c ≡ checked.Faulty k p → readingOf (Named most) i s ≡ Refused k i p
+  checked-refused {k} {p} q =
+      let f : first (ruleFaults (Named most) (entriesOf s) 1 total) ≡ Faulty k p = subst (CheckedAll most S L (entriesOf s) total) q C in
+      e ∙ rw (sym (named-first most (entriesOf s) total) ∙ f)
+
+  pub checked-sound : {z l : ℕ} → c ≡ checked.Sound z l
+      → (readingOf (Named most) i s ≡ Accepted total) × ((z ≡ sizeBy S (entriesOf s)) × (l ≡ levelsBy L (entriesOf s)))
+  checked-sound {z} {l} q =
+      let f = subst (CheckedAll most S L (entriesOf s) total) q C in
+      (e ∙ rw (sym (named-first most (entriesOf s) total) ∙ f .0), (f .1, f .2))
+
 -- names up to 64 have their number in the tables
 pub names-few : (most : ℕ) (es : List Entry) → LegalNamed most es → most ≤ 64 → NamesFew es
 names-few most es N h n lo hi q = omega (arith, given-name most (nth es n) (N .name n lo hi) q)
@@ -131,8 +151,8 @@ module _ {K : List (List Entry)} {size levels : List ℕ} (k : Known K size leve
 
   -- else it is taken
   pub read-taken : {z l : ℕ} → z ≡ sizeBy (tabled size) (entriesOf s) → l ≡ levelsBy (tabled levels) (entriesOf s) → z ≤ 1008 → l ≤ 33
-      → (rows : List ℕ) → entriesIn rows total ≡ entriesOf s → MeasuredBy K i s rows (measured.Taken total z l)
-  read-taken {z} {l} ze le zb lb rows r =
+      → MeasuredBy K i s (measured.Taken total z l)
+  read-taken {z} {l} ze le zb lb =
       let zs : z ≡ sizeNamed K (entriesOf s) = ze ∙ tabled-size k (entriesOf s) legal in
       let ls : l ≡ levelsNamed K (entriesOf s) = le ∙ tabled-levels k (entriesOf s) legal in
       let W : Within (sizeNamed K (entriesOf s)) (levelsNamed K (entriesOf s)) = record { few = omega arith; shallow = omega arith } in
@@ -142,7 +162,6 @@ module _ {K : List (List Entry)} {size levels : List ℕ} (k : Known K size leve
         whole .2,
         zs,
         ls,
-        r,
         legal,
         sound-of-accepted (Named (length K)) i s e .blocks,
       )

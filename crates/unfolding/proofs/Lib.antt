@@ -1,6 +1,6 @@
 -- Laws of entries as numbers in a lent table.
 pub mod RowLaws
--- Sizes and levels, worked out in one pass over the entries.
+-- Rules, sizes and levels, worked out in one pass over the entries.
 pub mod Measuring
 -- The tables of sizes and levels: blank for no description, with one description more, and what they say of a description that is read.
 pub mod KnownLaws

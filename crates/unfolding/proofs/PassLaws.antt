@@ -20,7 +20,7 @@ use Rattle.blocks.specs.code.Blockwise.{Whole}
 use Rattle.blocks.specs.declared.Entry.{Entry}
 use Rattle.blocks.specs.declared.Schema.the-variants.{Named}
 use Rattle.lists.proofs.FirstPart.{first-bound}
-use Rattle.lists.proofs.PartLaws.{part-at}
+use Rattle.lists.proofs.PartLaws.{part-at, start-within}
 use Rattle.lists.specs.Parts.{firstLength, partsOf, startOf}
 use Rattle.names.proofs.Dictionary.ByAllValues.{Given, described-given, each-given-more, given-name}
 use Rattle.names.proofs.Dictionary.ContentsUnfold.{described-forms, described-owners, given-same}
@@ -62,7 +62,15 @@ getD-map f (x ∷ l) (suc i) h = getD-map f l i (omega arith)
 
 -- ---- its bytes
 
-module _ (D : List ℕ) {size : List ℕ} (R : Ready D size) (n : ℕ) (lo : 1 ≤ n) (hi : n ≤ length (dictionaryOf D)) {at len : ℕ}
+-- where it begins, by the table
+pub ready-start : (D : List ℕ) {start size : List ℕ} → Ready D start size → (n : ℕ) → 1 ≤ n → n ≤ length (dictionaryOf D) → {i at : ℕ} → i ≡ n
+    → at ≡ getD start (i - 1) 0 → (at ≡ startOf (n - 1) D) × (at ≤ length D)
+ready-start D {start} R n lo hi {i} q e =
+    let b : n - 1 < length (partsOf D) = omega (arith, length-map (partsOf D) entriesOf) in
+    let s = e ∙ ap (λ (k : ℕ). getD start (k - 1) 0) q ∙ R .starts (n - 1) b in
+    (s, omega (arith, s, start-within D (n - 1)))
+
+module _ (D : List ℕ) {start size : List ℕ} (R : Ready D start size) (n : ℕ) (lo : 1 ≤ n) (hi : n ≤ length (dictionaryOf D)) {at len : ℕ}
     (a : at ≡ startOf (n - 1) D) (f : len ≡ firstLength (take (length D - at) (drop at D))) where
   -- how the code cuts it out
   abbrev cut : List ℕ

@@ -16,6 +16,7 @@ use crate::Unfolded;
 use crate::dictionary::read_dictionary;
 use crate::dictionary::read_named;
 use crate::passes::unfold_rows;
+use crate::rows::load;
 use blocks::Reading;
 use writing::write_entries;
 
@@ -23,31 +24,36 @@ use writing::write_entries;
 fn unfold_read(
     dictionary: &[u8],
     most: u16,
+    start: &[usize; 65],
     size: &[u16; 65],
     levels: &[u8; 65],
     d: &[u8],
     input: u16,
     rows: &mut [u64; 1008],
 ) -> Reading
-    requires { ⌜ Known (dictionaryOf (now dictionary)) (now size) (now levels) × Ready (now dictionary) (now size) × (most ≡ length (dictionaryOf (now dictionary))) ⌝ }
+    requires { ⌜ Known (dictionaryOf (now dictionary)) (now size) (now levels) × Ready (now dictionary) (now start) (now size) × (most ≡ length (dictionaryOf (now dictionary))) ⌝ }
     ensures { λ r. ⌜ (r ≡ namedUnfolding (dictionaryOf (now (dictionary .entry))) input (now (d .entry)))
         × ((n : ℕ) → r ≡ Reading.Accepted n → entriesIn (now (rows .exit)) n ≡ unfoldedBy (dictionaryOf (now (dictionary .entry))) (entriesOf (now (d .entry)))) ⌝ }
 {
     let mut next = [0u64; 1008];
     let mut inner = [0u16; 1009];
-    let m = read_named(d, most, input, size, levels, &mut next);
+    let m = read_named(d, most, input, size, levels);
     match m {
         Measured::Refused(number, i, place) => Reading::Refused(number, i, place),
-        Measured::Taken(total, _, _) => Reading::Accepted(
-            unfold_rows(
-                dictionary,
-                size,
-                total as usize,
-                rows,
-                &mut next,
-                &mut inner,
-            ) as u16,
-        ),
+        Measured::Taken(total, _, _) => {
+            load(d, total as usize, &mut next);
+            Reading::Accepted(
+                unfold_rows(
+                    dictionary,
+                    start,
+                    size,
+                    total as usize,
+                    rows,
+                    &mut next,
+                    &mut inner,
+                ) as u16,
+            )
+        }
     }
 }
 
@@ -63,18 +69,19 @@ fn write_rows(out: &mut [u8], rows: &[u64; 1008], n: usize) -> usize
 fn write_unfolded(
     dictionary: &[u8],
     most: u16,
+    start: &[usize; 65],
     size: &[u16; 65],
     levels: &[u8; 65],
     d: &[u8],
     input: u16,
     out: &mut [u8],
 ) -> Reading
-    requires { ⌜ Known (dictionaryOf (now dictionary)) (now size) (now levels) × Ready (now dictionary) (now size) × (most ≡ length (dictionaryOf (now dictionary))) ⌝ }
+    requires { ⌜ Known (dictionaryOf (now dictionary)) (now size) (now levels) × Ready (now dictionary) (now start) (now size) × (most ≡ length (dictionaryOf (now dictionary))) ⌝ }
     ensures { λ r. ⌜ (r ≡ shortBy (now (out .entry)) (namedUnfolding (dictionaryOf (now (dictionary .entry))) input (now (d .entry))))
         × (now (out .exit) ≡ unlessRefused (λ k i p. now (out .entry)) r (over (plainOf (now (dictionary .entry)) (now (d .entry))) (now (out .entry)))) ⌝ }
 {
     let mut rows = [0u64; 1008];
-    let reading = unfold_read(dictionary, most, size, levels, d, input, &mut rows);
+    let reading = unfold_read(dictionary, most, start, size, levels, d, input, &mut rows);
     match reading {
         Reading::Refused(number, i, place) => Reading::Refused(number, i, place),
         Reading::Accepted(n) => {
@@ -92,14 +99,14 @@ fn write_unfolded(
 pub fn unfold_into(dictionary: &[u8], d: &[u8], input: u16, out: &mut [u8]) -> Reading
     ensures { λ r. ⌜ (r ≡ unfoldAt (now (dictionary .entry)) input (now (d .entry)) (now (out .entry))) × (now (out .exit) ≡ unfoldedAt (now (dictionary .entry)) input (now (d .entry)) (now (out .entry))) ⌝ }
 {
+    let mut start = [0usize; 65];
     let mut size = [0u16; 65];
     let mut levels = [0u8; 65];
-    let mut rows = [0u64; 1008];
-    let reading = read_dictionary(dictionary, &mut size, &mut levels, &mut rows);
+    let reading = read_dictionary(dictionary, &mut start, &mut size, &mut levels);
     match reading {
         Reading::Refused(number, i, place) => Reading::Refused(number, i, place),
         Reading::Accepted(most) => {
-            write_unfolded(dictionary, most, &size, &levels, d, input, out)
+            write_unfolded(dictionary, most, &start, &size, &levels, d, input, out)
         }
     }
 }
@@ -115,6 +122,7 @@ pub fn unfold(dictionary: &[u8], d: &[u8], out: &mut [u8]) -> Reading
 fn unfold_two(
     dictionary: &[u8],
     most: u16,
+    start: &[usize; 65],
     size: &[u16; 65],
     levels: &[u8; 65],
     c: &[u8],
@@ -122,16 +130,16 @@ fn unfold_two(
     a: &mut [u8],
     b: &mut [u8],
 ) -> Unfolded
-    requires { ⌜ Known (dictionaryOf (now dictionary)) (now size) (now levels) × Ready (now dictionary) (now size) × (most ≡ length (dictionaryOf (now dictionary)))
+    requires { ⌜ Known (dictionaryOf (now dictionary)) (now size) (now levels) × Ready (now dictionary) (now start) (now size) × (most ≡ length (dictionaryOf (now dictionary)))
         × (dictionaryReading (now dictionary) ≡ Reading.Accepted most) ⌝ }
     ensures { λ r. ⌜ (r ≡ bothOf (now (dictionary .entry)) (now (c .entry)) (now (d .entry)) (now (a .entry)) (now (b .entry))) × (now (a .exit) ≡ unfoldedAt (now (dictionary .entry)) 1 (now (c .entry)) (now (a .entry)))
         × (now (b .exit) ≡ secondAfter (now (dictionary .entry)) (now (c .entry)) (now (d .entry)) (now (a .entry)) (now (b .entry))) ⌝ }
 {
-    let first = write_unfolded(dictionary, most, size, levels, c, 1, a);
+    let first = write_unfolded(dictionary, most, start, size, levels, c, 1, a);
     match first {
         Reading::Refused(number, i, place) => Unfolded::Refused(number, i, place),
         Reading::Accepted(n) => {
-            let second = write_unfolded(dictionary, most, size, levels, d, 2, b);
+            let second = write_unfolded(dictionary, most, start, size, levels, d, 2, b);
             match second {
                 Reading::Refused(number, i, place) => Unfolded::Refused(number, i, place),
                 Reading::Accepted(m) => Unfolded::Both(n, m),
@@ -145,12 +153,12 @@ pub fn unfold_both(dictionary: &[u8], c: &[u8], d: &[u8], a: &mut [u8], b: &mut 
     ensures { λ r. ⌜ (r ≡ bothOf (now (dictionary .entry)) (now (c .entry)) (now (d .entry)) (now (a .entry)) (now (b .entry))) × (now (a .exit) ≡ unfoldedAt (now (dictionary .entry)) 1 (now (c .entry)) (now (a .entry)))
         × (now (b .exit) ≡ secondAfter (now (dictionary .entry)) (now (c .entry)) (now (d .entry)) (now (a .entry)) (now (b .entry))) ⌝ }
 {
+    let mut start = [0usize; 65];
     let mut size = [0u16; 65];
     let mut levels = [0u8; 65];
-    let mut rows = [0u64; 1008];
-    let reading = read_dictionary(dictionary, &mut size, &mut levels, &mut rows);
+    let reading = read_dictionary(dictionary, &mut start, &mut size, &mut levels);
     match reading {
         Reading::Refused(number, i, place) => Unfolded::Refused(number, i, place),
-        Reading::Accepted(most) => unfold_two(dictionary, most, &size, &levels, c, d, a, b),
+        Reading::Accepted(most) => unfold_two(dictionary, most, &start, &size, &levels, c, d, a, b),
     }
 }

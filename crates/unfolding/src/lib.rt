@@ -1,7 +1,8 @@
 // Unfolding: descriptions that name others of a dictionary are read, or refused, and written as the plain descriptions that they stand for.
 //
-// A dictionary is read once: two tables keep, for each of its descriptions, how many entries it has once unfolded and how deep they stand.
-// So 14 is told without unfolding anything. A description is then unfolded in passes: each replaces all names that are there by the entries
+// A dictionary is read once, each description in two passes over its bytes: one for its blocks, by `reading`, and one over its entries, which
+// tells whether the rules allow them, how many they are once unfolded and how deep they stand. Tables keep where each begins, its size and its
+// levels. So 14 is told without unfolding anything. A description is then unfolded in passes: each replaces all names that are there by the entries
 // of their descriptions, without the names in them that stand for nothing. So there are at most as many passes as names are nested, every
 // row stands for an entry at least, and 1,008 are always enough. What a name becomes is read once in a pass, and copied where it is used again.
 //
@@ -23,10 +24,11 @@ pub enum Unfolded {
     Both(u16, u16),
 }
 
-// How many entries a description has once unfolded, and on how many levels they stand.
-struct Extent {
-    size: usize,
-    levels: usize,
+// What going over the entries of a description answers: the number of the first that is refused and its place, or how many entries they are
+// once unfolded, and on how many levels these stand.
+enum Checked {
+    Faulty(u8, u16),
+    Sound(usize, usize),
 }
 
 // What reading a description under a dictionary answers: the refusal's number, the input and the place, or how many entries it has, how many

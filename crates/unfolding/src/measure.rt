@@ -1,30 +1,24 @@
-// How many entries a description has once unfolded, and how deep they stand, worked out from what its names stand for.
+// The entries of a description, gone over once: whether the rules allow them, how many they are once unfolded, and how deep they stand, worked
+// out from what its names stand for.
 ghost use mathlib.Core.Path.{_≡_};
 ghost use mathlib.Core.Bool.{cond, true};
-ghost use Prim.Native.Nat.{_+_, _≤_, _<_, max};
+ghost use Prim.Native.Nat.{_+_, _-_, _≤_, _<_, max};
+ghost use lib.Dec.{eqb};
 ghost use lib.ListN.{length};
-ghost use Rattle.blocks.specs.Entries.{isNamed};
-ghost use Rattle.names.specs.Measures.{levelsBy, sizeBy, under};
-ghost use Rattle.names.specs.Promise.{OwnersOk};
+ghost use Rattle.blocks.specs.Entries.{entriesOf, isNamed};
+ghost use Rattle.blocks.specs.code.Blockwise.{InBlock, Whole};
+ghost use Rattle.blocks.specs.code.ReadingSteps.{Levels, entryRefusal, levelBy};
+ghost use Rattle.blocks.specs.declared.Schema.{Schema};
+ghost use Rattle.names.specs.Measures.{under};
+ghost use Rattle.unfolding.specs.code.Checking.{CheckedAll, CheckedTo, Gone};
 ghost use Rattle.unfolding.specs.code.Known.{tabled};
-ghost use Rattle.unfolding.specs.code.Replacing.{NamesFew};
-ghost use Rattle.unfolding.specs.code.Rows.{entriesIn};
-use crate::Extent;
-use crate::rows::entry_of_row;
+use crate::Checked;
+use crate::rows::entry_from;
 use base::wide;
 use blocks::Entry;
-
-// How many entries an entry stands for.
-fn entry_size(e: Entry, size: &[u16; 65]) -> usize
-    requires { ⌜ (isNamed e ≡ true → e .name ≤ 64) ⌝ }
-    ensures { λ r. ⌜ (r ≡ cond (isNamed e) (tabled (now (size .entry)) (e .name)) 1) × (r ≤ 65535) ⌝ }
-{
-    if e.kind == 9 {
-        wide(size[wide(e.name)])
-    } else {
-        1
-    }
-}
+use blocks::Schema;
+use blocks::next_count;
+use reading::entry_refusal;
 
 // A number of one byte as one of eight.
 fn from_byte(x: u8) -> usize
@@ -33,24 +27,31 @@ fn from_byte(x: u8) -> usize
     x as usize
 }
 
-// On how many levels they stand.
-fn entry_levels(e: Entry, levels: &[u8; 65]) -> usize
-    requires { ⌜ (isNamed e ≡ true → e .name ≤ 64) ⌝ }
-    ensures { λ r. ⌜ (r ≡ cond (isNamed e) (tabled (now (levels .entry)) (e .name)) 1) × (r ≤ 255) ⌝ }
+// The level of owner o of entry n: 0 where it may own nothing or does not stand earlier.
+fn level_by(level: &[u8], n: usize, o: u16) -> u8
+    requires { ⌜ n ≤ length (now level) ⌝ }
+    ensures { λ r. ⌜ r ≡ levelBy (now (level .entry)) n o ⌝ }
 {
-    if e.kind == 9 {
-        from_byte(levels[wide(e.name)])
-    } else {
-        1
-    }
+    let at = o as usize;
+    if at < n { level[at] } else { 0 }
 }
 
-// The levels put in at a depth: no level is none at any depth.
-fn under_depth(d: usize, l: usize) -> usize
-    requires { ⌜ (d ≤ 1008) × (l ≤ 255) ⌝ }
-    ensures { λ r. ⌜ r ≡ under d l ⌝ }
+// The level of an entry of this kind whose owner has level l.
+fn level_under(kind: u8, l: u8) -> u8
+    requires { ⌜ l < 255 ⌝ }
+    ensures { λ r. ⌜ r ≡ cond (eqb kind 5) (l + 1) 0 ⌝ }
 {
-    if l == 0 { 0 } else { d + l }
+    if kind == 5 { l + 1 } else { 0 }
+}
+
+// The levels put in below an owner of level l: no level is none at any depth.
+fn under_level(l: u8, k: u8) -> usize
+    requires { ⌜ 1 ≤ l ⌝ }
+    ensures { λ r. ⌜ r ≡ under (l - 1) k ⌝ }
+{
+    let d = from_byte(l) - 1;
+    let inner = from_byte(k);
+    if inner == 0 { 0 } else { d + inner }
 }
 
 fn larger(a: usize, b: usize) -> usize
@@ -59,25 +60,149 @@ fn larger(a: usize, b: usize) -> usize
     if a < b { b } else { a }
 }
 
-// The size and the levels of the first `count` entries of a table, in one pass: a table has the depth of what each entry owns.
-pub(crate) fn measure(rows: &[u64], count: usize, size: &[u16; 65], levels: &[u8; 65]) -> Extent
-    requires { ⌜ (count ≤ length (now rows)) × (count ≤ 1008) × OwnersOk (entriesIn (now rows) count) × NamesFew (entriesIn (now rows) count) ⌝ }
-    ensures { λ r. ⌜ (r .size ≡ sizeBy (tabled (now (size .entry))) (entriesIn (now (rows .entry)) count)) × (r .levels ≡ levelsBy (tabled (now (levels .entry))) (entriesIn (now (rows .entry)) count)) ⌝ }
+// The number that a name is refused by whose owner has level l, where the first `most` of a dictionary may be named; 0 where none applies.
+fn name_refusal(most: u16, e: Entry, l: u8) -> u8
+    requires { ⌜ isNamed e ≡ true ⌝ }
+    ensures { λ r. ⌜ r ≡ entryRefusal (Schema.Named most) e l ⌝ }
 {
-    let mut depth = [0u16; 1009];
-    let mut total: usize = 0;
-    let mut most: usize = 0;
+    if e.reserved != 0 {
+        return 4;
+    }
+    if e.number != 0 {
+        return 4;
+    }
+    if e.name == 0 {
+        return 13;
+    }
+    if most < e.name {
+        return 13;
+    }
+    if l == 0 {
+        return 5;
+    }
+    if 33 < l {
+        return 6;
+    }
+    0
+}
+
+// Goes over `count` entries, those after the first `done`, whose bytes start at `from`. Names are told from other entries before anything else,
+// so that each is tested for its own rules only. A table holds the level of each entry before, as for reading; `had` and `depth` are what
+// the entries before come to.
+fn check_block(
+    s: &[u8],
+    most: u16,
+    from: usize,
+    count: usize,
+    done: usize,
+    size: &[u16; 65],
+    levels: &[u8; 65],
+    had: usize,
+    depth: usize,
+    level: &mut [u8],
+) -> Checked
+    requires { ⌜ (most ≤ 64) × (length (entriesOf (now s)) ≤ 1008) × InBlock (now s) from count done × Levels (Schema.Named most) (entriesOf (now s)) (now level) (done + 1)
+        × Gone (tabled (now size)) (tabled (now levels)) (entriesOf (now s)) (now level) had depth done ⌝ }
+    ensures { λ r. ⌜ CheckedTo most (tabled (now (size .entry))) (tabled (now (levels .entry))) (entriesOf (now (s .entry))) done count (now (level .exit)) r ⌝ }
+{
+    let mut total = had;
+    let mut deep = depth;
     let mut i: usize = 0;
-    while i < count {
-        let e = entry_of_row(rows[i]);
-        let d = wide(depth[wide(e.owner)]);
+    loop {
+        if count <= i {
+            break Checked::Sound(total, deep);
+        }
+        let e = entry_from(s, from + 8 * i);
         i += 1;
-        total += entry_size(e, size);
-        most = larger(most, under_depth(d, entry_levels(e, levels)));
-        depth[i] = (d + 1) as u16;
+        let l = level_by(level, done + i, e.owner);
+        if e.kind == 9 {
+            let number = name_refusal(most, e, l);
+            if number != 0 {
+                break Checked::Faulty(number, (done + i) as u16);
+            }
+            let name = wide(e.name);
+            total += wide(size[name]);
+            deep = larger(deep, under_level(l, levels[name]));
+            level[done + i] = 0;
+        } else {
+            let number = entry_refusal(Schema::Description, e, l);
+            if number != 0 {
+                break Checked::Faulty(number, (done + i) as u16);
+            }
+            total += 1;
+            deep = larger(deep, from_byte(l));
+            level[done + i] = level_under(e.kind, l);
+        }
     }
-    Extent {
-        size: total,
-        levels: most,
+}
+
+// Goes over the `total` entries of a description, block by block, with a table of levels that has a number for each.
+fn check_blocks(
+    s: &[u8],
+    most: u16,
+    total: usize,
+    size: &[u16; 65],
+    levels: &[u8; 65],
+    level: &mut [u8],
+) -> Checked
+    requires { ⌜ (most ≤ 64) × (total ≡ length (entriesOf (now s))) × (total ≤ 1008) × Whole (now s) total × (total < length (now level)) ⌝ }
+    ensures { λ r. ⌜ CheckedAll most (tabled (now (size .entry))) (tabled (now (levels .entry))) (entriesOf (now (s .entry))) total r ⌝ }
+{
+    level[0] = 1;
+    let mut had: usize = 0;
+    let mut depth: usize = 0;
+    let mut n: usize = 0;
+    let mut at: usize = 4;
+    loop {
+        if total <= n {
+            break Checked::Sound(had, depth);
+        }
+        let count = next_count(total - n);
+        let found = check_block(s, most, at, count, n, size, levels, had, depth, level);
+        match found {
+            Checked::Faulty(number, place) => break Checked::Faulty(number, place),
+            Checked::Sound(z, l) => {
+                had = z;
+                depth = l;
+                n += count;
+                at += 512;
+            }
+        }
     }
+}
+
+// The same with a table of its own, for at most 63 entries.
+fn check_few(s: &[u8], most: u16, total: usize, size: &[u16; 65], levels: &[u8; 65]) -> Checked
+    requires { ⌜ (most ≤ 64) × (total ≡ length (entriesOf (now s))) × (total < 64) × Whole (now s) total ⌝ }
+    ensures { λ r. ⌜ CheckedAll most (tabled (now (size .entry))) (tabled (now (levels .entry))) (entriesOf (now (s .entry))) total r ⌝ }
+{
+    let mut level = [0u8; 64];
+    check_blocks(s, most, total, size, levels, &mut level)
+}
+
+// The same for any number.
+fn check_many(s: &[u8], most: u16, total: usize, size: &[u16; 65], levels: &[u8; 65]) -> Checked
+    requires { ⌜ (most ≤ 64) × (total ≡ length (entriesOf (now s))) × (total ≤ 1008) × Whole (now s) total ⌝ }
+    ensures { λ r. ⌜ CheckedAll most (tabled (now (size .entry))) (tabled (now (levels .entry))) (entriesOf (now (s .entry))) total r ⌝ }
+{
+    let mut level = [0u8; 1009];
+    check_blocks(s, most, total, size, levels, &mut level)
+}
+
+// Goes over the `total` entries of a description that may name the first `most` of a dictionary, whose sizes and levels stand in tables. Few
+// entries take a small table, which is sooner cleared.
+pub(crate) fn check(
+    s: &[u8],
+    most: u16,
+    total: usize,
+    size: &[u16; 65],
+    levels: &[u8; 65],
+) -> Checked
+    requires { ⌜ (most ≤ 64) × (total ≡ length (entriesOf (now s))) × (total ≤ 1008) × Whole (now s) total ⌝ }
+    ensures { λ r. ⌜ CheckedAll most (tabled (now (size .entry))) (tabled (now (levels .entry))) (entriesOf (now (s .entry))) total r ⌝ }
+{
+    if total < 64 {
+        return check_few(s, most, total, size, levels);
+    }
+    check_many(s, most, total, size, levels)
 }

@@ -20,12 +20,12 @@ use crate::rows::push;
 use base::wide;
 use blocks::word;
 use lists::part_length;
-use lists::part_start;
 
 // Puts in what name n becomes, straight from the dictionary's bytes, behind the first m entries, at the place of o: the entries of its
 // description, without names that stand for nothing. Returns how many there are then.
 fn put_described(
     dictionary: &[u8],
+    start: &[usize; 65],
     n: u16,
     size: &[u16; 65],
     o: u16,
@@ -33,13 +33,13 @@ fn put_described(
     number: &mut [u16],
     out: &mut [u64],
 ) -> usize
-    requires { ⌜ Ready (now dictionary) (now size) × (1 ≤ n) × (n ≤ length (dictionaryOf (now dictionary)))
+    requires { ⌜ Ready (now dictionary) (now start) (now size) × (1 ≤ n) × (n ≤ length (dictionaryOf (now dictionary)))
         × (1009 ≤ length (now number)) × (m + length (inside (dictionaryOf (now dictionary)) n) ≤ length (now out)) × (length (now out) ≤ 1008) ⌝ }
     ensures { λ r. ⌜ (r ≡ m + length (inside (dictionaryOf (now (dictionary .entry))) n))
         × (entriesIn (now (out .exit)) r ≡ entriesIn (now (out .entry)) m ++ map (relocate m o) (inside (dictionaryOf (now (dictionary .entry))) n))
         × (length (now (out .exit)) ≡ length (now (out .entry))) × (length (now (number .exit)) ≡ length (now (number .entry))) ⌝ }
 {
-    let at = part_start(dictionary, wide(n) - 1);
+    let at = start[wide(n) - 1];
     let rest = &dictionary[at..dictionary.len()];
     let len = part_length(rest);
     let part = &rest[0..len];
@@ -52,6 +52,7 @@ fn put_described(
 // bytes. Two tables say where what each name becomes stands, and how many entries it has, or 0. Returns how many there are then.
 fn put_name(
     dictionary: &[u8],
+    start: &[usize; 65],
     n: u16,
     size: &[u16; 65],
     o: u16,
@@ -61,7 +62,7 @@ fn put_name(
     count: &mut [u16],
     out: &mut [u64],
 ) -> usize
-    requires { ⌜ Ready (now dictionary) (now size) × (1 ≤ n) × (n ≤ length (dictionaryOf (now dictionary))) × (o ≤ m)
+    requires { ⌜ Ready (now dictionary) (now start) (now size) × (1 ≤ n) × (n ≤ length (dictionaryOf (now dictionary))) × (o ≤ m)
         × (1009 ≤ length (now number)) × (65 ≤ length (now first)) × (65 ≤ length (now count)) × Stood (dictionaryOf (now dictionary)) (now first) (now count) (entriesIn (now out) m)
         × (m + length (inside (dictionaryOf (now dictionary)) n) ≤ length (now out)) × (length (now out) ≤ 1008) ⌝ }
     ensures { λ r. ⌜ (r ≡ m + length (inside (dictionaryOf (now (dictionary .entry))) n))
@@ -79,7 +80,7 @@ fn put_name(
         put_again(out, wide(first[i]), k, m, o);
         return m + k;
     }
-    let r = put_described(dictionary, n, size, o, m, number, out);
+    let r = put_described(dictionary, start, n, size, o, m, number, out);
     first[i] = m as u16;
     count[i] = (r - m) as u16;
     r
@@ -89,13 +90,14 @@ fn put_name(
 // new numbers. Returns how many there are then.
 fn open_names(
     dictionary: &[u8],
+    start: &[usize; 65],
     size: &[u16; 65],
     rows: &[u64],
     count: usize,
     inner: &mut [u16],
     out: &mut [u64],
 ) -> usize
-    requires { ⌜ Ready (now dictionary) (now size) × (count ≤ length (now rows)) × (count ≤ 1008) × OwnersOk (entriesIn (now rows) count)
+    requires { ⌜ Ready (now dictionary) (now start) (now size) × (count ≤ length (now rows)) × (count ≤ 1008) × OwnersOk (entriesIn (now rows) count)
         × NamesOf (length (dictionaryOf (now dictionary))) (entriesIn (now rows) count)
         × (1009 ≤ length (now inner)) × (length (unfolded (inside (dictionaryOf (now dictionary))) (entriesIn (now rows) count)) ≤ length (now out)) × (length (now out) ≤ 1008) ⌝ }
     ensures { λ r. ⌜ (entriesIn (now (out .exit)) r ≡ unfolded (inside (dictionaryOf (now (dictionary .entry)))) (entriesIn (now (rows .entry)) count))
@@ -114,6 +116,7 @@ fn open_names(
         if e.kind == 9 {
             m = put_name(
                 dictionary,
+                start,
                 e.name,
                 size,
                 o,
@@ -136,22 +139,23 @@ fn open_names(
 // has then.
 pub(crate) fn unfold_rows(
     dictionary: &[u8],
+    start: &[usize; 65],
     size: &[u16; 65],
     total: usize,
     rows: &mut [u64; 1008],
     next: &mut [u64; 1008],
     inner: &mut [u16; 1009],
 ) -> usize
-    requires { ⌜ Ready (now dictionary) (now size) × (total ≤ 1008) × LegalNamed (length (dictionaryOf (now dictionary))) (entriesIn (now next) total)
+    requires { ⌜ Ready (now dictionary) (now start) (now size) × (total ≤ 1008) × LegalNamed (length (dictionaryOf (now dictionary))) (entriesIn (now next) total)
         × (length (unfoldedBy (dictionaryOf (now dictionary)) (entriesIn (now next) total)) ≤ 1008) ⌝ }
     ensures { λ r. ⌜ (entriesIn (now (rows .exit)) r ≡ unfoldedBy (dictionaryOf (now (dictionary .entry))) (entriesIn (now (next .entry)) total))
         × (r ≡ length (unfoldedBy (dictionaryOf (now (dictionary .entry))) (entriesIn (now (next .entry)) total))) × (r ≤ 1008) ⌝ }
 {
-    let mut count = open_names(dictionary, size, next, total, inner, rows);
+    let mut count = open_names(dictionary, start, size, next, total, inner, rows);
     let mut most = greatest_name(rows, count);
     while most != 0 {
         copy_rows(rows, count, next);
-        count = open_names(dictionary, size, next, count, inner, rows);
+        count = open_names(dictionary, start, size, next, count, inner, rows);
         most = greatest_name(rows, count);
     }
     count

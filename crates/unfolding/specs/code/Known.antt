@@ -1,4 +1,5 @@
--- What is known of a dictionary that is read: two tables, of sizes and of levels, that have a number for each of 64 names.
+-- What is known of a dictionary that is read: tables of where each description begins, of sizes and of levels, with a number for each of 64
+-- names.
 -- Assumes nothing.
 use Prim.Native.Nat.{_<_, _≤_, ℕ}
 use lib.ListN.{getD, length}
@@ -10,11 +11,10 @@ use Rattle.blocks.specs.Frame.{plain}
 use Rattle.blocks.specs.declared.Entry.{Entry}
 use Rattle.blocks.specs.declared.Reading.the-variants as reading
 use Rattle.blocks.specs.declared.Schema.the-variants.{Named}
-use Rattle.lists.specs.Parts.{partsOf}
+use Rattle.lists.specs.Parts.{partsOf, startOf}
 use Rattle.names.specs.Measures.{levelsNamed, levelsNth, sizeNamed, sizeNth}
 use Rattle.names.specs.NamedReading.{dictionaryOf, namedReading}
 use Rattle.names.specs.Promise.{Each, LegalNamed, Within}
-use Rattle.unfolding.specs.code.Rows.{entriesIn}
 use Rattle.unfolding.specs.declared.Measured.the-variants.{Refused, Taken}
 use Rattle.unfolding.specs.declared.Measured.{Measured}
 
@@ -34,14 +34,15 @@ pub record Known (K : List (List Entry)) (size levels : List ℕ) : Type 0 where
   pub sized : Sized K size
   pub deep : (n : ℕ) → n ≤ 64 → tabled levels n ≡ levelsNth K n
 
--- of the bytes of a dictionary: none of 1 to 3 applies to a description, so that its entries can be gone over
-pub record Ready (D : List ℕ) (size : List ℕ) : Type 0 where
+-- of the bytes of a dictionary: a table of where each description begins; none of 1 to 3 applies to one, so that its entries can be gone over
+pub record Ready (D start size : List ℕ) : Type 0 where
   pub sized : Sized (dictionaryOf D) size
+  pub starts : (k : ℕ) → k < length (partsOf D) → tabled start k ≡ startOf k D
   pub sound : (k : ℕ) → k < length (partsOf D) → Unbroken plain (Named k) (getD (partsOf D) k [])
 
--- what reading a description answers: a refusal, or that it is taken, with its entries, its size and its levels; the entries stand in a table
-abbrev pub MeasuredBy : List (List Entry) → ℕ → List ℕ → List ℕ → Measured → Type 0
-MeasuredBy K i s rows (Refused k j p) = namedReading K i s ≡ reading.Refused k j p
-MeasuredBy K i s rows (Taken n z l) =
+-- what reading a description answers: a refusal, or that it is taken, with its entries, its size and its levels
+abbrev pub MeasuredBy : List (List Entry) → ℕ → List ℕ → Measured → Type 0
+MeasuredBy K i s (Refused k j p) = namedReading K i s ≡ reading.Refused k j p
+MeasuredBy K i s (Taken n z l) =
     (namedReading K i s ≡ reading.Accepted n) × (n ≡ length (entriesOf s)) × (n ≤ 1008) × (z ≡ sizeNamed K (entriesOf s)) × (l ≡ levelsNamed K (entriesOf s))
-    × (entriesIn rows n ≡ entriesOf s) × LegalNamed (length K) (entriesOf s) × Unbroken plain (Named (length K)) s
+    × LegalNamed (length K) (entriesOf s) × Unbroken plain (Named (length K)) s

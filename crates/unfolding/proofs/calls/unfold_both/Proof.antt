@@ -7,9 +7,9 @@ use Rattle.unfolding.proofs.calls.unfold_both.Tie as tie
 
 unfold-two-requires : tie.Need-unfold-two-requires
 unfold-two-requires c κs =
-    let a = c .before .before .before .before .before .before .before .before .before .before .before .before .before .before .before .before in
-    let r = c .before .before .before .before .before .before .before .read-dictionary .ensures in
-    let q = c .before .before .before .before .before .reading2 .given .1 in
+    let a = c .before .before .before .before .before .before .before .before .before .before .before .before .before .before .before .before .before in
+    let r = c .before .before .before .before .before .before .before .before .read-dictionary .ensures in
+    let q = c .before .before .before .before .before .before .reading2 .given .1 in
     let k = r .1 _ q in
     (k .1, k .2, dictionary-count (a .args .dictionary .now) (k .0), sym (r .0) ∙ q)
 
@@ -24,4 +24,4 @@ returns-2 : tie.Need-returns-2
 returns-2 c = let f = c .before .before .before .before .unfold-two .ensures in (f .0, f .1, f .2)
 
 pub unfold-both-spec : {M : Type 1} → statement M
-unfold-both-spec = tie.close (tie.spec (λ c κs. (refl, refl)) (λ c. search needs) (λ c. search needs) unfold-two-requires returns (λ c. search needs) (λ c. search needs) returns-2)
+unfold-both-spec = tie.close (tie.spec (λ c κs. (refl, refl, refl)) (λ c. search needs) (λ c. search needs) unfold-two-requires returns (λ c. search needs) (λ c. search needs) returns-2)

@@ -20,7 +20,7 @@ returns c =
     let q = c .before .before .before .before .before .before .before .reading2 .given .1 in
     let w = c .before .before .before .write-rows .ensures in
     let f = unfolds-few (dictionaryOf (a .args .dictionary .now)) (a .args .input) (a .args .d .now) (u .0) q in
-    let s = short-written (a .args .out .now) (c .before .before .before .before .before .before .before .before .before .unfold-read .last .1 .1 .1 .1 .1 .1 .0) _ (omega (arith, f, w .0)) f (w .1) (c .if1 .taken) in
+    let s = short-written (a .args .out .now) (c .before .before .before .before .before .before .before .before .before .unfold-read .last .1 .1 .1 .1 .1 .1 .1 .0) _ (omega (arith, f, w .0)) f (w .1) (c .if1 .taken) in
     (writes-short (dictionaryOf (a .args .dictionary .now)) _ _ (a .args .out .now) (u .0) q (s .0), w .2 ∙ s .1)
 
 returns-2 : tie.Need-returns-2
@@ -37,7 +37,7 @@ returns-3 c =
     let q = c .before .before .before .before .before .before .before .reading2 .given .1 in
     let w = c .before .before .before .write-rows .ensures in
     let f = unfolds-few (dictionaryOf (a .args .dictionary .now)) (a .args .input) (a .args .d .now) (u .0) q in
-    let s = long-written (a .args .out .now) (c .before .before .before .before .before .before .before .before .before .unfold-read .last .1 .1 .1 .1 .1 .1 .0) _ (omega (arith, f, w .0)) f (w .1) (c .if1 .left) in (
+    let s = long-written (a .args .out .now) (c .before .before .before .before .before .before .before .before .before .unfold-read .last .1 .1 .1 .1 .1 .1 .1 .0) _ (omega (arith, f, w .0)) f (w .1) (c .if1 .left) in (
       writes-all (dictionaryOf (a .args .dictionary .now)) _ _ (a .args .out .now) (u .0) q (s .0),
       w .2 ∙ s .1 ∙ ap (λ (es : List Entry). over (encode es) (a .args .out .now)) (u .1 _ q),
     )

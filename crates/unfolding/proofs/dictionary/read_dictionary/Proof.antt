@@ -18,7 +18,7 @@ returns-2 c =
 read-parts-requires : tie.Need-read-parts-requires
 read-parts-requires c κs =
     let p = c .before .before .before .before .before .before .before .pre in
-    (omega (arith, c .before .before .before .if2 .left, c .before .before .before .before .parts-in .ensures), p .0, p .1)
+    (omega (arith, c .before .before .before .if2 .left, c .before .before .before .before .parts-in .ensures), p .0, p .1, p .2)
 
 returns-3 : tie.Need-returns-3
 returns-3 c =

@@ -10,13 +10,13 @@ use Rattle.unfolding.proofs.dictionary.read_parts.Statement.{statement}
 use Rattle.unfolding.proofs.dictionary.read_parts.Tie as tie
 
 abbrev Inv-loop : tie.InvT-loop
-Inv-loop dictionary size₀ levels₀ rows₀ at₀ n₀ size levels rows at n = Passed dictionary size levels at n
+Inv-loop dictionary start₀ size₀ levels₀ at₀ n₀ start size levels at n = Passed dictionary start size levels at n
 
 abbrev μ-loop : tie.MeasureT-loop
-μ-loop dictionary size₀ levels₀ rows₀ at₀ n₀ size levels rows at n = length dictionary - at
+μ-loop dictionary start₀ size₀ levels₀ at₀ n₀ start size levels at n = length dictionary - at
 
 loop-holds : tie.Need-loop-holds Inv-loop μ-loop
-loop-holds c = passed-start _ _ _ (c .before .pre .1) (c .before .pre .2)
+loop-holds c = passed-start _ _ _ _ (c .before .pre .1) (c .before .pre .2) (c .before .pre .3)
 
 cast-t18 : tie.Need-cast-t18 Inv-loop μ-loop
 cast-t18 c = omega (arith, c .before .loop .inv .reached .few, c .before .before .before .pre .0)
@@ -39,30 +39,39 @@ add-read-named : tie.Need-add-read-named Inv-loop μ-loop
 add-read-named c = omega (arith, c .before .before .before .before .loop .inv .reached .few, c .before .before .before .before .before .before .pre .0)
 
 read-named-requires : tie.Need-read-named-requires Inv-loop μ-loop
-read-named-requires c κs = omega (arith, c .before .before .before .before .before .before .before .loop .inv .reached .few, c .before .before .before .before .before .before .before .before .before .pre .0)
+read-named-requires c κs = omega (arith, c .before .before .before .before .before .before .loop .inv .reached .few, c .before .before .before .before .before .before .before .before .pre .0)
+
+mul-start : tie.Need-mul-start Inv-loop μ-loop
+mul-start c = omega (arith, room (c .before .before .before .before .before .before .before .before .before))
+
+element-write-start : tie.Need-element-write-start Inv-loop μ-loop
+element-write-start c = omega (arith, room (c .before .before .before .before .before .before .before .before .before))
 
 add-n : tie.Need-add-n Inv-loop μ-loop
-add-n c = omega (arith, room (c .before .before .before .before .before .before .before .before .before .before))
+add-n c = omega (arith, room (c .before .before .before .before .before .before .before .before .before))
 
 add-at : tie.Need-add-at Inv-loop μ-loop
 add-at c = search needs
 
+mul-size : tie.Need-mul-size Inv-loop μ-loop
+mul-size c = omega (arith, room (c .before .before .before .before .before .before .before .before .before))
+
 element-write-size : tie.Need-element-write-size Inv-loop μ-loop
-element-write-size c = omega (arith, room (c .before .before .before .before .before .before .before .before .before .before))
+element-write-size c = omega (arith, room (c .before .before .before .before .before .before .before .before .before))
 
 element-write-levels : tie.Need-element-write-levels Inv-loop μ-loop
-element-write-levels c = omega (arith, room (c .before .before .before .before .before .before .before .before .before .before))
+element-write-levels c = omega (arith, room (c .before .before .before .before .before .before .before .before .before))
 
 loop-less : tie.Need-loop-less Inv-loop μ-loop
 loop-less c =
-    let b = c .before .before .before .before .before .before .before .before .before .before in
-    omega (arith, before-end b, reached-further (b .before .loop .inv .reached) (before-end b) (c .before .before .before .before .before .before .before .before .part-length .ensures .0))
+    let b = c .before .before .before .before .before .before .before .before .before in
+    omega (arith, before-end b, reached-further (b .before .loop .inv .reached) (before-end b) (c .before .before .before .before .before .before .before .part-length .ensures .0))
 
 loop-again : tie.Need-loop-again Inv-loop μ-loop
 loop-again c =
-    let b = c .before .before .before .before .before .before .before .before .before .before in
+    let b = c .before .before .before .before .before .before .before .before .before in
     let P = b .before .loop .inv in
-    passed-more P (before-end b) (c .before .before .before .before .before .before .before .before .part-length .ensures .0) (b .before .before .before .pre .0) (c .before .m2 .given .1) _
+    passed-more P (before-end b) (c .before .before .before .before .before .before .before .part-length .ensures .0) (b .before .before .before .pre .0) (c .before .m2 .given .1)
     (c .before .before .before .read-named .ensures _ (P .known) (sym (passed-many P)))
 
 returns : tie.Need-returns Inv-loop μ-loop
@@ -73,14 +82,12 @@ returns c =
 
 returns-2 : tie.Need-returns-2 Inv-loop μ-loop
 returns-2 c =
-    let b = c .before .before .before .before .before .before .before .before .before .before in
+    let b = c .before .before .before .before .before .before .before .before .before in
     let P = b .before .loop .inv in
-    let r = passed-refused P (before-end b) (c .before .before .before .before .before .before .before .before .part-length .ensures .0) (c .before .m .given .1) _ (c .before .before .before .read-named .ensures _ (P .known) (sym (passed-many P))) in
+    let r = passed-refused P (before-end b) (c .before .before .before .before .before .before .before .part-length .ensures .0) (c .before .m .given .1) (c .before .before .before .read-named .ensures _ (P .known) (sym (passed-many P))) in
     (sym r, λ m q. let z : _≡_ {A = ℕ} 0 1 = cc in absurd (omega arith))
 
 pub read-parts-spec : {M : Type 1} → statement M
 read-parts-spec =
     tie.close
-    (tie.spec Inv-loop μ-loop loop-holds cast-t18 (λ c. search needs) (λ c. search needs) (λ c. search needs) (λ c κs. search needs) (λ c. search needs)
-    (λ c. search needs) (λ c. search needs) cast-read-named cast-read-named-2 add-read-named read-named-requires (λ c. search needs)
-    (λ c. search needs) add-n add-at (λ c. search needs) element-write-size element-write-levels loop-less loop-again returns returns-2)
+    (tie.spec Inv-loop μ-loop loop-holds cast-t18 (λ c. search needs) (λ c. search needs) (λ c. search needs) (λ c κs. search needs) (λ c. search needs) (λ c. search needs) (λ c. search needs) cast-read-named cast-read-named-2 add-read-named read-named-requires (λ c. search needs) (λ c. search needs) mul-start element-write-start add-n add-at mul-size element-write-size element-write-levels loop-less loop-again returns returns-2)

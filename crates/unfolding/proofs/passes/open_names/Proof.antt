@@ -19,14 +19,14 @@ use Rattle.unfolding.specs.code.Replacing.{Passing, Stood}
 use Rattle.unfolding.specs.code.Rows.{entriesIn}
 
 abbrev Inv-loop : tie.InvT-loop
-Inv-loop dictionary size rows count inner₀ out₀ number₀ first₀ long₀ m₀ i₀ inner out number first long m i =
+Inv-loop dictionary start size rows count inner₀ out₀ number₀ first₀ long₀ m₀ i₀ inner out number first long m i =
     (i ≤ count)
     × Passing (inside (dictionaryOf dictionary)) (entriesIn rows count) (unfolded (inside (dictionaryOf dictionary)) (entriesIn rows count)) number i m (entriesIn out m)
     × (length out ≡ length out₀) × (length number ≡ 1009) × (length inner ≡ length inner₀) × ((j : ℕ) → getD number j 0 ≤ m)
     × Stood (dictionaryOf dictionary) first long (entriesIn out m) × (length first ≡ 65) × (length long ≡ 65)
 
 abbrev μ-loop : tie.MeasureT-loop
-μ-loop dictionary size rows count inner₀ out₀ number₀ first₀ long₀ m₀ i₀ inner out number first long m i = count - i
+μ-loop dictionary start size rows count inner₀ out₀ number₀ first₀ long₀ m₀ i₀ inner out number first long m i = count - i
 
 loop-holds : tie.Need-loop-holds Inv-loop μ-loop
 loop-holds c =

@@ -15,12 +15,12 @@ use Rattle.unfolding.proofs.passes.unfold_rows.Tie as tie
 use Rattle.unfolding.specs.code.Rows.{entriesIn}
 
 abbrev Inv-loop : tie.InvT-loop
-Inv-loop dictionary size total rows₀ next₀ inner₀ count₀ most₀ rows next inner count most =
+Inv-loop dictionary start size total rows₀ next₀ inner₀ count₀ most₀ rows next inner count most =
     (count ≤ 1008) × Stage (dictionaryOf dictionary) (unfoldedBy (dictionaryOf dictionary) (entriesIn next₀ total)) most (entriesIn rows count)
     × (most ≤ length (dictionaryOf dictionary)) × (count ≡ length (entriesIn rows count))
 
 abbrev μ-loop : tie.MeasureT-loop
-μ-loop dictionary size total rows₀ next₀ inner₀ count₀ most₀ rows next inner count most = most
+μ-loop dictionary start size total rows₀ next₀ inner₀ count₀ most₀ rows next inner count most = most
 
 open-names-requires : tie.Need-open-names-requires Inv-loop μ-loop
 open-names-requires c κs =
