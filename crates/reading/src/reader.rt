@@ -1,5 +1,6 @@
 // Reading an input: number 1 by its length, then its blocks, then its entries.
 ghost use mathlib.Core.Path.{_≡_};
+ghost use mathlib.Core.Bool.{cond};
 ghost use mathlib.Core.List.{_∷_};
 ghost use Prim.Native.Nat.{_*_, _-_, _≤_};
 ghost use lib.ListN.{length};
@@ -51,24 +52,6 @@ fn entries_in(s: &[u8], n: usize) -> usize
     63 * last + word(s, 512 * last + 2) as usize
 }
 
-// Reads the blocks of an input and not its entries: how many these are, or the refusal by number 1, 2 or 3.
-pub fn read_blocks(s: &[u8], schema: Schema, input: u16) -> Reading
-    ensures { λ r. ⌜ r ≡ answer input (totalIn plain (now (s .entry))) (first (fault (lengthWrong schema (now (s .entry))) 1 0 ∷ blockFaults plain (now (s .entry)) (blocksIn (now (s .entry))) 0 (blocksIn (now (s .entry))))) ⌝ }
-{
-    let n = blocks_read(s, schema);
-    if n == 0 {
-        return Reading::Refused(1, input, 0);
-    }
-    let found = first_block_fault(s, n);
-    match found {
-        Finding::Faulty(number, place) => Reading::Refused(number, input, place),
-        Finding::Clean => {
-            let total = entries_in(s, n);
-            Reading::Accepted(total as u16)
-        }
-    }
-}
-
 // Reads the entries of an input whose blocks are sound.
 fn read_entries(s: &[u8], schema: Schema, input: u16, total: u16) -> Reading
     requires { ⌜ (total ≡ length (entriesOf (now s))) × (total ≤ 2016) × Whole (now s) total ⌝ }
@@ -81,16 +64,41 @@ fn read_entries(s: &[u8], schema: Schema, input: u16, total: u16) -> Reading
     }
 }
 
+// Reads an input, or its blocks alone. It is one function for both, so that the check of the blocks stands in it and is not called.
+fn read_to(s: &[u8], schema: Schema, input: u16, whole: bool) -> Reading
+    ensures { λ r. ⌜ r ≡ cond whole (readingOf schema input (now (s .entry)))
+        (answer input (totalIn plain (now (s .entry))) (first (fault (lengthWrong schema (now (s .entry))) 1 0 ∷ blockFaults plain (now (s .entry)) (blocksIn (now (s .entry))) 0 (blocksIn (now (s .entry)))))) ⌝ }
+{
+    let n = blocks_read(s, schema);
+    if n == 0 {
+        return Reading::Refused(1, input, 0);
+    }
+    let found = first_block_fault(s, n);
+    match found {
+        Finding::Faulty(number, place) => Reading::Refused(number, input, place),
+        Finding::Clean => {
+            let total = entries_in(s, n);
+            if whole {
+                return read_entries(s, schema, input, total as u16);
+            }
+            Reading::Accepted(total as u16)
+        }
+    }
+}
+
+// Reads the blocks of an input and not its entries: how many these are, or the refusal by number 1, 2 or 3.
+pub fn read_blocks(s: &[u8], schema: Schema, input: u16) -> Reading
+    ensures { λ r. ⌜ r ≡ answer input (totalIn plain (now (s .entry))) (first (fault (lengthWrong schema (now (s .entry))) 1 0 ∷ blockFaults plain (now (s .entry)) (blocksIn (now (s .entry))) 0 (blocksIn (now (s .entry))))) ⌝ }
+{
+    read_to(s, schema, input, false)
+}
+
 // Reads an input as a description, with or without names, or a specimen: its number of entries, or the refusal by the first number that applies. The
 // input's own number is only handed on, into the refusal.
 pub fn read(s: &[u8], schema: Schema, input: u16) -> Reading
     ensures { λ r. ⌜ r ≡ readingOf schema input (now (s .entry)) ⌝ }
 {
-    let reading = read_blocks(s, schema, input);
-    match reading {
-        Reading::Refused(number, i, place) => Reading::Refused(number, i, place),
-        Reading::Accepted(total) => read_entries(s, schema, input, total),
-    }
+    read_to(s, schema, input, true)
 }
 
 // Reads a description as input 1: 1 to 16 blocks of entries of kinds 1 to 6.

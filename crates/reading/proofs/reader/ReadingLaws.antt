@@ -3,23 +3,23 @@
 use Prim.Native.Nat.{_%_, _*_, _+_, _-_, _/_, _<_, _≤_, ℕ}
 use lib.Dec.{eqb, ltb}
 use lib.ListN.{length}
-use mathlib.Core.Bool.{false, true}
+use mathlib.Core.Bool.{Bool, cond, false, true}
 use mathlib.Core.List.{List}
 use mathlib.Core.Logic.{_≢_}
-use mathlib.Core.Path.{_∙_, _≡_, ap}
+use mathlib.Core.Path.{_∙_, _≡_, ap, refl, sym}
 use native.Mathlib.Omega.{arith}
 use Rattle.base.proofs.Tests.{bool-cases, eq-cases, eq-eqb, ne-eqb, neither-left, neither-right, tests, true-of-not}
 use Rattle.blocks.specs.Entries.{limitOf}
 use Rattle.blocks.specs.Faults.{blockFaults, first, lengthWrong}
 use Rattle.blocks.specs.Frame.{blocksIn, plain, totalIn, usedIn}
-use Rattle.blocks.specs.Reading.{answer}
+use Rattle.blocks.specs.Reading.{answer, readingOf}
 use Rattle.blocks.specs.Words.{wordAt}
 use Rattle.blocks.specs.code.ReadingSteps.{blocksRead}
 use Rattle.blocks.specs.declared.Finding.{Finding}
 use Rattle.blocks.specs.declared.Finding.the-variants.{Clean, Faulty}
 use Rattle.blocks.specs.declared.Reading.the-variants.{Accepted, Refused}
 use Rattle.blocks.specs.declared.Schema.{Schema}
-use Rattle.reading.proofs.BlocksRead.{frameFaults}
+use Rattle.reading.proofs.BlocksRead.{blocks-refused, frameFaults}
 
 -- ---- number 1
 
@@ -77,6 +77,12 @@ module _ (σ : Schema) (i : ℕ) (s : List ℕ) {n : ℕ} {found : Finding} (e :
 
   pub read-sound : {total : ℕ} → found ≡ Clean → total ≡ totalIn plain s → Accepted total ≡ answer i (totalIn plain s) (first (frameFaults σ s))
   read-sound g t = blocks-cases σ s e (λ y q. absurd (z y)) (λ y q h. rw (first-of-frames σ s q h, ← f, g) (ap Accepted t))
+
+-- what the blocks refuse is refused, whether the entries are read or not
+pub refused-either : (σ : Schema) (i : ℕ) (s : List ℕ) (whole : Bool) {k j p : ℕ} → Refused k j p ≡ answer i (totalIn plain s) (first (frameFaults σ s))
+    → Refused k j p ≡ cond whole (readingOf σ i s) (answer i (totalIn plain s) (first (frameFaults σ s)))
+refused-either σ i s true e = sym (blocks-refused σ i s e refl)
+refused-either σ i s false e = e
 
 pub blocks-are : (σ : Schema) (s : List ℕ) {n : ℕ} → n ≡ blocksRead σ s → n ≢ 0 → n ≡ blocksIn s
 blocks-are σ s e z = blocks-cases σ s e (λ y q. absurd (z y)) (λ y q b. b)
