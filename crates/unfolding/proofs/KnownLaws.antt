@@ -13,7 +13,7 @@ use Rattle.base.proofs.Tests.{bool-cases, eq-cases, eqb-self, ne-eqb}
 use Rattle.blocks.proofs.Refusing.SingleFirst.{named-first}
 use Rattle.blocks.proofs.RoundTrip.Accepting.{none-of-accepted, sound-of-accepted}
 use Rattle.blocks.proofs.RoundTrip.Faithful.{entries-limit, entries-whole}
-use Rattle.blocks.specs.Entries.{entriesOf, nameGiven, nth}
+use Rattle.blocks.specs.Entries.{entriesOf, nameGiven}
 use Rattle.blocks.specs.Faults.{entryFaults, first}
 use Rattle.blocks.specs.Reading.{answer, readingOf}
 use Rattle.blocks.specs.code.Blockwise.{Whole}
@@ -22,7 +22,6 @@ use Rattle.blocks.specs.declared.Entry.{Entry}
 use Rattle.blocks.specs.declared.Finding.the-variants.{Clean, Faulty}
 use Rattle.blocks.specs.declared.Reading.the-variants.{Accepted, Refused}
 use Rattle.blocks.specs.declared.Schema.the-variants.{Named}
-use Rattle.names.proofs.Dictionary.ByAllValues.{given-name}
 use Rattle.names.proofs.Dictionary.InTurn.{each-more, in-turn-more}
 use Rattle.names.proofs.Entries.EachEntry.{each-of-numbers}
 use Rattle.names.proofs.Legality.NamedReadings.{accepted-legal, beyond-large, named-large, named-taken, within-not-large}
@@ -33,7 +32,6 @@ use Rattle.names.specs.Promise.{LegalNamed, Within}
 use Rattle.names.specs.Unfold.{inTurn, noted}
 use Rattle.unfolding.specs.code.Checking.{CheckedAll}
 use Rattle.unfolding.specs.code.Known.{Known, MeasuredBy, tabled}
-use Rattle.unfolding.specs.code.Replacing.{NamesFew}
 use Rattle.unfolding.specs.declared.Checked.the-variants as checked
 use Rattle.unfolding.specs.declared.Checked.{Checked}
 use Rattle.unfolding.specs.declared.Measured.the-variants as measured
@@ -104,10 +102,6 @@ module _ (most i : ℕ) (s : List ℕ) (total : ℕ) (e : readingOf (Named most)
   checked-sound {z} {l} q =
       let f = subst (CheckedAll most S L (entriesOf s) total) q C in
       (e ∙ rw (sym (named-first most (entriesOf s) total) ∙ f .0), (f .1, f .2))
-
--- names up to 64 have their number in the tables
-pub names-few : (most : ℕ) (es : List Entry) → LegalNamed most es → most ≤ 64 → NamesFew es
-names-few most es N h n lo hi q = omega (arith, given-name most (nth es n) (N .name n lo hi) q)
 
 module _ {K : List (List Entry)} {size levels : List ℕ} (k : Known K size levels) (es : List Entry) (N : LegalNamed (length K) es) where
   -- what is worked out by the tables is its size, and its levels
