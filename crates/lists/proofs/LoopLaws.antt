@@ -45,16 +45,9 @@ module _ (s : List ℕ) where
 abbrev pub Counted : List ℕ → ℕ → ℕ → Type 0
 Counted s at count = (at ≤ length s) × (count ≤ at) × (length (partsOf s) ≡ count + length (partsOf (drop at s)))
 
--- i of n parts are passed, or as many as there are, up to the offset `at`
-abbrev pub Passed : List ℕ → ℕ → ℕ → ℕ → Type 0
-Passed s n at i = (at ≤ length s) × (startOf n s ≡ at + startOf (n - i) (drop at s))
-
 module _ (s : List ℕ) where
   pub count-start : Counted s 0 0
   count-start = (omega arith, omega arith, omega arith)
-
-  pub pass-start : (n : ℕ) → Passed s n 0 0
-  pass-start n = (omega arith, rw (sub-zero n) (omega arith))
 
   -- one part more: f is the length of the part at the offset, as the code computes it
   module _ (at : ℕ) {f : ℕ} (e : f ≡ firstLength (take (length s - at) (drop at s))) where
@@ -83,31 +76,12 @@ module _ (s : List ℕ) where
         let p = further l in
         (within (omega arith), omega arith, omega arith)
 
-    pub pass-more : (n i : ℕ) → i < n → at < length s → Passed s n at i → Passed s n (at + f) (i + 1)
-    unfolding startOf
-    pass-more n i l k h =
-        let one : startOf (n - i) (drop at s) ≡ f + startOf (n - (i + 1)) (drop (at + f) s) =
-        rw (one-left i n l, startOf, left-behind, ← passed) in
-        let a = h .1 in
-        (within (omega arith), omega arith)
-
   -- at the end of the list there is none more
   pub count-end : (at count : ℕ) → length s ≤ at → Counted s at count → count ≡ length (partsOf s)
   count-end at count l h =
       let z : length (partsOf (drop at s)) ≡ 0 = ap length (parts-none (drop at s) (omega (arith, length-drop at s))) in
       let a = h .2 in
       omega arith
-
-  pub pass-end : (n at i : ℕ) → length s ≤ at → Passed s n at i → (at ≡ startOf n s) × (at ≤ length s)
-  pass-end n at i l h = let a = h .1 in (omega (arith, start-within (drop at s) (n - i), length-drop at s), h .0)
-
-  -- where all n are passed
-  pub pass-all : (n at i : ℕ) → n ≤ i → Passed s n at i → (at ≡ startOf n s) × (at ≤ length s)
-  unfolding startOf
-  pass-all n at i l h =
-      let z : startOf (n - i) (drop at s) ≡ 0 = rw (none-left i n l) in
-      let a = h .1 in
-      (omega arith, h .0)
 
 -- ---- each part looked at in turn
 

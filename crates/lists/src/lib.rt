@@ -1,4 +1,4 @@
-// Lists of descriptions laid end to end: how long the first one is, how many there are, and where each begins. A list is cut on the
+// Lists of descriptions laid end to end: how long the first one is, and how many there are. A list is cut on the
 // stored block numbers, before any block is checked.
 //
 // The contracts cite specs/Parts. What cutting means is proved in proofs/: that a part ends at the first later whole block with number 1,
@@ -6,5 +6,4 @@
 mod parts;
 
 pub use parts::part_length;
-pub use parts::part_start;
 pub use parts::parts_in;

@@ -2,7 +2,7 @@
 ghost use mathlib.Core.Path.{_≡_};
 ghost use Prim.Native.Nat.{_≤_};
 ghost use lib.ListN.{length};
-ghost use Rattle.lists.specs.Parts.{firstLength, partsOf, startOf};
+ghost use Rattle.lists.specs.Parts.{firstLength, partsOf};
 
 // The length of the first description: the offset of the first later whole block with number 1, which begins the second one; with no
 // such block, the whole length. Later means not the block at offset 0, whole that all its 512 bytes are there.
@@ -33,23 +33,4 @@ pub fn parts_in(s: &[u8]) -> usize
         count += 1;
     }
     count
-}
-
-// The offset at which description n begins, counted from 0; past the last one, the whole length. At the end it stops, so that the time
-// goes by the length and not by n.
-pub fn part_start(s: &[u8], n: usize) -> usize
-    ensures { λ r. ⌜ (r ≡ startOf n (now (s .entry))) × (r ≤ length (now (s .entry))) ⌝ }
-{
-    let mut start: usize = 0;
-    let mut passed: usize = 0;
-    loop {
-        if n <= passed {
-            break start;
-        }
-        if s.len() <= start {
-            break start;
-        }
-        start += part_length(&s[start..s.len()]);
-        passed += 1;
-    }
 }
