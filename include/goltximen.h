@@ -90,15 +90,15 @@
  *
  *     gx_read_description   24,760 bytes
  *     gx_read_specimen      24,760 bytes
- *     gx_fit                70,024 bytes
+ *     gx_fit                70,008 bytes
  *     gx_fit_counted        70,008 bytes
- *     gx_normal             72,312 bytes
- *     gx_compare            69,160 bytes
- *     gx_unfold             53,612 bytes
- *     gx_fit_with           86,536 bytes
- *     gx_normal_with        88,856 bytes
- *     gx_compare_with       94,040 bytes
- *     gx_catalogue          95,436 bytes
+ *     gx_normal             72,296 bytes
+ *     gx_compare            69,096 bytes
+ *     gx_unfold             45,008 bytes
+ *     gx_fit_with           78,984 bytes
+ *     gx_normal_with        81,288 bytes
+ *     gx_compare_with       93,976 bytes
+ *     gx_catalogue          86,832 bytes
  *
  * The library calls memset and memcpy; a program that binds them at their first call took up to 1,072 bytes more there. A
  * thread with 128 KiB of stack has room for each call.
