@@ -1,6 +1,6 @@
 -- Entries: their bytes, and the table of kinds.
 -- Assumes nothing.
-use Rattle.std.specs.Prelude.{ℕ, zero, suc, ◌+◌, ◌*◌, ◌<◌, Bool, true, cond, not, ◌&&◌, ◌||◌, List, [], ◌∷◌, ◌++◌, length, ◌==◌, nat_le, nat_lt, slice_index, slice_index_or}
+use Rattle.std.specs.Prelude.{ℕ, zero, suc, ◌+◌, ◌*◌, ◌<◌, Bool, true, cond, not, ◌&&◌, ◌||◌, List, [], ◌∷◌, ◌++◌, ◌==◌, nat_le, nat_lt, slice_index, slice_index_or}
 use Rattle.blocks.specs.Words.{word_at, word_bytes}
 use Rattle.blocks.specs.Frame.{plain, entry_pos, total_in}
 use Rattle.blocks.specs.declared.Entry.{Entry}

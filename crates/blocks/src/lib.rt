@@ -10,15 +10,15 @@ pub use entries::{entry_of_bytes, next_count, nth_entry, pack};
 pub use words::{block_check, block_second, byte, word, word_of_bytes};
 
 // A property's number. Properties and links are numbered apart, so each has a type of its own.
-#[derive(Drop)]
+#[derive(Clone, Copy)]
 pub struct Property(pub u16);
 
 // A link's number: a role of the description logic.
-#[derive(Drop)]
+#[derive(Clone, Copy)]
 pub struct Link(pub u16);
 
 // An entry as it stands in a block; `reserved` is the byte that is always zero in an accepted input.
-#[derive(Drop)]
+#[derive(Clone, Copy)]
 pub struct Entry {
     pub kind: u8,
     pub reserved: u8,
@@ -29,7 +29,7 @@ pub struct Entry {
 
 // Which table of kinds, and which limit of length, an input is read by. A named description is one that may name the descriptions of a
 // dictionary, those up to a number.
-#[derive(Drop)]
+#[derive(Clone, Copy)]
 pub enum Schema {
     Description,
     Specimen,
@@ -37,14 +37,14 @@ pub enum Schema {
 }
 
 // What a search for faults finds: none, or the refusal's number and the place, a block or an entry counted from 1.
-#[derive(Drop)]
+#[derive(Clone, Copy)]
 pub enum Finding {
     Clean,
     Faulty(u8, u16),
 }
 
 // What reading an input answers: its number of entries, or the refusal's number, the input and the place.
-#[derive(Drop)]
+#[derive(Clone, Copy)]
 pub enum Reading {
     Accepted(u16),
     Refused(u8, u16, u16),

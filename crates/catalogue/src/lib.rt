@@ -11,7 +11,7 @@ use base::wide;
 use blocks::Reading;
 
 // What the call answers: how many bytes it filled, or the refusal's number, the input and the place.
-#[derive(Drop)]
+#[derive(Clone, Copy)]
 pub enum Catalogued {
     Filled(u16),
     Refused(u8, u16, u16),

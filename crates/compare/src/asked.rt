@@ -11,7 +11,7 @@ use base::long;
 use blocks::{Entry, Link, Property};
 
 // The property that a place is asked for, if any.
-#[derive(Drop)]
+#[derive(Clone, Copy)]
 pub(crate) enum AskedProperty {
     Nothing,
     Property(Property),
@@ -19,7 +19,7 @@ pub(crate) enum AskedProperty {
 
 // The link by which a place is asked for items, if any: how many, and 1,024 times the target of the place that they lead to. A link is no
 // property's number, nor is a property's number a link's.
-#[derive(Drop)]
+#[derive(Clone, Copy)]
 pub(crate) enum AskedLink {
     Nothing,
     Items(Link, u64, u16),

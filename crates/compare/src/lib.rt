@@ -16,7 +16,7 @@ pub use verdict::compare;
 
 // What the comparison answers: contained; not contained, with the number of the first entry of the second description that fails and the
 // number of entries of the specimen that shows it; or the refusal's number, the input and the place.
-#[derive(Drop)]
+#[derive(Clone, Copy)]
 pub enum Comparison {
     Contained,
     NotContained(u16, u16),

@@ -15,7 +15,7 @@ mod totals;
 pub use answer::{fit, fit_counted};
 
 // The fit answer: yes, no, or the refusal's number, the input and the place.
-#[derive(Drop)]
+#[derive(Clone, Copy)]
 pub enum FitAnswer {
     Yes,
     No,
@@ -23,7 +23,7 @@ pub enum FitAnswer {
 }
 
 // The fit answer, with the number of additions of items in making the table of totals and in the walk over entries.
-#[derive(Drop)]
+#[derive(Clone, Copy)]
 pub struct Counted {
     pub answer: FitAnswer,
     pub table: u16,

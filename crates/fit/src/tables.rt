@@ -11,7 +11,7 @@ use crate::judge::fits_place;
 use crate::totals::fill_totals;
 
 // Whether the top item fits, and how many additions the table of totals and the walk over entries took.
-#[derive(Drop)]
+#[derive(Clone, Copy)]
 pub(crate) struct Judged {
     pub fits: bool,
     pub table: u16,

@@ -42,10 +42,7 @@ fn single_in_block(s: &[u8], from: usize, count: usize, done: usize) -> usize
     }
 }
 
-// The table of the groups met is made of `cells` and `keys`. A cell is free or has the number of a group. Searches begin in the first `most`
-// cells; group n has two cells more, from most + 2 * n on, in one of which a search that meets it goes on. Its key stands in keys[n].
-
-// An owner and a link as one number, the key of a group.
+// An owner and a link as one number, by which the table keeps them.
 fn key_of(e: Entry) -> u32
     ensures { (result ≡ key_of e) × (e.name < 65536) }
 {
@@ -60,48 +57,39 @@ fn start_of(key: u32, most: usize) -> usize
     ((2654435769 * (key as u64) / 1048576) as usize) & (most - 1)
 }
 
-// The number of the group in a cell; 0 in a free one.
-fn group_in(cells: &[u16], c: usize) -> usize
+// The key in a cell; 0 in a free one.
+fn key_at(cells: &[u32], c: usize) -> u32
     requires { c < length cells.now }
     ensures { result ≡ get_or cells.now c 0 }
 {
-    wide(cells[c])
+    cells[c]
 }
 
-// The key of a group in the table.
-fn key_at(keys: &[u32], group: usize) -> u32
-    requires { group < length keys.now }
-    ensures { result ≡ get_or keys.now group 0 }
-{
-    keys[group]
-}
-
-// The cell whose group has a key, or the free one where such a group is to stand. Groups whose searches begin at one cell part by the bits
-// of their keys, of which there are 32: so no choice of owners and links makes a search look at more than 33 cells.
-fn cell_for(cells: &[u16], keys: &[u32], most: usize, key: u32) -> usize
-    requires { Room most cells.now keys.now }
-    ensures { Ends cells.now keys.now most key result × (result < length cells.now) }
+// The cell that has a key, or the free one where it is to stand: the first from where its search begins.
+fn cell_for(cells: &[u32], most: usize, key: u32) -> usize
+    requires { Room most cells.now }
+    ensures { Ends cells.now most key result × (result < length cells.now) }
 {
     let mut c = start_of(key, most);
-    let mut bits = key as usize;
+    // Owners and links that were chosen for it all begin at one cell; then each search goes over all groups met, cell by cell, and a
+    // specimen of 2,016 groups takes a millisecond or so.
     loop {
-        let group = group_in(cells, c);
-        if group == 0 {
+        let x = key_at(cells, c);
+        if x == 0 {
             break c;
         }
-        if key_at(keys, group) == key {
+        if x == key {
             break c;
         }
-        c = most + 2 * group + bits % 2;
-        bits = bits / 2;
+        c += 1;
     }
 }
 
-// Whether entry e, the n-th, breaks number 9, where the table holds the groups before it. If it does not, the table then holds it too.
-fn brings_second(cells: &mut [u16], keys: &mut [u32], most: usize, n: usize, e: Entry) -> bool
-    requires { Room most cells.old keys.old × (n < length keys.old) × (n ≤ 2016) }
-    ensures { (es : List Entry) → (m : ℕ) → n ≡ m + 1 → e ≡ nth es (m + 1) → Kept es most cells.old keys.old m
-        → (result ≡ not (single_ok es (m + 1))) × (result ≡ false → Kept es most cells.new keys.new (m + 1)) }
+// Whether entry e breaks number 9, where the table holds the groups before it. If it does not, the table then holds it too.
+fn brings_second(cells: &mut [u32], most: usize, e: Entry) -> bool
+    requires { Room most cells.old }
+    ensures { (es : List Entry) → (n : ℕ) → e ≡ nth es (n + 1) → Kept es most cells.old n
+        → (result ≡ not (single_ok es (n + 1))) × (result ≡ false → Kept es most cells.new (n + 1)) }
 {
     if !single_group(e) {
         return false;
@@ -110,12 +98,11 @@ fn brings_second(cells: &mut [u16], keys: &mut [u32], most: usize, n: usize, e: 
         return true;
     }
     let key = key_of(e);
-    let c = cell_for(cells, keys, most, key);
-    if group_in(cells, c) != 0 {
+    let c = cell_for(cells, most, key);
+    if key_at(cells, c) != 0 {
         return true;
     }
-    cells[c] = n as u16;
-    keys[n] = key;
+    cells[c] = key;
     false
 }
 
@@ -125,13 +112,12 @@ fn double_in_block(
     from: usize,
     count: usize,
     done: usize,
-    cells: &mut [u16],
-    keys: &mut [u32],
+    cells: &mut [u32],
     most: usize,
 ) -> usize
-    requires { (length (entries_of s.now) ≤ 2016) × InBlock s.now from count done × (done + count < length keys.old) × Kept (entries_of s.now) most cells.old keys.old done }
+    requires { (length (entries_of s.now) ≤ 2016) × InBlock s.now from count done × (done + count ≤ most / 2) × Kept (entries_of s.now) most cells.old done }
     ensures { (result ≡ first_from (single_ok (entries_of s.now)) (done + 1) count)
-        × (result ≡ 0 → Kept (entries_of s.now) most cells.new keys.new (done + count)) }
+        × (result ≡ 0 → Kept (entries_of s.now) most cells.new (done + count)) }
 {
     let mut i: usize = 0;
     loop {
@@ -140,7 +126,7 @@ fn double_in_block(
         }
         let e = entry_from(s, from + 8 * i);
         i += 1;
-        if brings_second(cells, keys, most, done + i, e) {
+        if brings_second(cells, most, e) {
             break done + i;
         }
     }
@@ -153,11 +139,10 @@ fn double_by(
     n: usize,
     before: usize,
     from: usize,
-    cells: &mut [u16],
-    keys: &mut [u32],
+    cells: &mut [u32],
     most: usize,
 ) -> usize
-    requires { After s.now n before from × (n < length keys.old) × Kept (entries_of s.now) most cells.old keys.old before }
+    requires { After s.now n before from × (n ≤ most / 2) × Kept (entries_of s.now) most cells.old before }
     ensures { result ≡ first_from (single_ok (entries_of s.now)) 1 n }
 {
     let mut done = before;
@@ -167,7 +152,7 @@ fn double_by(
             break 0;
         }
         let count = next_count(n - done);
-        let found = double_in_block(s, at, count, done, cells, keys, most);
+        let found = double_in_block(s, at, count, done, cells, most);
         if found != 0 {
             break found;
         }
@@ -181,9 +166,8 @@ fn double_of_few(s: &[u8], n: usize, before: usize, from: usize) -> usize
     requires { After s.now n before from × (n < 64) }
     ensures { result ≡ first_from (single_ok (entries_of s.now)) 1 n }
 {
-    let mut cells = [0u16; 192];
-    let mut keys = [0u32; 64];
-    double_by(s, n, before, from, &mut cells, &mut keys, 64)
+    let mut cells = [0u32; 192];
+    double_by(s, n, before, from, &mut cells, 128)
 }
 
 // The same for any number.
@@ -191,9 +175,8 @@ fn double_of_many(s: &[u8], n: usize, before: usize, from: usize) -> usize
     requires { After s.now n before from }
     ensures { result ≡ first_from (single_ok (entries_of s.now)) 1 n }
 {
-    let mut cells = [0u16; 8192];
-    let mut keys = [0u32; 2048];
-    double_by(s, n, before, from, &mut cells, &mut keys, 4096)
+    let mut cells = [0u32; 6144];
+    double_by(s, n, before, from, &mut cells, 4096)
 }
 
 // The same with a table that is large enough. Few entries take a small one, which is sooner cleared.

@@ -15,7 +15,7 @@ pub use text::{LINE_BYTES, line_text};
 
 // What a printed line says: `contained`; `not contained` with the entry that fails; `refused` with its number, input and place; `has`
 // with its entry number, owner and property; or `group` with its entry number, owner, link and count, which is the number of items.
-#[derive(Drop)]
+#[derive(Clone, Copy)]
 pub enum Line {
     Contained,
     NotContained(u16),

@@ -18,11 +18,17 @@ ghost use Rattle.slots.specs.code.Tables.{Held};
 use crate::Judgement;
 use crate::failing::judge_by;
 use crate::filling::chained_slots;
-use crate::service::{bit_of, judge_plain};
 use blocks::{Reading, Schema};
 use lists::{part_length, parts_in};
 use unfolding::unfold_into;
 use writing::bytes_for;
+
+// 1 where no entry fails, else 0.
+fn bit_of(e: usize) -> u8
+    ensures { result ≡ bit (eqb e 0) }
+{
+    if e == 0 { 1 } else { 0 }
+}
 
 // Reads a description under a dictionary. One of length 0 leaves it as it is sent; otherwise the plain description that it stands for is
 // written to a buffer that has room for every description. The dictionary is read again for each.
@@ -37,9 +43,9 @@ fn read_sent(dictionary: &[u8], d: &[u8], input: u16, buffer: &mut [u8]) -> Read
     unfold_into(dictionary, d, input, buffer)
 }
 
-// The first entry of a description that does not hold by the slots of another, where the plain description that it stands for under a dictionary
-// has m entries and is in a buffer; 0 where all hold.
-fn judge_buffered(
+// The first entry of a description that does not hold by the slots of another, where it is accepted under a dictionary, with m entries, and
+// stands in a buffer unless the dictionary has length 0; 0 where all hold.
+fn judge_sent(
     pairs: &[u8],
     index: &[u8; 512],
     table: &[u64],
@@ -54,11 +60,15 @@ fn judge_buffered(
     states: &mut [u16],
 ) -> usize
     requires { PairsIndexed pairs.now index.now × Ruled (under pairs.now) × Supplied (under pairs.now) used table.now next.now head.now bad.now × (0 < length bad.now)
-        × (reading_of Schema.Description 2 (sent_of dictionary.now d.now) ≡ Reading.Accepted m) × Buffered dictionary.now d.now m buffer.now × (8192 ≤ length buffer.now) × (1008 < length states.old)
-        × (0 < length dictionary.now) }
+        × (reading_of Schema.Description 2 (sent_of dictionary.now d.now) ≡ Reading.Accepted m) × Buffered dictionary.now d.now m buffer.now × (8192 ≤ length buffer.now) × (1008 < length states.old) }
     ensures { (c : List ℕ) → Held (under pairs.now) c used table.now next.now head.now bad.now
         → result ≡ failing_in (under pairs.now) c (sent_of dictionary.now d.now) }
 {
+    if dictionary.len() == 0 {
+        return judge_by(
+            pairs, index, table, next, head, used, bad, d, m as usize, states,
+        );
+    }
     let end = bytes_for(m);
     judge_by(
         pairs,
@@ -74,39 +84,7 @@ fn judge_buffered(
     )
 }
 
-// Reads a service that may have names, an input of any number, unfolds it and judges it.
-fn judge_named(
-    pairs: &[u8],
-    index: &[u8; 512],
-    table: &[u64],
-    next: &[u16],
-    head: &[u16],
-    used: usize,
-    bad: &[u8],
-    dictionary: &[u8],
-    d: &[u8],
-    input: u16,
-    buffer: &mut [u8],
-    states: &mut [u16],
-) -> Judgement
-    requires { PairsIndexed pairs.now index.now × Ruled (under pairs.now) × Supplied (under pairs.now) used table.now next.now head.now bad.now × (0 < length bad.now)
-        × DictionaryTaken dictionary.now × (0 < length dictionary.now) × (8192 ≤ length buffer.old) × (1008 < length states.old) }
-    ensures { (c : List ℕ) → Held (under pairs.now) c used table.now next.now head.now bad.now
-        → result ≡ service_judged pairs.now dictionary.now c input d.now }
-{
-    let reading = read_sent(dictionary, d, input, buffer);
-    match reading {
-        Reading::Refused(number, i, place) => Judgement::Refused(number, i, place),
-        Reading::Accepted(m) => {
-            let e = judge_buffered(
-                pairs, index, table, next, head, used, bad, dictionary, d, m, buffer, states,
-            );
-            Judgement::Bit(bit_of(e))
-        }
-    }
-}
-
-// Reads a service, an input of any number, and judges it. With a dictionary of length 0 it has no names, and nothing is unfolded.
+// Reads a service, an input of any number, and judges it.
 fn judge_service(
     pairs: &[u8],
     index: &[u8; 512],
@@ -120,21 +98,22 @@ fn judge_service(
     input: u16,
     buffer: &mut [u8],
     states: &mut [u16],
-    level: &mut [u8],
 ) -> Judgement
     requires { PairsIndexed pairs.now index.now × Ruled (under pairs.now) × Supplied (under pairs.now) used table.now next.now head.now bad.now × (0 < length bad.now)
-        × DictionaryTaken dictionary.now × (8192 ≤ length buffer.old) × (1008 < length states.old) × (1008 < length level.old) }
+        × DictionaryTaken dictionary.now × (8192 ≤ length buffer.old) × (1008 < length states.old) }
     ensures { (c : List ℕ) → Held (under pairs.now) c used table.now next.now head.now bad.now
         → result ≡ service_judged pairs.now dictionary.now c input d.now }
 {
-    if dictionary.len() == 0 {
-        return judge_plain(
-            pairs, index, table, next, head, used, bad, d, input, states, level,
-        );
+    let reading = read_sent(dictionary, d, input, buffer);
+    match reading {
+        Reading::Refused(number, i, place) => Judgement::Refused(number, i, place),
+        Reading::Accepted(m) => {
+            let e = judge_sent(
+                pairs, index, table, next, head, used, bad, dictionary, d, m, buffer, states,
+            );
+            Judgement::Bit(bit_of(e))
+        }
     }
-    judge_named(
-        pairs, index, table, next, head, used, bad, dictionary, d, input, buffer, states,
-    )
 }
 
 // Judges the services of a list in turn, as inputs 2, 3 and so on, and stores a byte for each: how many there are, or the first refusal.
@@ -150,11 +129,10 @@ fn judge_parts(
     list: &[u8],
     buffer: &mut [u8],
     states: &mut [u16],
-    level: &mut [u8],
     answers: &mut [u8; 64],
 ) -> Reading
     requires { PairsIndexed pairs.now index.now × Ruled (under pairs.now) × Supplied (under pairs.now) used table.now next.now head.now bad.now × (0 < length bad.now)
-        × DictionaryTaken dictionary.now × (8192 ≤ length buffer.old) × (1008 < length states.old) × (1008 < length level.old) × (length (parts_of list.now) ≤ 64) }
+        × DictionaryTaken dictionary.now × (8192 ≤ length buffer.old) × (1008 < length states.old) × (length (parts_of list.now) ≤ 64) }
     ensures { (c : List ℕ) → Held (under pairs.now) c used table.now next.now head.now bad.now
         → JudgesAll pairs.now dictionary.now c list.now answers.old result answers.new }
 {
@@ -179,7 +157,6 @@ fn judge_parts(
             2 + n as u16,
             buffer,
             states,
-            level,
         );
         match judged {
             Judgement::Refused(number, i, place) => {
@@ -219,7 +196,6 @@ fn judge_all(
     );
     let mut buffer = [0u8; 8192];
     let mut states = [0u16; 1009];
-    let mut level = [0u8; 1009];
     judge_parts(
         pairs,
         index,
@@ -232,7 +208,6 @@ fn judge_all(
         list,
         &mut buffer,
         &mut states,
-        &mut level,
         answers,
     )
 }

@@ -25,7 +25,7 @@ pub use filling::fill;
 pub use slots::{high_in, key_in, low_in};
 
 // What filling tables with the slots of an input answers: how many there are; or the refusal's number, the input and the place.
-#[derive(Drop)]
+#[derive(Clone, Copy)]
 pub enum Slotting {
     Filled(u16),
     Refused(u8, u16, u16),
@@ -33,7 +33,7 @@ pub enum Slotting {
 
 // Which entries of a second description the normal form of a first holds: all; all before this one, with the number of slots that stand in
 // the table; or the refusal's number, the input and the place.
-#[derive(Drop)]
+#[derive(Clone, Copy)]
 pub enum Holding {
     All,
     Fails(u16, u16),
@@ -41,7 +41,7 @@ pub enum Holding {
 }
 
 // What judging one description of a list answers: its byte, or the refusal's number, the input and the place.
-#[derive(Drop)]
+#[derive(Clone, Copy)]
 enum Judgement {
     Bit(u8),
     Refused(u8, u16, u16),
@@ -49,7 +49,7 @@ enum Judgement {
 
 // What going over the entries of a service answers: the number of the first that is refused and its place, or the first that does not hold, 0
 // where all do.
-#[derive(Drop)]
+#[derive(Clone, Copy)]
 enum Pass {
     Faulty(u8, u16),
     Through(usize),

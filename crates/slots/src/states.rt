@@ -142,7 +142,7 @@ fn state_below(s: usize, hi: u64) -> u16
 }
 
 // Whether an entry holds, and the state of the place that it owns, if it is an 'every'.
-#[derive(Drop)]
+#[derive(Clone, Copy)]
 pub(crate) struct Looked {
     pub holds: bool,
     pub below: u16,

@@ -17,7 +17,7 @@ mod rows;
 pub use calls::{unfold, unfold_both, unfold_into};
 
 // What unfolding two descriptions answers: the refusal's number, the input and the place, or how many entries each has then.
-#[derive(Drop)]
+#[derive(Clone, Copy)]
 pub enum Unfolded {
     Refused(u8, u16, u16),
     Both(u16, u16),
@@ -25,7 +25,7 @@ pub enum Unfolded {
 
 // What going over the entries of a description answers: the number of the first that is refused and its place, or how many entries they are
 // once unfolded, and on how many levels these stand.
-#[derive(Drop)]
+#[derive(Clone, Copy)]
 enum Checked {
     Faulty(u8, u16),
     Sound(usize, usize),
@@ -33,7 +33,7 @@ enum Checked {
 
 // What reading a description under a dictionary answers: the refusal's number, the input and the place, or how many entries it has, how many
 // once unfolded, and on how many levels these stand.
-#[derive(Drop)]
+#[derive(Clone, Copy)]
 enum Measured {
     Refused(u8, u16, u16),
     Taken(u16, u16, u8),

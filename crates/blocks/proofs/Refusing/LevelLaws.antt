@@ -4,7 +4,7 @@ use Rattle.std.proofs.Common.{◌≡◌, ℕ, zero, suc, ◌+◌, ◌-◌, ◌<�
 use Rattle.base.proofs.RangeLaws.{none_left, one_left}
 use Rattle.base.proofs.Tests.{bool_cases, both_ways, eq-cases, eq-eqb, ge-ltb, lt-cases, lt-ltb, ne_eqb, tests}
 use Rattle.blocks.proofs.Refusing.FirstFault.{first-append, or_else, step, step-found, step-more}
-use Rattle.blocks.specs.Entries.{form_ok, name_given, names_ok, nth, owning_kind}
+use Rattle.blocks.specs.Entries.{form_ok, names_ok, nth, owning_kind}
 use Rattle.blocks.specs.Faults.{Fault, depth_row, first, owner_row, rows_from}
 use Rattle.blocks.specs.Owners.{chain, depth_of, depth_ok, level_of, owner_of, owner_ok}
 use Rattle.blocks.specs.code.ReadingSteps.{Levels, entry_refusal, level_by, level_under, name_rows, rule_faults, rule_rows}

@@ -24,9 +24,9 @@ chained-slots-requires c κs =
 
 judge-parts-requires : tie.Need-judge-parts-requires
 judge-parts-requires c κs =
-    let a = c.before.before.before.before.before.before.before.before.before.before.before.before.before.before.before.before.before.before.before.before.before.before.before.before.before in
+    let a = c.before.before.before.before.before.before.before.before.before.before.before.before.before.before.before.before.before.before.before.before.before.before.before.before in
     let p = a.requires in
-    let s = c.before.before.before.before.before.before.before.before.before.before.before.before.before.before.chained-slots in (
+    let s = c.before.before.before.before.before.before.before.before.before.before.before.before.before.chained-slots in (
       p.0,
       p.1,
       record { supplier = a.args.c.now; held = chained-held s.ensures },
@@ -34,15 +34,14 @@ judge-parts-requires c κs =
       p.2,
       omega (arith, length-replicate {A = ℕ} 8192 0),
       omega (arith, length-replicate {A = ℕ} 1009 0),
-      omega (arith, length-replicate {A = ℕ} 1009 0),
       p.4,
     )
 
 returns : tie.Need-returns
-returns c = c.before.before.before.judge-parts.ensures c.before.before.before.before.before.before.before.before.before.before.before.before.before.before.before.before.before.before.before.before.before.before.before.before.before.before.before.before.before.args.c.now (chained-held c.before.before.before.before.before.before.before.before.before.before.before.before.before.before.before.before.before.before.chained-slots.ensures)
+returns c = c.before.before.judge-parts.ensures c.before.before.before.before.before.before.before.before.before.before.before.before.before.before.before.before.before.before.before.before.before.before.before.before.before.before.before.args.c.now (chained-held c.before.before.before.before.before.before.before.before.before.before.before.before.before.before.before.before.chained-slots.ensures)
 
 pub judge-all-spec : {M : Type 1} → statement M
 judge-all-spec =
     tie.close
     (tie.spec (λ c. search rules) (λ c. search rules) (λ c. search rules) (λ c. search rules) (λ c. search rules) (λ c. search rules) chained-slots-requires
-    (λ c. search rules) (λ c. search rules) (λ c. search rules) (λ c. search rules) (λ c. search rules) (λ c. search rules) (λ c. search rules) judge-parts-requires returns)
+    (λ c. search rules) (λ c. search rules) (λ c. search rules) (λ c. search rules) (λ c. search rules) (λ c. search rules) judge-parts-requires returns)

@@ -1,0 +1,11 @@
+-- `cell_for` meets its contract: the cells passed have other keys.
+use lib.ListN.{length}
+use Prim.Native.Nat.{◌-◌}
+use Rattle.blocks.specs.code.SingleTable.{Passed}
+use Rattle.reading.proofs.single.cell_for.Given as goal
+
+abbrev pub invariant-loop-x : goal.invariant-loop-x
+invariant-loop-x l = Passed l.cells l.most l.key l.c
+
+abbrev pub decreases-loop-x : goal.decreases-loop-x
+decreases-loop-x l = length l.cells - l.c

@@ -1,0 +1,5 @@
+-- `stand_before` meets its contract.
+use Rattle.reading.proofs.single.stand_before.Goals as goal
+
+pub returns-in-Faulty : goal.returns-in-Faulty
+returns-in-Faulty c = rw c.in-Faulty.is c.one_less.ensures

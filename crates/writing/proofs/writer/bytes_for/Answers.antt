@@ -1,0 +1,12 @@
+-- `bytes_for` meets its contract.
+use native.Mathlib.Omega.{arith}
+use Rattle.blocks.specs.Encoding.{blocks_for}
+use Rattle.writing.proofs.writer.bytes_for.Goals as goal
+
+pub overflow_mul-result : goal.overflow_mul-result
+unfolding blocks_for
+overflow_mul-result c = omega (arith, c.blocks_for.ensures, c.wide.ensures.0, c.wide.ensures.1)
+
+pub returns : goal.returns
+unfolding blocks_for
+returns c = let w = c.wide.ensures in (omega (arith, c.blocks_for.ensures, w.0), omega (arith, c.blocks_for.ensures, w.1))
