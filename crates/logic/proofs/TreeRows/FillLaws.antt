@@ -6,13 +6,14 @@ use lib.ListN.{get_or, length, length-append, length-set, set, take}
 use lib.Seq.{get_or-set_other, get_or-set_same, take-suc-set}
 use mathlib.Core.List.{List, [], ◌++◌, ◌∷◌, append_assoc, append-nil}
 use mathlib.Core.Logic.{◌≢◌}
-use mathlib.Core.Path.{◌∙◌, ◌≡◌, refl, sym}
+use mathlib.Core.Path.{◌∙◌, ◌≡◌, ap, refl, subst, sym}
+use mathlib.Core.Bool.{cond}
 use native.Mathlib.Nat.{add_assoc, add-zero}
 use native.Mathlib.Numerals.{add-one}
 use native.Mathlib.Omega.{arith}
 use Rattle.base.proofs.Tests.{bool_cases, eq-cases, eq-eqb, ne_eqb}
 use Rattle.logic.specs.Filling.{Filled, Joined, later_each, noted, queue_from}
-use Rattle.logic.specs.Layout.{job, later}
+use Rattle.logic.specs.Layout.{Queue, job, later}
 
 -- ---- numbers after numbers
 
@@ -121,8 +122,13 @@ module _ {X : Type 0} (T : ℕ → X) where
   queue-more below i (suc n) c z l =
       let e : i + suc n ≡ suc i + n = omega arith in
       let r = queue-more below (suc i) n c z (omega arith) in
-      rw (e, queue_from, get_or-set_other below (suc i + n) i c 0 (λ q. omega arith), r)
-      (bool_cases (eqb (get_or below i 0) 0) (λ q. rw (queue_from, q)) (λ q. rw (queue_from, q)))
+      let B = set below (suc i + n) c in
+      let Q : Queue X = later (queue_from T below (suc i) n) (suc i + n) (T c) in
+      let g = get_or-set_other below (suc i + n) i c 0 (λ q. omega arith) in
+      subst (λ (j : ℕ). queue_from T (set below j c) i (suc (suc n)) ≡ later (queue_from T below i (suc n)) j (T c)) (sym e)
+      (ap (λ (q : Queue X). cond (eqb (get_or B i 0) 0) q (job i (T (get_or B i 0)) q)) r
+      ∙ ap (λ (k : ℕ). cond (eqb k 0) Q (job i (T k) Q)) g
+      ∙ bool_cases (eqb (get_or below i 0) 0) (λ q. rw (queue_from, q)) (λ q. rw (queue_from, q)))
 
   -- the rows that codes are noted for become jobs
   pub queue-each : (Good : ℕ → Type 0) (below : List ℕ) (i n : ℕ) (cs : List ℕ) → Codes Good cs → i + n + length cs ≤ length below

@@ -20,7 +20,7 @@ pub loop-i-preserved : goal.loop-i-preserved
 loop-i-preserved c = (
   omega arith,
   blocks_step c.args.rows.now _ _ _ c.requires.2 c.loop-i.invariant.1 c.used_for-used.ensures.0 c.put_block.ensures,
-  c.put_block.auto.0 ∙ c.loop-i.invariant.2,
+  c.put_block.auto.out ∙ c.loop-i.invariant.2,
 )
 
 pub returns : goal.returns

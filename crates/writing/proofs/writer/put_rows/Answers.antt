@@ -13,7 +13,7 @@ loop-j-preserved c =
     let a = c.args in (
       omega arith,
       rows_step a.rows.now a.out.now a.at a.from c.loop-j.j (omega arith) c.loop-j.invariant.1 c.put_row.ensures,
-      c.put_row.auto.0 ∙ c.loop-j.invariant.2,
+      c.put_row.auto.out ∙ c.loop-j.invariant.2,
     )
 
 pub returns : goal.returns
