@@ -1,0 +1,11 @@
+-- `read_parts` meets its contract: what the parts passed leave in the tables, and that the rest gives the answer.
+use Prim.Native.Nat.{◌-◌}
+use lib.ListN.{length}
+use Rattle.unfolding.proofs.DictionaryRead.{Passed}
+use Rattle.unfolding.proofs.dictionary.read_parts.Given as goal
+
+abbrev pub invariant-loop-at : goal.invariant-loop-at
+invariant-loop-at l = Passed l.dictionary l.start l.size l.levels l.at l.n
+
+abbrev pub decreases-loop-at : goal.decreases-loop-at
+decreases-loop-at l = length l.dictionary - l.at
