@@ -18,13 +18,14 @@ ghost use Rattle.slots.specs.code.Tables.{Held};
 use crate::Judgement;
 use crate::failing::judge_by;
 use crate::filling::chained_slots;
+use crate::service::judge_plain;
 use blocks::{Reading, Schema};
 use lists::{part_length, parts_in};
 use unfolding::unfold_into;
 use writing::bytes_for;
 
 // 1 where no entry fails, else 0.
-fn bit_of(e: usize) -> u8
+pub(crate) fn bit_of(e: usize) -> u8
     ensures { result ≡ bit (eqb e 0) }
 {
     if e == 0 { 1 } else { 0 }
@@ -84,7 +85,7 @@ fn judge_sent(
     )
 }
 
-// Reads a service, an input of any number, and judges it.
+// Reads a service, an input of any number, and judges it. With a dictionary of length 0 it has no names, and nothing is unfolded.
 fn judge_service(
     pairs: &[u8],
     index: &[u8; 512],
@@ -104,6 +105,11 @@ fn judge_service(
     ensures { (c : List ℕ) → Held (under pairs.now) c used table.now next.now head.now bad.now
         → result ≡ service_judged pairs.now dictionary.now c input d.now }
 {
+    if dictionary.len() == 0 {
+        return judge_plain(
+            pairs, index, table, next, head, used, bad, d, input, states,
+        );
+    }
     let reading = read_sent(dictionary, d, input, buffer);
     match reading {
         Reading::Refused(number, i, place) => Judgement::Refused(number, i, place),

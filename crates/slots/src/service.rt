@@ -132,13 +132,6 @@ fn pass_blocks(
     }
 }
 
-// 1 where no entry fails, else 0.
-pub(crate) fn bit_of(e: usize) -> u8
-    ensures { result ≡ bit (eqb e 0) }
-{
-    if e == 0 { 1 } else { 0 }
-}
-
 // Reads a service that is contained if it is accepted: nothing fits the other description.
 fn judge_broken(d: &[u8], input: u16) -> Judgement
     ensures { result ≡ bit_unless (reading_of (Schema.Named 0) input d.now) 1 }
@@ -201,13 +194,13 @@ pub(crate) fn judge_plain(
     d: &[u8],
     input: u16,
     states: &mut [u16],
-    level: &mut [u8],
 ) -> Judgement
     requires { PairsIndexed pairs.now index.now × Ruled (under pairs.now) × Supplied (under pairs.now) used table.now next.now head.now bad.now × (0 < length bad.now)
-        × (1008 < length states.old) × (1008 < length level.old) }
+        × (1008 < length states.old) }
     ensures { (c : List ℕ) → Held (under pairs.now) c used table.now next.now head.now bad.now
         → result ≡ plain_judged pairs.now c input d.now }
 {
+    let mut level = [0u8; 1009];
     if bad[0] != 0 {
         return judge_broken(d, input);
     }
@@ -215,7 +208,7 @@ pub(crate) fn judge_plain(
     match reading {
         Reading::Refused(number, i, place) => Judgement::Refused(number, i, place),
         Reading::Accepted(total) => judge_entries(
-            pairs, index, table, next, head, used, bad, d, total, input, states, level,
+            pairs, index, table, next, head, used, bad, d, total, input, states, &mut level,
         ),
     }
 }

@@ -27,7 +27,7 @@ use Rattle.names.specs.NamedReading.{dictionary_of, named_unfolding, sent_of, un
 use Rattle.pairs.specs.Pairs.{pairs_reading, under}
 use Rattle.slots.specs.Catalogue.{answers_after, bits_before, cut_reading, list_bits, list_reading, listed_bits, listed_reading, service_bit, services_reading}
 use Rattle.slots.specs.Holding.{failing_in}
-use Rattle.slots.specs.code.Judging.{Buffered, DictionaryTaken, JudgesAll, JudgesListed, JudgesSupplied, service_judged}
+use Rattle.slots.specs.code.Judging.{Buffered, DictionaryTaken, JudgesAll, JudgesListed, JudgesSupplied, plain_judged, service_judged}
 use Rattle.slots.specs.declared.Judgement.TheVariants as judgement
 use Rattle.slots.specs.declared.Judgement.{Judgement}
 use Rattle.unfolding.proofs.BufferLaws.{at-buffer, buffer-plain, sent-itself, sent-plain}
@@ -80,6 +80,14 @@ module _ (P : List ℕ) {D : List ℕ} (T : DictionaryTaken D) (s : List ℕ) (i
   pub service-judged : {m x b : ℕ} → r ≡ reading.Accepted m → x ≡ failing_in (under P) s (sent_of D d) → b ≡ bit (eqb x 0) → judgement.Bit b ≡ service_judged P D s i d
   unfolding service_judged service_bit
   service-judged q f g = let w = read_as ∙ q in rw (w, g, f)
+
+-- with a dictionary of length 0 it is judged as it is sent
+pub service-plain : (P : List ℕ) {D : List ℕ} → DictionaryTaken D → (s : List ℕ) (i : ℕ) (d : List ℕ) → length D ≡ 0 → plain_judged P s i d ≡ service_judged P D s i d
+unfolding plain_judged service_judged service_bit
+service-plain P {D} T s i d z =
+    let read = nameless-sent i d D z ∙ taken-goes T i d in
+    let same = sent-itself D d z in
+    rw (read, same)
 
 -- what came of it says how it was read
 module _ (P D s : List ℕ) (i : ℕ) (d : List ℕ) where

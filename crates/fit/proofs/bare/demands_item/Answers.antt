@@ -1,0 +1,20 @@
+-- `demands_item` meets its contract, kind by kind.
+use Rattle.base.proofs.Tests.{ne_eqb}
+use Rattle.fit.proofs.bare.demands_item.Goals as goal
+
+pub returns-in-2 : goal.returns-in-2
+returns-in-2 c = rw c.in-2.is
+
+pub returns-in-4 : goal.returns-in-4
+returns-in-4 c = rw c.in-4.is
+
+pub returns-in-5 : goal.returns-in-5
+returns-in-5 c = rw c.in-5.is
+
+pub returns-in-3 : goal.returns-in-3
+returns-in-3 c = rw c.in-3.is
+
+pub returns-in_default : goal.returns-in_default
+returns-in_default c =
+    let n = c.in_default.in_default-own.rest in
+    simp (ne_eqb n.0.0.0.1, ne_eqb n.0.0.1, ne_eqb n.0.1, ne_eqb n.1)
