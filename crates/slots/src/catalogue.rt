@@ -106,9 +106,7 @@ fn judge_service(
         → result ≡ service_judged pairs.now dictionary.now c input d.now }
 {
     if dictionary.len() == 0 {
-        return judge_plain(
-            pairs, index, table, next, head, used, bad, d, input, states,
-        );
+        return judge_plain(pairs, index, table, next, head, used, bad, d, input, states);
     }
     let reading = read_sent(dictionary, d, input, buffer);
     match reading {

@@ -15,6 +15,7 @@ ghost use Rattle.slots.specs.code.Judging.{Supplied, plain_judged, bit_unless};
 ghost use Rattle.slots.specs.code.Pass.{Judged, PassedAll, PassedTo};
 ghost use Rattle.slots.specs.code.Tables.{Held, Kept};
 
+use crate::catalogue::bit_of;
 use crate::entries::entry_from;
 use crate::states::look;
 use crate::{Judgement, Pass};
