@@ -10,7 +10,7 @@ use blocks::{Entry, Reading, Schema, nth_entry};
 use reading::read;
 
 // An input, lent, and how many entries it has. Only `entries_of` and `entry_held` make one.
-#[derive(Drop)]
+#[derive(Clone, Copy)]
 pub struct Entries<'a> {
     blocks: &'a [u8],
     total: usize,

@@ -5,9 +5,9 @@ use lib.Dec.{eqb}
 use lib.ListN.{get_or, length, length-set, set}
 use lib.Seq.{get_or-set_other, get_or-set_same}
 use mathlib.Core.Bool.{Bool, ◌&&◌, ◌||◌, cond, false, not, true}
-use mathlib.Core.List.{List}
+use mathlib.Core.List.{List, ◌∷◌}
 use mathlib.Core.Logic.{inl}
-use mathlib.Core.Path.{◌∙◌, ◌≡◌, ap, refl}
+use mathlib.Core.Path.{◌∙◌, ◌≡◌, ap, refl, subst, sym}
 use native.Mathlib.Omega.{arith}
 use Rattle.base.proofs.Tests.{and_zero, bool_cases, eq-cases, eq-eqb, ne_eqb}
 use Rattle.base.specs.Range.{bit}
@@ -126,7 +126,10 @@ module _ {o t bad full : List ℕ} {used s : ℕ} (S : Settling o used s t bad f
             (λ q. rw q (omega (arith, ap high_part here, high-made (key_in X) (low_part X) (cond (is_link_here && d) 0 (high_part X)) small_low small-bound, lower-bound)))
             (λ q. omega (arith, ap high_part (get_or-set_other t s j Y 0 q), S.highs j)));
         rest = λ j l. rw table_is (get_or-set_other t s j Y 0 (λ q. omega arith) ∙ S.rest j l);
-        above = rw (more_left, next_one, table_is, slots_from, here, slots-other t s Y (suc s) (used - s) (inl (omega arith)), S.above, slot-now);
+        above = rw (more_left, next_one)
+            (subst (λ (x : List ℕ). slots_from x s (suc (used - s)) ≡ settled s (slots_from o s (suc (used - s)))) (sym table_is)
+            (ap (λ (q : List Slot). slot_in (get_or (set t s Y) s 0) ∷ q) (slots-other t s Y (suc s) (used - s) (inl (omega arith)) ∙ S.above)
+            ∙ ap (λ (x : Slot). x ∷ settled (suc s) Rest) (ap slot_in here ∙ slot-now)));
         bads = λ v. rw (more_left, next_one, bad-is) (mark-or (broken is_link_here (low_part X) h) bad (key_in X / 131072) v (inconsistent (suc s) Rest v) (omega arith) (S.bads v));
         fulls = λ v. rw (more_left, next_one, full_is)
             (mark-or (not (eqb (low_part X) 0) || (found h || (is_link_here && say))) full (key_in X / 131072) v (nonempty (suc s) (settled (suc s) Rest) v) (omega arith) (S.fulls v));

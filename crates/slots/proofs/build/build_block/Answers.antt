@@ -20,13 +20,19 @@ entry-there c = omega (arith, c.loop-i-test.true, c.requires.2.within)
 -- what is read is of its type
 entry-bounded : (c : After-entry_from-e) → Bounded c.entry_from-e.result
 entry-bounded c =
-    let k = c.entry_from-e.type-inv in
+    let k = c.entry_from-e.type_inv in
     record { kind = omega (arith, k); reserved = omega (arith, k); owner = omega (arith, k); name = omega (arith, k); number = omega (arith, k) }
+
+entry_read' : (c : After-wide) → c.entry_from-e.result ≡ nth (entries_of c.args.d.now) (suc (c.args.done + c.loop-i.i))
+entry_read' c = c.entry_from-e.ensures ∙ c.requires.2.each _ c.loop-i-test.true ∙ ap (nth _) (omega arith)
+
+entry-there' : (c : After-wide) → suc (c.args.done + c.loop-i.i) ≤ length (entries_of c.args.d.now)
+entry-there' c = omega (arith, c.loop-i-test.true, c.requires.2.within)
 
 -- its owner is read
 owner-read : (c : After-wide) → c.wide.result ≤ c.args.done + c.loop-i.i
 owner-read c =
-    omega (arith, c.wide.ensures.0, owner-before c.requires.0 (entry-there c.before) (entry_read c.before))
+    omega (arith, c.wide.ensures.0, owner-before c.requires.0 (entry-there' c) (entry_read' c))
 
 pub loop-i-init : goal.loop-i-init
 loop-i-init c =

@@ -47,7 +47,7 @@ overflow_add-n-in-Bit c = omega (arith, room (goal.at.overflow_add-n-in-Bit c).E
 pub overflow_add-at : goal.overflow_add-at
 overflow_add-at c =
     let l = c.loop-at in
-    omega (arith, before-end (goal.at.overflow_add-at c).Else-list-at, c.part_length-len.ensures.1, length_high l.at c.args.list.now, c.well-formed.1.1.1.1.1.1.1.1.0.0)
+    omega (arith, before-end (goal.at.overflow_add-at c).Else-list-at, c.part_length-len.ensures.1, length_high l.at c.args.list.now, c.type_inv)
 
 pub loop-at-smaller : goal.loop-at-smaller
 loop-at-smaller c = omega (arith, before-end (goal.at.loop-at-smaller c).Else-list-at, reached-further (reached (goal.at.loop-at-smaller c).Else-list-at) (before-end (goal.at.loop-at-smaller c).Else-list-at) c.part_length-len.ensures.0)

@@ -13,16 +13,16 @@ pub returns-then-bad-ne0 : goal.returns-then-bad-ne0
 returns-then-bad-ne0 c =
     λ s H. plain-broken c.args.pairs.now s c.args.input c.args.d.now c.requires.1.lawful H refl c.if-bad-ne0.true c.judge_broken.ensures
 
-pub slice_bounds-judge_entries-end : goal.slice_bounds-judge_entries-end
-slice_bounds-judge_entries-end c =
+pub judge_entries-requires : goal.judge_entries-requires
+judge_entries-requires c =
     let p = c.requires in
     let r = c.read_blocks-reading.ensures in
     let q = c.in-Accepted.is in
     let w = blocks-whole (Named 0) c.args.input c.args.d.now r q in
-    (p.0, p.1, p.2.held.kept, p.2.held.tabled.few, c.if-bad-ne0.false, blocks-accepted (Named 0) c.args.input c.args.d.now r q, w.0, omega (arith, w.1), w.2, p.4, p.5)
+    (p.0, p.1, p.2.held.kept, p.2.held.tabled.few, c.if-bad-ne0.false, blocks-accepted (Named 0) c.args.input c.args.d.now r q, w.0, omega (arith, w.1), w.2, p.4, omega arith)
 
-pub judge_entries-requires : goal.judge_entries-requires
-judge_entries-requires c =
+pub returns-in-Refused : goal.returns-in-Refused
+returns-in-Refused c =
     λ s H. plain-refused c.args.pairs.now s c.args.input c.args.d.now (blocks-refused (Named 0) c.args.input c.args.d.now c.read_blocks-reading.ensures c.in-Refused.is)
 
 pub returns-in-Accepted : goal.returns-in-Accepted

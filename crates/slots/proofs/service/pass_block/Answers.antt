@@ -49,13 +49,19 @@ overflow_add-level c = omega (arith, there (goal.at.overflow_add-level c).After-
 pub bounds-level-done : goal.bounds-level-done
 bounds-level-done c = omega (arith, there (goal.at.bounds-level-done c).After-entry_from-e, c.loop-i.invariant.1.room)
 
+here' : (c : After-level_under) → c.entry_from-e.result ≡ nth (entries_of c.args.d.now) (c.args.done + (c.loop-i.i + 1))
+here' c = c.entry_from-e.ensures ∙ c.requires.4.each _ (omega (arith, c.if-count-i.false)) ∙ ap (nth _) (omega arith)
+
+there' : (c : After-level_under) → c.args.done + (c.loop-i.i + 1) ≤ length (entries_of c.args.d.now)
+there' c = omega (arith, c.if-count-i.false, c.requires.4.within)
+
 -- the entry is right, and the table gets its level: its owner stands earlier
 owner-before : (c : After-level_under) → c.entry_from-e.result.owner
     ≤ c.args.done + c.loop-i.i
 owner-before c =
     let l = c.loop-i in
-    let T = levels-more _ _ _ _ l.invariant.1 (omega arith) (here c.before.before.before.before) c.level_by-l.ensures c.entry_refusal-number.ensures c.if-number-ne0.false (there c.before.before.before.before) (level-plain c.entry_from-e.result c.level_by-l.result c.level_under.ensures) in
-    omega (arith, owner-early (entries_of c.args.d.now) T (omega arith) (here c.before.before.before.before))
+    let T = levels-more _ _ _ _ l.invariant.1 (omega arith) (here' c) c.level_by-l.ensures c.entry_refusal-number.ensures c.if-number-ne0.false (there' c) (level-plain c.entry_from-e.result c.level_by-l.result c.level_under.ensures) in
+    omega (arith, owner-early (entries_of c.args.d.now) T (omega arith) (here' c))
 
 -- ---- judged too
 

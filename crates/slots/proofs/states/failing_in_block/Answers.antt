@@ -23,8 +23,14 @@ entry-there c = omega (arith, c.if-count-i.false, c.requires.5.within)
 state-read : (c : After-slice_known-in-loop-i-1) → get_or c.loop-i.states c.wide.result 0 ≡ get_or c.loop-i.states c.entry_from-e.result.owner 0
 state-read c = ap (λ (o : ℕ). get_or c.loop-i.states o 0) c.wide.ensures.0
 
+entry_read' : (c : After-slice_known-in-loop-i-1) → c.entry_from-e.result ≡ nth (entries_of c.args.d.now) (suc (c.args.done + c.loop-i.i))
+entry_read' c = c.entry_from-e.ensures ∙ c.requires.5.each _ (omega (arith, c.if-count-i.false)) ∙ ap (nth _) (omega arith)
+
+entry-there' : (c : After-slice_known-in-loop-i-1) → suc (c.args.done + c.loop-i.i) ≤ length (entries_of c.args.d.now)
+entry-there' c = omega (arith, c.if-count-i.false, c.requires.5.within)
+
 state-little : (c : After-slice_known-in-loop-i-1) → get_or c.loop-i.states c.wide.result 0 ≤ 1024
-state-little c = state-small c.requires.3 c.loop-i.invariant.1 (entry-there c.before.before) (entry_read c.before.before) (state-read c)
+state-little c = state-small c.requires.3 c.loop-i.invariant.1 (entry-there' c) (entry_read' c) (state-read c)
 
 pub loop-i-init : goal.loop-i-init
 loop-i-init c =
@@ -68,7 +74,7 @@ loop-i-preserved c =
       λ ss x.
           l.invariant.3 ss x
           ∙ first_goes _ _ _ (omega (arith, b))
-          (holds-here c.requires.3 l.invariant.1 (entry-there (goal.at.loop-i-preserved c).After-entry_from-e) (entry_read (goal.at.loop-i-preserved c).After-entry_from-e) (state-read (goal.at.loop-i-preserved c).After-slice_known-in-loop-i-1) (omega arith) (under c.args.pairs.now) ss x (c.look-v.ensures.1 ss x) ∙ true_of_not _ (ap not c.if-not-v.false))
+          (holds-here c.requires.3 l.invariant.1 (entry-there (goal.at.loop-i-preserved c).After-entry_from-e) (entry_read (goal.at.loop-i-preserved c).After-entry_from-e) (state-read (goal.at.loop-i-preserved c).After-slice_known-in-loop-i-1) (omega arith) (under c.args.pairs.now) ss x (c.look-v.ensures.1 ss x) ∙ true_of_not _ c.if-not-v.false)
           ∙ rw e,
     )
 
@@ -92,5 +98,5 @@ returns-then-not-v c =
       stated = λ z. absurd (omega (arith, z));
       first = λ ss x. e
           ∙ sym (l.invariant.3 ss x ∙ first_stops _ _ _ (omega (arith, b))
-          (holds-here c.requires.3 l.invariant.1 (entry-there (goal.at.returns-then-not-v c).After-entry_from-e) (entry_read (goal.at.returns-then-not-v c).After-entry_from-e) (state-read (goal.at.returns-then-not-v c).After-slice_known-in-loop-i-1) (omega arith) (under c.args.pairs.now) ss x (c.look-v.ensures.1 ss x) ∙ false_of_not _ (ap not c.if-not-v.true)));
+          (holds-here c.requires.3 l.invariant.1 (entry-there (goal.at.returns-then-not-v c).After-entry_from-e) (entry_read (goal.at.returns-then-not-v c).After-entry_from-e) (state-read (goal.at.returns-then-not-v c).After-slice_known-in-loop-i-1) (omega arith) (under c.args.pairs.now) ss x (c.look-v.ensures.1 ss x) ∙ false_of_not _ c.if-not-v.true));
     }

@@ -32,11 +32,15 @@ slot-found : (c : After-entry_slot-s) → (ss : List Slot) → Indexed ss c.args
     → c.entry_slot-s.result ≡ entry_slot ss c.args.state c.args.e
 slot-found c ss i = c.entry_slot-s.ensures.1 ss i ∙ ap (λ (v : ℕ). entry_slot ss v c.args.e) c.long-place.ensures.0
 
+slot-found' : (c : After-state_below-below) → (ss : List Slot) → Indexed ss c.args.table.now c.args.next.now c.args.head.now c.args.used
+    → c.entry_slot-s.result ≡ entry_slot ss c.args.state c.args.e
+slot-found' c ss i = c.entry_slot-s.ensures.1 ss i ∙ ap (λ (v : ℕ). entry_slot ss v c.args.e) c.long-place.ensures.0
+
 -- the state below it is by its slot
 below-found : (c : After-state_below-below) → (k : c.args.e.kind ≡ 5) → (ss : List Slot) → Indexed ss c.args.table.now c.args.next.now c.args.head.now c.args.used
     → c.state_below-below.result ≡ state_below ss c.args.state c.args.e.name
 below-found c k ss i =
-    looked-below i c.entry_slot-s.ensures.0 c.bounds-x.ensures c.if-state-eq-PASSED.false c.args.e (slot-found c.before.before.before ss i) k
+    looked-below i c.entry_slot-s.ensures.0 c.bounds-x.ensures c.if-state-eq-PASSED.false c.args.e (slot-found' c ss i) k
     (c.state_below-below.ensures.0 ∙ ap (λ (h : ℕ). cond (eqb c.entry_slot-s.result 0) nowhere (cond (eqb h 0) passed c.entry_slot-s.result)) c.high_in.ensures.0)
 
 pub returns-then-supported : goal.returns-then-supported
