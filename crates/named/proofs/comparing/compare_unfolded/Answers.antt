@@ -1,0 +1,63 @@
+-- `compare_unfolded` meets its contract: what stands in the two buffers are the plain descriptions.
+use Prim.Native.Nat.{ℕ}
+use mathlib.Core.List.{List}
+use mathlib.Core.Path.{◌∙◌, ap₂, sym}
+use native.Mathlib.Omega.{arith}
+use Rattle.compare.specs.Answer.{compare_of, output_of}
+use Rattle.named.proofs.UnfoldedLaws.{both-buffers, both-unfolded, comparison-goes, comparison-refused, first_part_lem, second-part}
+use Rattle.named.proofs.comparing.compare_unfolded.Goals as goal
+
+pub returns-in-Refused : goal.returns-in-Refused
+returns-in-Refused c =
+    let D = c.args.dictionary.now in
+    let c₀ = c.args.c.now in
+    let d₀ = c.args.d.now in
+    let b₁ = c.args.a.now in
+    let b₂ = c.args.b.now in
+    let u = c.unfold_both-unfolded.ensures in
+    let e = sym (both-buffers D c₀ d₀ b₁ b₂ c.requires.2 c.requires.3) ∙ sym u.0 ∙ c.in-Refused.is in
+    comparison-refused c.args.pairs.now D c.requires.0 c.requires.1 c₀ d₀ c.args.out.now e
+
+pub slice_bounds-compare-end : goal.slice_bounds-compare-end
+slice_bounds-compare-end c =
+    let D = c.args.dictionary.now in
+    let c₀ = c.args.c.now in
+    let d₀ = c.args.d.now in
+    let b₁ = c.args.a.now in
+    let b₂ = c.args.b.now in
+    let u = c.unfold_both-unfolded.ensures in
+    (first_part_lem D c₀ d₀ b₁ b₂ c.requires.2 c.requires.3 u.0 u.1 u.2 c.in-Both.is c.bytes_for-first.ensures.0).1
+
+pub slice_bounds-compare-end-in-Both : goal.slice_bounds-compare-end-in-Both
+slice_bounds-compare-end-in-Both c =
+    let D = c.args.dictionary.now in
+    let c₀ = c.args.c.now in
+    let d₀ = c.args.d.now in
+    let b₁ = c.args.a.now in
+    let b₂ = c.args.b.now in
+    let u = c.unfold_both-unfolded.ensures in
+    (second-part D c₀ d₀ b₁ b₂ c.requires.2 c.requires.3 u.0 u.1 u.2 c.in-Both.is c.bytes_for-second.ensures.0).1
+
+pub returns-in-Both : goal.returns-in-Both
+returns-in-Both c =
+    let D = c.args.dictionary.now in
+    let c₀ = c.args.c.now in
+    let d₀ = c.args.d.now in
+    let b₁ = c.args.a.now in
+    let b₂ = c.args.b.now in
+    let P = c.args.pairs.now in
+    let o = c.args.out.now in
+    let u = c.unfold_both-unfolded.ensures in
+    let t = c.in-Both.is in
+    let e = both-unfolded D c₀ d₀ b₁ b₂ c.requires.2 c.requires.3 u.0 u.1 u.2 t in
+    let f = (first_part_lem D c₀ d₀ b₁ b₂ c.requires.2 c.requires.3 u.0 u.1 u.2 t c.bytes_for-first.ensures.0).0 in
+    let s = (second-part D c₀ d₀ b₁ b₂ c.requires.2 c.requires.3 u.0 u.1 u.2 t c.bytes_for-second.ensures.0).0 in
+    let g = comparison-goes P D c.requires.0 c.requires.1 c₀ d₀ o e.0 e.1 in
+    let r = c.compare.ensures in
+    (r.0 ∙ ap₂ (λ (x y : List ℕ). compare_of P x y o) f s ∙ g.0, r.1 ∙ ap₂ (λ (x y : List ℕ). output_of P x y o) f s ∙ g.1)
+
+pub slice_bounds-compare-start : goal.slice_bounds-compare-start
+slice_bounds-compare-start c = omega arith
+
+pub slice_bounds-compare-start-in-Both : goal.slice_bounds-compare-start-in-Both
+slice_bounds-compare-start-in-Both c = omega arith

@@ -1,0 +1,33 @@
+-- `normalise_unfolded` meets its contract: what stands in the buffer is the plain description.
+use Prim.Native.Nat.{ℕ}
+use mathlib.Core.List.{List}
+use mathlib.Core.Path.{◌∙◌, ap, sym}
+use native.Mathlib.Omega.{arith}
+use Rattle.named.proofs.UnfoldedLaws.{normal-goes, normal-refused, part-ends, part-plain}
+use Rattle.unfolding.proofs.BufferLaws.{at-buffer}
+use Rattle.normal.specs.Answer.{normalise_of, normalised_of}
+use Rattle.named.proofs.normalising.normalise_unfolded.Goals as goal
+
+pub returns-in-Refused : goal.returns-in-Refused
+returns-in-Refused c =
+    let u = c.unfold_into-reading.ensures.0 in
+    let e = sym (at-buffer c.args.dictionary.now 1 c.args.d.now c.args.buffer.now c.requires.2) ∙ sym u ∙ c.in-Refused.is in
+    normal-refused c.args.pairs.now c.args.dictionary.now c.requires.0 c.requires.1 c.args.d.now c.args.out.now e
+
+pub slice_bounds-normalise-end : goal.slice_bounds-normalise-end
+slice_bounds-normalise-end c =
+    let u = c.unfold_into-reading.ensures in
+    let e = sym (at-buffer c.args.dictionary.now 1 c.args.d.now c.args.buffer.now c.requires.2) ∙ sym u.0 ∙ c.in-Accepted.is in
+    part-ends c.args.dictionary.now 1 c.args.d.now e c.args.buffer.now c.requires.2 u.1 c.bytes_for-end.ensures.0
+
+pub returns-in-Accepted : goal.returns-in-Accepted
+returns-in-Accepted c =
+    let u = c.unfold_into-reading.ensures in
+    let e = sym (at-buffer c.args.dictionary.now 1 c.args.d.now c.args.buffer.now c.requires.2) ∙ sym u.0 ∙ c.in-Accepted.is in
+    let p = part-plain c.args.dictionary.now 1 c.args.d.now e c.args.buffer.now c.requires.2 u.1 c.bytes_for-end.ensures.0 in
+    let g = normal-goes c.args.pairs.now c.args.dictionary.now c.requires.0 c.requires.1 c.args.d.now c.args.out.now e in
+    let n = c.normalise.ensures in
+    (n.0 ∙ ap (λ (x : List ℕ). normalise_of c.args.pairs.now x c.args.out.now) p ∙ g.0, n.1 ∙ ap (λ (x : List ℕ). normalised_of c.args.pairs.now x c.args.out.now) p ∙ g.1)
+
+pub slice_bounds-normalise-count : goal.slice_bounds-normalise-count
+slice_bounds-normalise-count c = omega arith
