@@ -54,7 +54,7 @@ module _ (P D c d : List ℕ) (C : Admitted D c) (A : Admitted D d) where
     bytes-exactly =
         let a = form-blocks P D c out C e in
         let b = form-blocks P D d out' A f in
-        let one = normal-one (ruled-under P L.List-read).lawful (entries_of (plain_of D c)) (entries_of (plain_of D d)) in (
+        let one = normal-one (ruled-under P L.list_read).lawful (entries_of (plain_of D c)) (entries_of (plain_of D d)) in (
           λ q. same-named.0 (one.0 (encode_one (normal_entries (under P) (entries_of (plain_of D c))) (normal_entries (under P) (entries_of (plain_of D d))) (sym a ∙ q ∙ b))),
           λ h. a ∙ ap encode (one.1 (same-named.1 h)) ∙ sym b,
         )
@@ -70,7 +70,7 @@ pub accepted-one-set : (P D c d out out' : List ℕ) → ListRead P → Admitted
     → length (plain_of D c) ≤ length out → length (plain_of D d) ≤ length out'
     → (normal_bytes P D c out ≡ normal_bytes P D d out') ↔ SameItemsNamed P D c d
 accepted-one-set P D c d out out' L C A r r' =
-    let n = accepted-none P L.List-read in
+    let n = accepted-none P L.list_read in
     let e = normal-answers P D c out n ((admitted-exactly D c).0 C) r in
     let f = normal-answers P D d out' n ((admitted-exactly D d).0 A) r' in
     rw (e, f) (one-set-of-bytes P D c d out out' e f)
