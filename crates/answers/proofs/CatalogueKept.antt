@@ -9,7 +9,7 @@ use mathlib.Core.Logic.{◌≢◌, ◌↔◌}
 use mathlib.Core.Path.{◌∙◌, ◌≡◌, refl, sym}
 use native.Mathlib.Omega.{arith}
 use Rattle.answers.specs.Promise.{AsCompared, ContainedNamed, fits_in}
-use Rattle.base.proofs.Tests.{eq-cases, eq-eqb, eqb-eq, ne_eqb}
+use Rattle.base.proofs.Tests.{eq-eqb, eqb-eq, ne_eqb}
 use Rattle.base.specs.Range.{bit}
 use Rattle.blocks.proofs.RoundTrip.Accepting.{sound-of-accepted}
 use Rattle.blocks.specs.Entries.{entries_of}

@@ -1,5 +1,7 @@
 // What every layer cites: general definitions and lemmas, in specs/ and proofs/ (tests on numbers, ranges, lists, searches, chains, stores),
 // and three small functions that several crates need. Of the product they know which links lead to one item only, and no more.
+#![tactic(auto)]
+
 ghost use Rattle.std.specs.Prelude.{◌≡◌, ◌<◌, max};
 
 // A number of two bytes as an index.

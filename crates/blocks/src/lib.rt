@@ -3,6 +3,8 @@
 //
 // The contracts cite specs/: Words, Frame, Entries, Owners, Faults, Reading and Encoding. What those definitions mean together,
 // as that reading undoes writing, is proved in proofs/.
+#![tactic(auto)]
+
 mod entries;
 mod words;
 

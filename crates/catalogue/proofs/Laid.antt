@@ -1,8 +1,8 @@
 -- Services that are accepted, laid end to end: the list is cut into just those, and each gets its byte.
 -- Assumes nothing.
-use Prim.Native.Nat.{◌%◌, ◌*◌, ◌+◌, ◌≤◌, ◌<◌, suc, ℕ}
+use Prim.Native.Nat.{◌%◌, ◌+◌, ◌≤◌, ◌<◌, suc, ℕ}
 use lib.ListN.{get_or, length, length-append}
-use mathlib.Core.List.{List, [], ◌++◌, ◌∷◌}
+use mathlib.Core.List.{List, [], ◌∷◌}
 use mathlib.Core.Logic.{◌≢◌}
 use mathlib.Core.Path.{◌∙◌, ◌≡◌, ap, refl}
 use native.Mathlib.Omega.{arith}

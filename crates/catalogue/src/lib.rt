@@ -3,6 +3,8 @@
 //
 // The contracts cite specs/Answer. That each byte is the answer of the single comparison, and what it says of every record, is proved in
 // `answers`.
+#![tactic(auto)]
+
 ghost use Rattle.std.specs.Prelude.{◌≡◌, ◌≤◌, length, take};
 ghost use Rattle.base.specs.Stores.{stored};
 ghost use Rattle.catalogue.specs.Answer.{catalogue_of, filled_of};

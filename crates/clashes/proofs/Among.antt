@@ -1,6 +1,6 @@
 -- Tests that one of the first entries passes: which one, and one entry more.
 -- Assumes nothing.
-use Prim.Native.Nat.{◌-◌, ◌≤◌, suc, zero, ℕ}
+use Prim.Native.Nat.{◌≤◌, suc, zero, ℕ}
 use mathlib.Core.Bool.{Bool, false, true}
 use mathlib.Core.List.{List}
 use mathlib.Core.Path.{◌≡◌, refl}

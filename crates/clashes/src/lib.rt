@@ -2,6 +2,8 @@
 // specimen by itself, and number 12 a specimen with an item that has both of a pair.
 //
 // The contract cites specs/Clash. That a specimen which is not refused is one whose record keeps the list is proved in proofs/.
+#![tactic(auto)]
+
 mod clash;
 mod given;
 mod reader;

@@ -5,6 +5,8 @@
 // The contracts cite specs/: Answer says what is answered and written; the others mirror the code, and no public promise names them. What the
 // specimen is, and what the answer for two lists of entries means in every finite record, is said and proved in `meaning`: SpecimenFor,
 // Failing, Contained, NotContained. The same of two inputs is in proofs/PromiseKept.antt.
+#![tactic(auto)]
+
 mod asked;
 mod path;
 mod places;

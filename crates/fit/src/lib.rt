@@ -3,6 +3,8 @@
 // The contract of `fit` speaks of the record of items that a specimen is, of the tree of places that a description is, and of Table 1
 // itself: Specimen and Description of `meaning`, and Record of `logic`. That the answer by groups, which the code works out, is Table 1's
 // is proved in proofs/.
+#![tactic(auto)]
+
 mod answer;
 mod bare;
 mod entries;

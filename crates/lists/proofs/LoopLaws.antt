@@ -6,7 +6,6 @@ use lib.Seq.{drop-cons, drop-drop}
 use mathlib.Core.List.{List, [], ◌∷◌}
 use mathlib.Core.Logic.{◌≢◌}
 use mathlib.Core.Path.{◌∙◌, ◌≡◌, ap, refl, sym}
-use native.Mathlib.Nat.{sub-zero}
 use native.Mathlib.Numerals.{add-one}
 use native.Mathlib.Omega.{arith}
 use Rattle.base.proofs.Parts.{high_is, high_of, low-is, low_of}
@@ -15,7 +14,7 @@ use Rattle.base.proofs.Tests.{eq-eqb, lt-cases, ne_eqb}
 use Rattle.blocks.specs.Frame.{blocks_in}
 use Rattle.blocks.specs.Words.{word_at}
 use Rattle.lists.proofs.FirstPart.{first-bound, first_some}
-use Rattle.lists.proofs.PartLaws.{part_at, parts_none, parts-of, start-below, start-next, start-past, start-within}
+use Rattle.lists.proofs.PartLaws.{part_at, parts_none, parts-of, start-below, start-next, start-past}
 use Rattle.lists.specs.Parts.{division_from, first_length, parts_of, second_part, start_of}
 
 -- ---- the search for the end of the first part

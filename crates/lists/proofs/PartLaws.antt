@@ -1,6 +1,6 @@
 -- All parts of a list: where each begins, that they have whole blocks where the list has, and that in a row they are the list again.
 -- Assumes nothing.
-use Prim.Native.Nat.{◌%◌, ◌*◌, ◌+◌, ◌-◌, ◌/◌, ◌<◌, ◌≤◌, suc, zero, ℕ}
+use Prim.Native.Nat.{◌%◌, ◌*◌, ◌+◌, ◌/◌, ◌<◌, ◌≤◌, suc, zero, ℕ}
 use lib.ListN.{drop, drop_of_length-le, get_or, length, length-drop, take}
 use lib.Seq.{drop-drop, get_or-drop, take-nil}
 use mathlib.Core.List.{List, [], ◌++◌, ◌∷◌}

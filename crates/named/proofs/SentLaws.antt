@@ -3,7 +3,7 @@
 use Prim.Native.Nat.{◌+◌, ℕ}
 use lib.Dec.{eqb, ltb}
 use lib.ListN.{length}
-use mathlib.Core.Bool.{Bool, ◌&&◌, cond, false, true}
+use mathlib.Core.Bool.{Bool, ◌&&◌, false, true}
 use mathlib.Core.List.{List, [], ◌∷◌}
 use mathlib.Core.Logic.{◌≢◌}
 use mathlib.Core.Path.{◌∙◌, ◌≡◌, ap, refl, sym}
@@ -17,7 +17,6 @@ use Rattle.blocks.specs.Frame.{plain, total_in}
 use Rattle.blocks.specs.Reading.{answer, reading_of}
 use Rattle.blocks.specs.declared.Entry.{Entry}
 use Rattle.blocks.specs.declared.Reading.TheVariants.{Accepted, Refused}
-use Rattle.blocks.specs.declared.Reading.{Reading}
 use Rattle.blocks.specs.declared.Schema.TheVariants.{Description}
 use Rattle.clashes.specs.Clash.{specimen_faults, specimen_reading}
 use Rattle.compare.proofs.AnswerLaws.{empty-list}
@@ -29,7 +28,6 @@ use Rattle.fit.proofs.AnswerLaws as judged
 use Rattle.fit.specs.Answer.{fit_of, top_fits}
 use Rattle.fit.specs.Counted.{counted_of}
 use Rattle.fit.specs.declared.Counted.{Counted}
-use Rattle.fit.specs.declared.FitAnswer.TheVariants as fit
 use Rattle.fit.specs.declared.FitAnswer.{FitAnswer}
 use Rattle.lists.specs.Parts.{parts_from, parts_of}
 use Rattle.logic.specs.Background.{standing}
@@ -38,7 +36,7 @@ use Rattle.named.specs.Answer.{compare_named, counted_named, fit_named, normalis
 use Rattle.named.specs.code.Sent.{comparison_sent, fit_by, fit_sent, normal_sent, sent_at}
 use Rattle.names.proofs.Legality.Nameless.{named_none}
 use Rattle.names.specs.NamedForm.{named_form_ok}
-use Rattle.names.specs.NamedReading.{dictionary_reading, named_reading, named_unfolding, number_at, parts_reading, unfolding_of}
+use Rattle.names.specs.NamedReading.{dictionary_reading, named_unfolding, number_at, parts_reading, unfolding_of}
 use Rattle.names.specs.Unfold.{unfolded_by}
 use Rattle.normal.specs.Answer as normal
 use Rattle.normal.specs.declared.NormalAnswer.TheVariants.{Normalised}

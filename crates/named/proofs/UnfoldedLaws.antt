@@ -3,21 +3,19 @@
 use Prim.Native.Nat.{◌%◌, ◌*◌, ◌+◌, ◌-◌, ◌<◌, ◌≤◌, ℕ}
 use lib.Dec.{eqb, ltb}
 use lib.ListN.{length, take}
-use mathlib.Core.Bool.{false}
 use mathlib.Core.List.{List, [], ◌++◌, ◌∷◌}
-use mathlib.Core.Path.{◌∙◌, ◌≡◌, ap, refl, sym}
+use mathlib.Core.Path.{◌∙◌, ◌≡◌, sym}
 use native.Mathlib.Nat.{sub-zero}
 use native.Mathlib.Omega.{arith}
-use Rattle.base.proofs.Tests.{bool_cases, ge-ltb, tests}
+use Rattle.base.proofs.Tests.{bool_cases}
 use Rattle.blocks.proofs.Refusing.Readings.{reading-cases, refused-finding}
-use Rattle.blocks.specs.Encoding.{blocks_for, encode}
+use Rattle.blocks.specs.Encoding.{blocks_for}
 use Rattle.blocks.specs.Entries.{entries_of}
 use Rattle.blocks.specs.Faults.{first}
 use Rattle.blocks.specs.Frame.{plain, total_in}
 use Rattle.blocks.specs.Reading.{unless_refused}
 use Rattle.blocks.specs.declared.Entry.{Entry}
 use Rattle.blocks.specs.declared.Reading.TheVariants.{Accepted, Refused}
-use Rattle.blocks.specs.declared.Reading.{Reading}
 use Rattle.clashes.specs.Clash.{specimen_reading}
 use Rattle.compare.specs.Answer.{compare_of, output_of}
 use Rattle.compare.specs.declared.Comparison.TheVariants as comparison
@@ -26,13 +24,13 @@ use Rattle.fit.specs.declared.FitAnswer.TheVariants as fit
 use Rattle.lists.specs.Parts.{parts_of}
 use Rattle.named.specs.Answer.{compare_named, fit_named, normalise_named, normalised_named, output_named}
 use Rattle.named.specs.code.Sent.{ListTaken}
-use Rattle.names.specs.NamedReading.{dictionary_of, dictionary_reading, named_faults, named_reading, named_unfolding, parts_reading, plain_of, sent_of, unfolding_of}
+use Rattle.names.specs.NamedReading.{dictionary_of, dictionary_reading, named_faults, named_reading, named_unfolding, parts_reading, plain_of, unfolding_of}
 use Rattle.names.specs.Unfold.{unfolded_by}
 use Rattle.normal.specs.Answer.{normalise_of, normalised_of}
 use Rattle.normal.specs.declared.NormalAnswer.TheVariants as answered
 use Rattle.pairs.specs.Pairs.{pairs_reading}
 use Rattle.unfolding.proofs.BufferLaws.{at-buffer, buffer-ends, buffer-plain, sent-plain}
-use Rattle.unfolding.specs.Answer.{both_by, both_of, second_after, unfold_at, unfolded_at}
+use Rattle.unfolding.specs.Answer.{both_by, both_of, second_after, unfolded_at}
 use Rattle.unfolding.specs.declared.Unfolded.TheVariants as unfolded
 use Rattle.unfolding.specs.declared.Unfolded.{Unfolded}
 

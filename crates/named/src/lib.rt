@@ -2,6 +2,8 @@
 // are: nothing is copied and nothing read again. Otherwise they are unfolded first, into buffers, and the plain call goes on from there.
 //
 // The contracts cite specs/Answer. That the answers are those for the unfolded descriptions is proved in proofs/.
+#![tactic(auto)]
+
 mod comparing;
 mod fitting;
 mod normalising;

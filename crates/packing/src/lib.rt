@@ -1,6 +1,8 @@
 // The number of 64 bits that stands for an answer, for C and Rust: four fields in one number.
 //
 // The contracts cite specs/Packing, which has the table of these numbers.
+#![tactic(auto)]
+
 mod packing;
 
 pub use packing::{

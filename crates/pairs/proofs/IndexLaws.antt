@@ -1,15 +1,13 @@
 -- The index of a list: how it is filled, and a walk along the chain of a property.
 -- Assumes nothing.
-use Prim.Native.Nat.{◌%◌, ◌*◌, ◌+◌, ◌-◌, ◌<◌, ◌≤◌, suc, zero, ℕ}
+use Prim.Native.Nat.{◌+◌, ◌-◌, ◌<◌, ◌≤◌, suc, zero, ℕ}
 use lib.Dec.{eqb}
 use lib.ListN.{get_or, length, length-replicate, length-set, replicate, set}
 use lib.Seq.{get_or-set_other, get_or-set_same}
-use mathlib.Core.Bool.{Bool, ◌&&◌, ◌||◌, cond, false, true}
+use mathlib.Core.Bool.{Bool, ◌&&◌, ◌||◌, false, true}
 use mathlib.Core.List.{List}
 use mathlib.Core.Logic.{◌≢◌}
-use mathlib.Core.Path.{◌∙◌, ◌≡◌, ap, refl, sym}
-use native.Mathlib.Nat.{mod-lt}
-use native.Mathlib.Numerals.{sub-one}
+use mathlib.Core.Path.{◌∙◌, ◌≡◌, ap, refl}
 use native.Mathlib.Omega.{arith}
 use Rattle.base.proofs.ChainLaws.{chains-more, chains-start, skip-goes, skip-starts, walk-starts}
 use Rattle.base.proofs.Lists.{zeros-read}

@@ -2,12 +2,12 @@
 -- Assumes nothing.
 use Prim.Native.Nat.{◌%◌, ◌*◌, ◌+◌, ◌-◌, ◌/◌, ◌≤◌, suc, zero, ℕ}
 use lib.Dec.{eqb}
-use mathlib.Core.Bool.{Bool, ◌&&◌, cond, false, true}
+use mathlib.Core.Bool.{Bool, ◌&&◌, true}
 use mathlib.Core.List.{List}
 use mathlib.Core.Path.{◌∙◌, ◌≡◌, ap, refl, sym}
 use native.Mathlib.Omega.{arith}
 use Rattle.base.proofs.Missing.{not-true}
-use Rattle.base.proofs.Tests.{and_both, and_left, and_right, bool_cases, both_ways, eq-cases, eq-eqb, eqb-eq, iff-eq, ne_eqb, neither_left, neither_right, or_cases, or_left, or_right}
+use Rattle.base.proofs.Tests.{and_both, and_left, and_right, bool_cases, both_ways, eq-cases, eq-eqb, eqb-eq, iff-eq, or_cases, or_left, or_right}
 use Rattle.blocks.specs.Words.{word_at}
 use Rattle.pairs.proofs.Excluding.{excludes-turned, none-excludes, own_pair, pair-cases, pair-excludes}
 use Rattle.pairs.specs.Pairs.{excludes_in, is_pair, one_of, other_of, pair_count}

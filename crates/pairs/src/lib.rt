@@ -3,6 +3,8 @@
 //
 // The contracts cite specs/Pairs, which also defines the background that a list stands for. That an accepted list gives a lawful
 // one, and which records keep it, is proved in proofs/.
+#![tactic(auto)]
+
 mod index;
 mod list;
 mod reader;

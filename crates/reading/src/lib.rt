@@ -3,6 +3,8 @@
 // entries, for callers that go over them once for the rules and for more; `entry_refusal` is the rule of one entry.
 //
 // The contracts cite Frame, Faults and Reading of `blocks`; what those definitions mean together is proved there.
+#![tactic(auto)]
+
 mod frame;
 mod reader;
 mod rules;

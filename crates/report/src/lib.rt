@@ -4,6 +4,8 @@
 // The contracts cite specs/Lines and specs/Text, and the parts of crate lists. What these mean is proved in proofs/: that two accepted
 // descriptions, joined, divide into just these two, that the lines after the first are those of the specimen's entries, that what is
 // written are the bytes of these lines, one after the other, and the lines that the paper gives.
+#![tactic(auto)]
+
 mod input;
 mod lines;
 mod text;

@@ -4,6 +4,8 @@
 //
 // Every function is total: what a table holds past its end counts as 0, and a store there is not made. The contracts cite specs/, which
 // mirrors the code. That a walk along the chains finds exactly the slots of a run is proved in proofs/.
+#![tactic(auto)]
+
 mod chains;
 mod tags;
 mod walks;

@@ -4,7 +4,7 @@ use Prim.Native.Nat.{◌%◌, ◌+◌, ◌<◌, ◌≤◌, suc, zero, ℕ}
 use lib.Dec.{eqb}
 use lib.ListN.{get_or, length}
 use mathlib.Core.Bool.{Bool, false, true}
-use mathlib.Core.List.{List, [], ◌∷◌}
+use mathlib.Core.List.{List}
 use mathlib.Core.Logic.{◌≢◌}
 use mathlib.Core.Path.{◌∙◌, ◌≡◌, refl, sym}
 use native.Mathlib.Omega.{arith}
@@ -12,7 +12,7 @@ use Rattle.base.proofs.ChainLaws.{last_none, last_on}
 use Rattle.base.proofs.Tests.{and_zero, bool_cases, both_ways, eq-cases, eq-eqb, lt-cases, tests}
 use Rattle.base.specs.Chain.{last_where}
 use Rattle.passes.specs.code.Keys.{key_number}
-use Rattle.passes.specs.code.Slots.{position, taken}
+use Rattle.passes.specs.code.Slots.{taken}
 use Rattle.slots.proofs.slots.SearchLaws.{keys_of}
 use Rattle.slots.proofs.slots.TableLaws.{key-test, length-slots, position-found}
 use Rattle.slots.specs.code.States.{slot_for}

@@ -7,6 +7,8 @@
 // serve for at most 63 entries, which is a block, so that a short call clears no large ones.
 //
 // The contracts cite specs/: Holding and Catalogue say what is answered; the others mirror the code. What slots are, on lists, is said in `passes`.
+#![tactic(auto)]
+
 mod build;
 mod catalogue;
 mod entries;

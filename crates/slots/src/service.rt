@@ -12,7 +12,7 @@ ghost use Rattle.logic.specs.Background.{Ruled};
 ghost use Rattle.pairs.specs.Pairs.{under};
 ghost use Rattle.pairs.specs.code.Index.{PairsIndexed};
 ghost use Rattle.slots.specs.code.Judging.{Supplied, plain_judged, bit_unless};
-ghost use Rattle.slots.specs.code.Pass.{Judged, PassedAll, PassedTo};
+ghost use Rattle.slots.specs.code.Pass.{JudgedSoFar, PassedAll, PassedTo};
 ghost use Rattle.slots.specs.code.Tables.{Held, Kept};
 
 use crate::catalogue::bit_of;
@@ -66,7 +66,7 @@ fn pass_block(
 ) -> Pass
     requires { PairsIndexed pairs.now index.now × Kept table.now next.now head.now used × (used ≤ 1008) × (length (entries_of d.now) ≤ 1008)
         × InBlock d.now from count done × Levels (Schema.Named 0) (entries_of d.now) level.old (done + 1)
-        × Judged (under pairs.now) d.now table.now next.now head.now used done states.old failed }
+        × JudgedSoFar (under pairs.now) d.now table.now next.now head.now used done states.old failed }
     ensures { PassedTo (under pairs.now) d.now table.now next.now head.now used done count level.new states.new result }
 {
     let mut failing = failed;

@@ -2,9 +2,9 @@
 -- Assumes nothing.
 use Prim.Native.Nat.{◌*◌, ◌<◌, ◌≤◌, ℕ}
 use lib.Dec.{eqb, leb}
-use lib.ListN.{drop, length, length-map, take}
+use lib.ListN.{length, length-map, take}
 use mathlib.Core.Bool.{cond, false, true}
-use mathlib.Core.List.{List, [], ◌++◌, ◌∷◌, map}
+use mathlib.Core.List.{List, [], ◌∷◌, map}
 use mathlib.Core.Logic.{◌≢◌}
 use mathlib.Core.Path.{◌∙◌, ◌≡◌, ap, refl, subst, sym}
 use native.Mathlib.Omega.{arith}
@@ -12,7 +12,7 @@ use Rattle.base.proofs.Tests.{bool_cases, ge-ltb, le-leb, lt-ltb, tests}
 use Rattle.blocks.proofs.Refusing.Readings.{reading-cases}
 use Rattle.blocks.proofs.RoundTrip.Decoding.{length-encode}
 use Rattle.blocks.proofs.RoundTrip.Faithful.{entries-whole}
-use Rattle.blocks.specs.Encoding.{blocks_for, bytes_written, encode, encode_rows, row_bytes, written}
+use Rattle.blocks.specs.Encoding.{blocks_for, bytes_written, encode, row_bytes, written}
 use Rattle.blocks.specs.Entries.{entries_of, entry_bytes}
 use Rattle.blocks.specs.Frame.{plain}
 use Rattle.blocks.specs.Reading.{unless_refused}

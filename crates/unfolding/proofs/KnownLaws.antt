@@ -19,7 +19,7 @@ use Rattle.blocks.specs.Reading.{answer, reading_of}
 use Rattle.blocks.specs.code.Blockwise.{Whole}
 use Rattle.blocks.specs.code.ReadingSteps.{rule_faults}
 use Rattle.blocks.specs.declared.Entry.{Entry}
-use Rattle.blocks.specs.declared.Finding.TheVariants.{Clean, Faulty}
+use Rattle.blocks.specs.declared.Finding.TheVariants.{Faulty}
 use Rattle.blocks.specs.declared.Reading.TheVariants.{Accepted, Refused}
 use Rattle.blocks.specs.declared.Schema.TheVariants.{Named}
 use Rattle.names.proofs.Dictionary.InTurn.{each_more, in-turn-more}

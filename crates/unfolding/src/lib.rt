@@ -7,6 +7,8 @@
 // row stands for an entry at least, and 1,008 are always enough. What a name becomes is read once in a pass, and copied where it is used again.
 //
 // The contracts cite `names` (NamedReading) and specs/Answer. What unfolding means is proved in `names`.
+#![tactic(auto)]
+
 mod calls;
 mod dictionary;
 mod measure;

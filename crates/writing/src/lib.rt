@@ -2,6 +2,8 @@
 //
 // The contracts cite Encoding of `blocks`; Steps in specs/ mirrors the code, and no public promise names it. That reading undoes writing
 // is proved in `blocks`.
+#![tactic(auto)]
+
 mod writer;
 
 pub use writer::{bytes_for, write_entries};

@@ -1,13 +1,13 @@
 -- The table of the groups met by links that lead to one item only: how it grows, and how the search for an owner and a link finds an
 -- earlier group.
 -- Assumes nothing.
-use Rattle.std.proofs.Common.{◌≡◌, ℕ, zero, suc, ◌+◌, ◌-◌, ◌*◌, ◌/◌, ◌<◌, ◌≤◌, Bool, true, false, not, ◌&&◌, eqb, ◌≢◌, List, length, get_or, set, replicate, sym, ap, ◌∙◌, arith, length-set, get_or-set_other, get_or-set_same}
+use Rattle.std.proofs.Common.{◌≡◌, ℕ, zero, suc, ◌+◌, ◌-◌, ◌*◌, ◌/◌, ◌<◌, ◌≤◌, true, false, not, eqb, ◌≢◌, List, length, get_or, set, replicate, sym, ap, ◌∙◌, arith, length-set, get_or-set_other, get_or-set_same}
 use lib.Bits.{and_le_r, bit_and}
 use lib.ListN.{length-replicate}
 use Rattle.base.proofs.Lists.{zeros-read}
 use Rattle.base.proofs.Tests.{and_both, and_left, and_right, both_ways, eq-cases, eqb-self, ge-ltb, leb-le, lt-ltb}
 use Rattle.base.specs.Links.{is_single}
-use Rattle.blocks.proofs.Refusing.SingleLaws.{adds-cases, items-here, items_more, items-none, items-rise, nine-met, nine-other}
+use Rattle.blocks.proofs.Refusing.SingleLaws.{adds-cases, items-here, items_more, items-none, items-rise, nine-met}
 use Rattle.blocks.specs.Entries.{nth}
 use Rattle.blocks.specs.Single.{items_for, items_up_to, single_group, single_ok}
 use Rattle.blocks.specs.code.SingleTable.{Ends, Kept, OfGroup, Passed, Room, Stands, key_of, start_of}

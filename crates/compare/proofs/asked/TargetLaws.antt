@@ -2,8 +2,7 @@
 -- Assumes nothing.
 use Prim.Native.Nat.{◌*◌, ◌+◌, ◌-◌, ◌<◌, ◌≤◌, suc, zero, ℕ}
 use lib.Dec.{eqb}
-use lib.ListN.{drop, get_or, length}
-use lib.Seq.{drop-cons}
+use lib.ListN.{drop, get_or}
 use mathlib.Core.Bool.{cond}
 use mathlib.Core.List.{List, [], ◌∷◌}
 use mathlib.Core.Logic.{◌≢◌}
@@ -11,7 +10,7 @@ use mathlib.Core.Path.{◌≡◌, ap, refl}
 use native.Mathlib.Nat.{suc-add, zero-add}
 use native.Mathlib.Numerals.{add-one}
 use native.Mathlib.Omega.{arith}
-use Rattle.base.proofs.Tests.{bool_cases, eq-cases, eq-eqb, ge-ltb, lt-ltb, ne_eqb}
+use Rattle.base.proofs.Tests.{bool_cases, eq-cases, ge-ltb, lt-ltb, ne_eqb}
 use Rattle.blocks.specs.declared.Entry.{Entry}
 use Rattle.compare.proofs.path.PathLaws.{length_up, up_at}
 use Rattle.blocks.specs.declared.Link.{Link}
@@ -19,7 +18,7 @@ use Rattle.compare.specs.code.Asked.{One, code_asked, least_asked, link_in}
 use Rattle.compare.specs.code.Codes.{target_at, target_below, up_from}
 use Rattle.compare.specs.declared.asked.AskedLink.{AskedLink}
 use Rattle.compare.specs.declared.asked.AskedLink.TheVariants.{Items, Nothing}
-use Rattle.logic.specs.Place.{Atom, Kind, atom, has, kind_of, lacks, least, most, nothing}
+use Rattle.logic.specs.Place.{Atom, atom, kind_of, lacks, most}
 use Rattle.logic.specs.Witness.{links_at, on, properties_at, target_links, target_properties, want, want_at}
 use Rattle.meaning.specs.Description.{atom_of}
 

@@ -1,7 +1,7 @@
 -- The tags that are gathered of a place and class, with that of a name that is asked for, are those of the names that the place lists and of
 -- that name.
 -- Assumes nothing.
-use Prim.Native.Nat.{◌%◌, ◌*◌, ◌+◌, ◌/◌, ◌<◌, ◌≤◌, ℕ}
+use Prim.Native.Nat.{◌*◌, ◌+◌, ◌<◌, ◌≤◌, ℕ}
 use lib.Dec.{eqb}
 use lib.ListN.{get_or}
 use mathlib.Core.Bool.{Bool, ◌||◌, false, not, true}
@@ -13,7 +13,7 @@ use native.Mathlib.Omega.{arith}
 use Rattle.base.proofs.AscendingLaws.{AllApart}
 use Rattle.base.proofs.Missing.{not-true}
 use Rattle.base.proofs.Split.{place_of, row_of}
-use Rattle.base.proofs.Tests.{bool_cases, eq-cases, eq-eqb, eqb-eq, eqb-ne, false_of_not, iff-eq, ne_eqb, or-none, or-one, tests}
+use Rattle.base.proofs.Tests.{bool_cases, eq-cases, eq-eqb, eqb-eq, ne_eqb, tests}
 use Rattle.base.specs.Range.{bit}
 use Rattle.compare.proofs.places.TagRuns.{Tag, member_of, of-member, run-sorted}
 use Rattle.compare.specs.code.Tags.{Run, extra_tag, tag_name, tag_slot}
@@ -24,7 +24,7 @@ use Rattle.passes.specs.code.Keys.{key_number}
 use Rattle.passes.specs.code.Slots.{is_link}
 use Rattle.runs.proofs.TagsListed.{TagFrom, lower-trans, lower_name, tag-from, tag-holds-name, tag-holds-slot, tag-listed, tag-name-is, tags-apart}
 use Rattle.runs.specs.code.Chained.{run_at, slot_name}
-use Rattle.runs.specs.code.Tagged.{tag_of, tags_down}
+use Rattle.runs.specs.code.Tagged.{tags_down}
 use Rattle.slots.proofs.HoldingLaws.{slot_small}
 use Rattle.slots.proofs.TableSearch.{slot-found, slot-key, slots-many}
 use Rattle.slots.specs.code.TablePlaces.{Stood, all_slots, least_in, place_in, slot_by, used_in}

@@ -2,11 +2,11 @@
 -- Assumes nothing.
 use Prim.Native.Nat.{◌*◌, ◌+◌, ◌<◌, ◌≤◌, ℕ}
 use lib.Dec.{eqb}
-use lib.ListN.{length, length-append, take}
+use lib.ListN.{length, take}
 use lib.Seq.{take-append_seam}
-use mathlib.Core.Bool.{Bool, cond, not}
+use mathlib.Core.Bool.{Bool, not}
 use mathlib.Core.List.{List, [], ◌++◌, ◌∷◌, append-nil}
-use mathlib.Core.Path.{◌∙◌, ◌≡◌, ap, sym}
+use mathlib.Core.Path.{◌∙◌, ◌≡◌, ap}
 use native.Mathlib.Omega.{arith}
 use Rattle.base.proofs.StoresLaws.{length-stored, stored-front}
 use Rattle.base.proofs.Tests.{bool_cases}

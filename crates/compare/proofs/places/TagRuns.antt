@@ -1,6 +1,6 @@
 -- Tags of different names, sorted, are the names of a place in order: those that it lists, and those that are asked for.
 -- Assumes nothing.
-use Prim.Native.Nat.{◌%◌, ◌*◌, ◌+◌, ◌/◌, ◌<◌, ◌≤◌, suc, ℕ}
+use Prim.Native.Nat.{◌<◌, suc, ℕ}
 use lib.Dec.{eqb, leb, ltb}
 use mathlib.Core.Bool.{Bool, ◌||◌, false≢true, true}
 use mathlib.Core.List.Memᴰ
@@ -9,7 +9,7 @@ use mathlib.Core.Logic.{⊎_elim}
 use mathlib.Core.Path.{◌∙◌, ◌≡◌, refl}
 use native.Mathlib.Omega.{arith}
 use Rattle.base.proofs.AscendingLaws.{Within, sort-within, within-sort}
-use Rattle.base.proofs.Tests.{bool_cases, eq-cases, eq-eqb, eqb-eq, iff-eq, ltb-lt, or_cases, or_left, or_right, tests}
+use Rattle.base.proofs.Tests.{eq-cases, eq-eqb, eqb-eq, iff-eq, ltb-lt, or_cases, or_left, or_right, tests}
 use Rattle.base.specs.Ascending.{AllAfter, Sorted}
 use Rattle.compare.specs.code.Tags.{Run, tag_name, tag_slot}
 use Rattle.logic.proofs.SpecimenTrees.IncreasingNames.{Increasing, increasing-one, names-increasing}

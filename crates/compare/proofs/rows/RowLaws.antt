@@ -3,7 +3,7 @@
 use Prim.Native.Nat.{◌+◌, ◌<◌, max, pred, suc, zero, ℕ}
 use lib.ListN.{get_or, length, length-map, take}
 use mathlib.Core.List.{List, [], ◌++◌, ◌∷◌, map, map-append}
-use mathlib.Core.Path.{◌∙◌, ◌≡◌, ap, refl}
+use mathlib.Core.Path.{◌≡◌, ap, refl}
 use native.Mathlib.Numerals.{add-one}
 use native.Mathlib.Omega.{arith}
 use Rattle.compare.proofs.specimen.LaidLaws.{codes-length, joint-length}

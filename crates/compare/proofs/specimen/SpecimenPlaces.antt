@@ -1,6 +1,6 @@
 -- The specimen below each code: it is laid from the properties and the groups that the code gives, and their codes are codes.
 -- Assumes nothing.
-use Prim.Native.Nat.{◌%◌, ◌*◌, ◌+◌, ◌/◌, ◌<◌, ◌≤◌, max, pred, suc, zero, ℕ}
+use Prim.Native.Nat.{◌%◌, ◌/◌, ◌<◌, ◌≤◌, max, pred, suc, zero, ℕ}
 use lib.Dec.{eqb, ltb}
 use lib.ListN.{drop, get_or, length}
 use lib.Seq.{drop-cons}
@@ -20,14 +20,12 @@ use Rattle.logic.proofs.SpecimenTrees.WitnessTree.{below-witness}
 use Rattle.logic.proofs.TreeRows.FillLaws.{Codes}
 use Rattle.logic.specs.Normal.{find, found}
 use Rattle.logic.specs.Place.{Atom, Place, atom, has, lacks, least, most, nothing}
-use Rattle.logic.specs.SpecimenTree.{Group, SpecimenTree, group}
+use Rattle.logic.specs.SpecimenTree.{SpecimenTree, group}
 use Rattle.logic.specs.Witness.{Target, below, build, count_for, groups_by, member, names, next, off, on, or_zero, target_links, want, with_properties, witness}
 use Rattle.meaning.specs.Description.{atom_of}
-use Rattle.passes.specs.code.Slots.{value}
 use Rattle.slots.proofs.HoldingLaws.{slot_small}
 use Rattle.slots.proofs.TableSearch.{slots-many}
-use Rattle.slots.specs.code.States.{nowhere}
-use Rattle.slots.specs.code.TablePlaces.{Stood, all_slots, below_in, least_in, most_in, place_in, slot_by, used_in}
+use Rattle.slots.specs.code.TablePlaces.{Stood, all_slots, below_in, least_in, place_in, slot_by, used_in}
 use Rattle.slots.specs.code.Tables.{high_part}
 
 -- ---- the target, by its number

@@ -1,6 +1,6 @@
 -- Laws of what the items of a group have, one for each step of a walk over the entries of a bucket.
 -- Assumes nothing.
-use Prim.Native.Nat.{◌<◌, ℕ, ◌-◌, ◌%◌}
+use Prim.Native.Nat.{ℕ, ◌-◌, ◌%◌}
 use lib.Dec.{eqb, leb}
 use lib.ListN.{length}
 use mathlib.Core.Bool.{Bool, ◌&&◌, ◌||◌, false, not, true}

@@ -1,11 +1,10 @@
 -- The table of totals, entry by entry: one that is no group changes nothing, and a group adds its items to the row of its owner and link,
 -- which is there or new. A pair without a row has no items.
 -- Assumes nothing.
-use Prim.Native.Nat.{◌*◌, ◌+◌, ◌<◌, ◌≤◌, suc, zero, ℕ}
+use Prim.Native.Nat.{◌+◌, ◌<◌, ◌≤◌, suc, zero, ℕ}
 use lib.Dec.{eqb}
 use lib.ListN.{get_or, length, set}
 use lib.Seq.{get_or-set_other, get_or-set_same}
-use mathlib.Core.Bool.{false, true}
 use mathlib.Core.List.{List}
 use mathlib.Core.Logic.{◌≢◌}
 use mathlib.Core.Path.{◌∙◌, ◌≡◌, ap, refl, sym}
@@ -15,7 +14,7 @@ use Rattle.base.proofs.Tests.{bool_cases, eq-cases, eq-eqb, eqb-eq}
 use Rattle.base.specs.Range.{bit, sum}
 use Rattle.blocks.proofs.Refusing.SingleLaws.{adds-cases, group-adds, items_more, items-none}
 use Rattle.blocks.specs.Entries.{nth}
-use Rattle.blocks.specs.Single.{items_for, items_up_to}
+use Rattle.blocks.specs.Single.{items_up_to}
 use Rattle.blocks.specs.declared.Entry.{Entry}
 use Rattle.fit.specs.Totals.{GroupAt, RowAt, TotalsOf, groups_up_to, items_in, link_in, owner_in}
 

@@ -2,11 +2,11 @@
 -- Assumes nothing.
 use Prim.Native.Nat.{◌<◌, ◌≤◌, suc, ℕ}
 use lib.Dec.{eqb, ltb}
-use mathlib.Core.Bool.{Bool, ◌||◌, false, false≢true, true}
+use mathlib.Core.Bool.{◌||◌, false, false≢true, true}
 use mathlib.Core.List.{List, [], ◌∷◌}
-use mathlib.Core.Path.{◌∙◌, ◌≡◌, ap, ap₂, refl, sym}
+use mathlib.Core.Path.{◌∙◌, ◌≡◌, ap₂, refl, sym}
 use native.Mathlib.Omega.{arith}
-use Rattle.base.proofs.Tests.{bool_cases, eqb-eq, eqb-self, eq-cases, lt-cases, ne_eqb, neither_left, neither_right, or_left, or-none, tests}
+use Rattle.base.proofs.Tests.{bool_cases, eqb-self, eq-cases, lt-cases, ne_eqb, neither_left, neither_right, or_left, or-none, tests}
 use Rattle.logic.specs.Normal.{rank}
 use Rattle.logic.specs.Place.{Kind, Place, atom, has, lacks, least, most, nothing}
 use Rattle.logic.specs.Tree.{end, leaf, node}

@@ -4,7 +4,7 @@ use Prim.Native.Nat.{◌≤◌, suc, zero, ℕ}
 use lib.Dec.{eqb}
 use lib.ListN.{get_or, length}
 use mathlib.Core.Bool.{Bool, ◌||◌, not, true}
-use mathlib.Core.List.{List, [], ◌∷◌}
+use mathlib.Core.List.{List}
 use mathlib.Core.Path.{◌∙◌, ◌≡◌, refl, sym}
 use native.Mathlib.Numerals.{one-add}
 use native.Mathlib.Omega.{arith}

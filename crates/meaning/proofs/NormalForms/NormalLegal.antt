@@ -19,7 +19,7 @@ use Rattle.logic.proofs.NormalForm.NormalFields.{Stored, nf-stored}
 use Rattle.logic.proofs.TreeRows.AllEntries.{OfRow, row-all, write-all}
 use Rattle.logic.specs.Background.{Background}
 use Rattle.logic.specs.Layout.{write}
-use Rattle.logic.specs.Normal.{nf, stored}
+use Rattle.logic.specs.Normal.{nf}
 use Rattle.logic.specs.Place.{Atom, Place, atom, has, lacks, least, most, nothing}
 use Rattle.logic.specs.Size.{levels}
 use Rattle.logic.specs.Tree.{Row, leaf_row, node_row, row_owner}

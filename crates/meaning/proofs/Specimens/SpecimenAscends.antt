@@ -3,19 +3,19 @@
 -- Assumes nothing.
 use Prim.Native.Nat.{◌<◌, ◌≤◌, suc, ℕ}
 use lib.Dec.{eqb, ltb}
-use mathlib.Core.Bool.{false, true}
+use mathlib.Core.Bool.{true}
 use mathlib.Core.List.{List, [], ◌∷◌}
 use mathlib.Core.Path.{◌≡◌, refl}
 use native.Mathlib.Omega.{arith}
-use Rattle.base.proofs.Tests.{and_both, bool_cases, eqb-self, lt-ltb, neither_left, neither_right, or_left, or_right, tests}
+use Rattle.base.proofs.Tests.{and_both, bool_cases, eqb-self, lt-ltb, or_left, or_right}
 use Rattle.base.specs.Ascending.{Sorted}
 use Rattle.blocks.specs.declared.Entry.{Entry}
 use Rattle.logic.proofs.SpecimenTrees.IncreasingNames.{Increasing, links-increasing, names-increasing, properties-increasing}
-use Rattle.logic.specs.Normal.{before, rank}
-use Rattle.logic.specs.Place.{Kind, Place, atom, has, lacks, least, most, nothing}
+use Rattle.logic.specs.Normal.{before}
+use Rattle.logic.specs.Place.{Place, has, least}
 use Rattle.logic.specs.SpecimenTree.{Group, SpecimenTree, group}
 use Rattle.logic.specs.Tree.{Row, end, leaf, leaf_row, node, node_row}
-use Rattle.logic.specs.Witness.{Target, below, build, groups_by, member, names, next, off, on, once, path, path_of, put_ascending, target_links, target_properties, with_properties, witness}
+use Rattle.logic.specs.Witness.{Target, below, build, groups_by, next, off, on, path, path_of, target_links, target_properties, with_properties, witness}
 use Rattle.meaning.proofs.Descriptions.LaidAscends.{After, Deep, Keyed, laid-ascends}
 use Rattle.meaning.specs.Description.{links_to}
 use Rattle.meaning.specs.RowEntries.{entry_before}

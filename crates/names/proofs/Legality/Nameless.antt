@@ -1,10 +1,10 @@
 -- With a dictionary of length 0 no name can be given: reading a description answers what reading a plain one does, but that a name is 13.
 -- Assumes nothing.
 use Prim.Native.Nat.{◌+◌, ◌<◌, ◌≤◌, suc, zero, ℕ}
-use lib.Dec.{eqb, leb, ltb}
+use lib.Dec.{leb, ltb}
 use lib.ListN.{length}
-use mathlib.Core.Bool.{Bool, ◌&&◌, cond, false, true}
-use mathlib.Core.List.{List, [], ◌++◌, ◌∷◌}
+use mathlib.Core.Bool.{◌&&◌, false, true}
+use mathlib.Core.List.{List, [], ◌++◌}
 use mathlib.Core.Path.{◌∙◌, ◌≡◌, ap, refl, sym}
 use native.Mathlib.Omega.{arith}
 use Rattle.base.proofs.Tests.{bool_cases, tests}
@@ -15,7 +15,7 @@ use Rattle.blocks.proofs.Refusing.Legal.{form-kind}
 use Rattle.blocks.proofs.Refusing.Readings.{reading-cases}
 use Rattle.blocks.proofs.RoundTrip.Accepting.{sound-of-accepted}
 use Rattle.blocks.proofs.RoundTrip.Faithful.{entries-limit}
-use Rattle.blocks.specs.Entries.{entries_of, entry_at, entry_of, form_ok, is_named, name_given, nth, zero_entry}
+use Rattle.blocks.specs.Entries.{entries_of, entry_of, form_ok, is_named, name_given, nth}
 use Rattle.blocks.specs.Faults.{Fault, block_faults, entry_faults, entry_rows, faults, first, length_wrong, rows_from}
 use Rattle.blocks.specs.Frame.{blocks_in, check_wrong, frame_wrong, plain, total_in}
 use Rattle.blocks.specs.Owners.{depth_ok, owner_ok}
@@ -23,12 +23,11 @@ use Rattle.blocks.specs.Reading.{answer, reading_of}
 use Rattle.blocks.specs.declared.Entry.{Entry}
 use Rattle.blocks.specs.declared.Finding.TheVariants.{Clean, Faulty}
 use Rattle.blocks.specs.declared.Finding.{Finding}
-use Rattle.blocks.specs.declared.Reading.TheVariants.{Accepted, Refused}
-use Rattle.blocks.specs.declared.Reading.{Reading}
+use Rattle.blocks.specs.declared.Reading.TheVariants.{Accepted}
 use Rattle.blocks.specs.declared.Schema.TheVariants.{Description, Named}
 use Rattle.names.proofs.Entries.UnfoldPlain.{unfold-plain}
 use Rattle.names.proofs.Legality.NamedReadings.{accepted-legal, form-named, named-refused, named-taken, of-small}
-use Rattle.names.proofs.Legality.NoNames.{form-same, given-plain, unnamed-plain}
+use Rattle.names.proofs.Legality.NoNames.{form-same, unnamed-plain}
 use Rattle.names.specs.NamedForm.{named_form_ok}
 use Rattle.names.specs.NamedReading.{named_reading, number_at, too_large, unnamed}
 use Rattle.names.specs.Unfold.{contents, unfolded_by}

@@ -6,7 +6,7 @@ use lib.ListN.{get_or, length, length-append}
 use mathlib.Core.Bool.{Bool, false, true}
 use mathlib.Core.List.{List, Memᴰ, [], ◌++◌, ◌∷◌, append_assoc, map}
 use mathlib.Core.Logic.{◌≢◌}
-use mathlib.Core.Option.{Option, none}
+use mathlib.Core.Option.{Option}
 use mathlib.Core.Path.{◌∙◌, ◌≡◌, ap, refl, sym}
 use native.Mathlib.Omega.{arith}
 use Rattle.base.proofs.AscendingLaws.{sort-within}

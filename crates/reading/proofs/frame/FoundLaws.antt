@@ -1,6 +1,6 @@
 -- What was found, kept in a number that is 0 or 1, beside the test of what is left of a range.
-use mathlib.Core.Bool.{Bool, ◌&&◌, cond, false, true}
-use mathlib.Core.Path.{◌≡◌, ◌∙◌, ap, refl, sym}
+use mathlib.Core.Bool.{Bool, ◌&&◌, cond}
+use mathlib.Core.Path.{◌≡◌}
 use Prim.Native.Nat.{ℕ, ◌+◌, ◌-◌, ◌≤◌, ◌<◌}
 use lib.Dec.{eqb}
 use Rattle.base.proofs.RangeLaws.{all_end, all-no, all_yes}

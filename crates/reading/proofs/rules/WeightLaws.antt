@@ -1,7 +1,7 @@
 -- The weights by which the form of an entry is seen at a look.
 use Prim.Native.Nat.{◌*◌, ◌+◌, ◌<◌, ◌≤◌, ℕ}
-use lib.Dec.{eqb, leb, ltb}
-use mathlib.Core.Bool.{Bool, ◌&&◌, ◌||◌, false, true}
+use lib.Dec.{eqb}
+use mathlib.Core.Bool.{◌||◌, false, true}
 use mathlib.Core.Logic.{◌≢◌}
 use mathlib.Core.Path.{◌≡◌, refl}
 use native.Mathlib.Omega.{arith}

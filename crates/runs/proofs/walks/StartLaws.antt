@@ -1,6 +1,6 @@
 -- Laws of where a walk begins.
 -- Assumes nothing.
-use Prim.Native.Nat.{◌-◌, ◌<◌, ◌≤◌, ℕ}
+use Prim.Native.Nat.{◌<◌, ◌≤◌, ℕ}
 use lib.ListN.{get_or, length}
 use mathlib.Core.List.{List}
 use mathlib.Core.Path.{◌≡◌}

@@ -15,7 +15,7 @@ use Rattle.logic.specs.Background.{Background}
 use Rattle.logic.specs.Normal as normal
 use Rattle.pairs.specs.Pairs.{under}
 use Rattle.passes.specs.code.Restrict.{excluded_at, idle, restrict, restrict_by, restricted_high, slots_under}
-use Rattle.passes.specs.code.Slots.{Slot, slot}
+use Rattle.passes.specs.code.Slots.{slot}
 use Rattle.slots.proofs.slots.TableLaws.{high-made, key-made, low-bound, low-made}
 use Rattle.slots.proofs.states.BoundLaws.{kept-keys}
 use Rattle.slots.specs.code.Tables.{Built, Exact, Kept, Restricted, built_slots, excluded_high, excluded_slot, high_in, high_part, key_in, link_word, low_part, no_bound, property_word, restricted_word, single_high, slot_in, slot_number, slots_from, slots_of}

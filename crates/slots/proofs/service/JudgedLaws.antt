@@ -7,7 +7,6 @@ use mathlib.Core.List.{List, []}
 use mathlib.Core.Logic.{◌≢◌}
 use mathlib.Core.Path.{◌∙◌, ◌≡◌, ap, refl, subst, sym}
 use Rattle.base.specs.Range.{bit}
-use Rattle.blocks.proofs.Refusing.Readings.{reading-cases}
 use Rattle.blocks.proofs.Refusing.SingleFirst.{named-first}
 use Rattle.blocks.specs.Entries.{entries_of}
 use Rattle.blocks.specs.Faults.{entry_faults, first}
@@ -15,7 +14,6 @@ use Rattle.blocks.specs.Reading.{answer, reading_of}
 use Rattle.blocks.specs.code.ReadingSteps.{rule_faults}
 use Rattle.blocks.specs.declared.Finding.TheVariants as finding
 use Rattle.blocks.specs.declared.Reading.TheVariants as reading
-use Rattle.blocks.specs.declared.Reading.{Reading}
 use Rattle.blocks.specs.declared.Schema.TheVariants.{Description, Named}
 use Rattle.logic.specs.Background.{LawfulBackground}
 use Rattle.names.proofs.Legality.AcceptedReadings.{nameless-sent, sent-accepted}

@@ -4,12 +4,12 @@ use Prim.Native.Nat.{◌+◌, ◌-◌, ◌<◌, ◌≤◌, suc, ℕ}
 use lib.Dec.{eqb}
 use lib.ListN.{get_or, length, length-set, set}
 use lib.Seq.{get_or-set_other, get_or-set_same}
-use mathlib.Core.Bool.{Bool, cond, false, true}
+use mathlib.Core.Bool.{Bool, cond}
 use mathlib.Core.List.{List}
 use mathlib.Core.Logic.{◌≢◌}
 use mathlib.Core.Path.{◌∙◌, ◌≡◌, ap, refl, subst, sym}
 use native.Mathlib.Omega.{arith}
-use Rattle.base.proofs.SearchLaws.{first_goes, first-later, first-sooner, first_stops}
+use Rattle.base.proofs.SearchLaws.{first-later, first-sooner}
 use Rattle.base.proofs.Tests.{bool_cases, eq-cases}
 use Rattle.base.specs.Search.{first_from}
 use Rattle.blocks.specs.Entries.{entries_of, nth}
@@ -23,8 +23,8 @@ use Rattle.logic.specs.Background.{Background}
 use Rattle.meaning.specs.Owned.{Owned}
 use Rattle.passes.specs.code.Slots.{Slot}
 use Rattle.slots.proofs.states.SlotStates.{holds-here, stated-more, stated-start}
-use Rattle.slots.specs.code.Pass.{Judged, PassedTo}
-use Rattle.slots.specs.code.States.{Indexed, Stated, holds_by_slots, holds_in_state, passed, state_below}
+use Rattle.slots.specs.code.Pass.{JudgedSoFar, PassedTo}
+use Rattle.slots.specs.code.States.{Indexed, holds_by_slots, holds_in_state, passed, state_below}
 use Rattle.slots.specs.declared.Pass.TheVariants.{Faulty, Through}
 use Rattle.slots.specs.declared.Pass.{Pass}
 
@@ -52,7 +52,7 @@ module _ (f : ℕ → Bool) (n : ℕ) where
 
 -- before the first entry
 module _ {b : Background} {d t next head : List ℕ} {used : ℕ} where
-  pub judged-start : (states : List ℕ) → length (entries_of d) < length states → Judged b d t next head used 0 (set states 0 0) 0
+  pub judged-start : (states : List ℕ) → length (entries_of d) < length states → JudgedSoFar b d t next head used 0 (set states 0 0) 0
   unfolding first_from
   judged-start states l =
       record {
@@ -63,7 +63,7 @@ module _ {b : Background} {d t next head : List ℕ} {used : ℕ} where
       }
 
   -- one more, after one that fails: it is not looked at
-  pub judged-past : {n f : ℕ} {states : List ℕ} → Judged b d t next head used n states f → f ≢ 0 → {m : ℕ} → m ≡ suc n → Judged b d t next head used m states f
+  pub judged-past : {n f : ℕ} {states : List ℕ} → JudgedSoFar b d t next head used n states f → f ≢ 0 → {m : ℕ} → m ≡ suc n → JudgedSoFar b d t next head used m states f
   judged-past {n} {f} {states} J z q =
       rw q (record {
         room = J.room;
@@ -73,13 +73,13 @@ module _ {b : Background} {d t next head : List ℕ} {used : ℕ} where
       })
 
   -- one more, looked up in the state of its owner
-  module _ {n f : ℕ} {states : List ℕ} (J : Judged b d t next head used n states f) (none : f ≡ 0) (le : n < length (entries_of d)) {e : Entry} (is' : e ≡ nth (entries_of d) (suc n))
+  module _ {n f : ℕ} {states : List ℕ} (J : JudgedSoFar b d t next head used n states f) (none : f ≡ 0) (le : n < length (entries_of d)) {e : Entry} (is' : e ≡ nth (entries_of d) (suc n))
       {s : ℕ} (read : s ≡ get_or states e.owner 0) where
     pub judged-state : e.owner ≤ n → s ≤ passed
     judged-state h = rw read (J.small none _ h)
 
     pub judged-more : {m y g : ℕ} → m ≡ suc n → y ≤ passed → (e.kind ≡ 5 → (ss : List Slot) → Indexed ss t next head used → y ≡ state_below ss s e.name)
-        → {r : Bool} → ((ss : List Slot) → Indexed ss t next head used → r ≡ holds_in_state b ss s e) → g ≡ cond r 0 m → Judged b d t next head used m (set states m y) g
+        → {r : Bool} → ((ss : List Slot) → Indexed ss t next head used → r ≡ holds_in_state b ss s e) → g ≡ cond r 0 m → JudgedSoFar b d t next head used m (set states m y) g
     judged-more {m} {y} {g} q small below {r} holds is =
         let there : suc n < length states = omega (arith, J.room) in
         record {
@@ -100,7 +100,7 @@ module _ (b : Background) (d t next head : List ℕ) (used n count : ℕ) (level
   block-faulty q = subst (PassedTo b d t next head used n count level states) q P
 
   pub block-through : {f : ℕ} → r ≡ Through f
-      → (first (rule_faults (Named 0) (entries_of d) (n + 1) count) ≡ finding.Clean) × Levels (Named 0) (entries_of d) level (n + count + 1) × Judged b d t next head used (n + count) states f
+      → (first (rule_faults (Named 0) (entries_of d) (n + 1) count) ≡ finding.Clean) × Levels (Named 0) (entries_of d) level (n + count + 1) × JudgedSoFar b d t next head used (n + count) states f
   block-through q = subst (PassedTo b d t next head used n count level states) q P
 
 -- the level that the code works out is that of the table
@@ -114,6 +114,6 @@ unfolding owner_of
 owner-early es {n = n} T one is = rw is (T.early n one (omega arith))
 
 -- all are passed
-pub judged-all : {b : Background} {d t next head : List ℕ} {used n f total : ℕ} {states : List ℕ} → Judged b d t next head used n states f → n ≡ total
+pub judged-all : {b : Background} {d t next head : List ℕ} {used n f total : ℕ} {states : List ℕ} → JudgedSoFar b d t next head used n states f → n ≡ total
     → Owned (entries_of d) → (ss : List Slot) → Indexed ss t next head used → f ≡ first_from (holds_by_slots b ss (entries_of d)) 1 total
 judged-all J e O ss x = rw (← e) (J.first O ss x)

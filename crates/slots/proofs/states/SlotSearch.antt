@@ -3,16 +3,15 @@
 use Prim.Native.Nat.{◌+◌, ◌<◌, ◌≤◌, suc, zero, ℕ}
 use lib.Dec.{eqb}
 use lib.ListN.{get_or}
-use mathlib.Core.Bool.{Bool, false, true}
-use mathlib.Core.List.{List, [], ◌∷◌}
-use mathlib.Core.Path.{◌∙◌, ◌≡◌, ap, refl, sym}
+use mathlib.Core.Bool.{Bool, false}
+use mathlib.Core.List.{List}
+use mathlib.Core.Path.{◌∙◌, ◌≡◌, ap, sym}
 use native.Mathlib.Omega.{arith}
-use Rattle.base.proofs.ChainLaws.{last_none, last_on}
 use Rattle.base.proofs.Tests.{eq-cases, eqb-self, ne_eqb, tests}
 use Rattle.base.specs.Chain.{last_where}
 use Rattle.passes.proofs.CellPlaces.FormSettled.{position-settled, taken-settled}
 use Rattle.passes.specs.code.Keys.{key_number}
-use Rattle.passes.specs.code.Slots.{Slot, position, settled, slot, slot_at, slot_high, slot_low, taken}
+use Rattle.passes.specs.code.Slots.{Slot, position, settled, slot_at, slot_high, slot_low, taken}
 use Rattle.slots.proofs.TableSearch.{slot-last}
 use Rattle.slots.proofs.slots.SearchLaws.{keys_of}
 use Rattle.slots.specs.code.States.{Indexed, high_at, low_at, slot_for}

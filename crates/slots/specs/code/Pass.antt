@@ -16,7 +16,7 @@ use Rattle.slots.specs.declared.Pass.{Pass}
 
 -- n entries are passed, and f is the first of them that does not hold, or 0. While there is none, a table has their states. That the states are
 -- right needs owners that stand earlier, all of them, which is known only when all entries are checked.
-pub record Judged (b : Background) (d t next head : List ℕ) (used n : ℕ) (states : List ℕ) (f : ℕ) : Type 0 where
+pub record JudgedSoFar (b : Background) (d t next head : List ℕ) (used n : ℕ) (states : List ℕ) (f : ℕ) : Type 0 where
   pub room : length (entries_of d) < length states
   pub small : f ≡ 0 → (j : ℕ) → j ≤ n → get_or states j 0 ≤ passed
   pub stated : f ≡ 0 → Owned (entries_of d) → Stated d t next head used n states
@@ -27,7 +27,7 @@ abbrev pub PassedTo : Background → List ℕ → List ℕ → List ℕ → List
 PassedTo b d t next head used n count level states (Faulty k p) = first (rule_faults (Named 0) (entries_of d) (n + 1) count) ≡ finding.Faulty k p
 PassedTo b d t next head used n count level states (Through f) =
     (first (rule_faults (Named 0) (entries_of d) (n + 1) count) ≡ finding.Clean) × Levels (Named 0) (entries_of d) level (n + count + 1)
-    × Judged b d t next head used (n + count) states f
+    × JudgedSoFar b d t next head used (n + count) states f
 
 -- what going over all of them does
 abbrev pub PassedAll : Background → List ℕ → List ℕ → List ℕ → List ℕ → ℕ → ℕ → Pass → Type 0

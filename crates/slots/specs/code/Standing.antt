@@ -10,7 +10,7 @@ use Rattle.logic.specs.Background.{Background}
 use Rattle.pairs.specs.Pairs.{pairs_reading, under}
 use Rattle.pairs.specs.Promise.{ListRead}
 use Rattle.passes.specs.code.Slots.{inconsistent, nonempty, settled}
-use Rattle.slots.specs.Holding.{holding_of, holding_under, where_room}
+use Rattle.slots.specs.Holding.{holding_under, where_room}
 use Rattle.slots.specs.code.Tables.{Settled, Tabled, marks_from, slot_word, slots_of}
 use Rattle.slots.specs.declared.Holding.TheVariants as holding
 use Rattle.slots.specs.declared.Holding.{Holding}

@@ -1,7 +1,7 @@
 -- `push_place` meets its contract: the properties are pushed, then the groups.
-use Prim.Native.Nat.{◌≤◌, ℕ}
+use Prim.Native.Nat.{◌≤◌}
 use lib.ListN.{length, take}
-use mathlib.Core.List.{List, map}
+use mathlib.Core.List.{map}
 use mathlib.Core.Path.{◌∙◌, ◌≡◌}
 use native.Mathlib.Omega.{arith}
 use Rattle.compare.proofs.places.PlaceLaws.{first-room, groups-run, least-small, place-done, properties-run, second-room, tags-small, taken-many}

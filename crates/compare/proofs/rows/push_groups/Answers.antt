@@ -1,4 +1,3 @@
-use Prim.Native.Nat.{◌-◌}
 use lib.ListN.{length}
 use mathlib.Core.Path.{◌∙◌, ◌≡◌, ap, refl}
 use native.Mathlib.Omega.{arith}

@@ -1,10 +1,8 @@
-use Prim.Native.Nat.{◌-◌}
 use lib.ListN.{length}
 use mathlib.Core.Path.{◌∙◌, ◌≡◌, refl}
 use native.Mathlib.Omega.{arith}
 use Rattle.compare.proofs.rows.RowLaws.{properties-more}
 use Rattle.compare.specs.code.Laying.{leaf_rows}
-use Rattle.compare.specs.code.Tags.{tag_name}
 use Rattle.logic.proofs.TreeRows.FillLaws.{filled_none}
 use Rattle.compare.proofs.rows.push_properties.Goals as goal
 

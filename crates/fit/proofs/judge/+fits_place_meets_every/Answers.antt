@@ -12,7 +12,7 @@ use Rattle.blocks.specs.declared.Entry.{Entry}
 use Rattle.blocks.specs.declared.Schema.TheVariants.{Specimen}
 use Rattle.fit.proofs.index.BucketWalk.{all-ends, all-goes, all-last, all-no, all-starts, has-entry}
 use Rattle.fit.proofs.judge.MeetLaws.{group-decides, other-passes}
-use Rattle.fit.specs.code.Groups.{fits_place, meets_entry, own_fits}
+use Rattle.fit.specs.code.Groups.{meets_entry, own_fits}
 use Rattle.fit.specs.code.Index.{bucket_of, is_of}
 use Rattle.fit.proofs.judge.+fits_place_meets_every.Goals as goal
 

@@ -1,6 +1,6 @@
 -- `fits_place` and `meets_every` meet their contracts. Each call goes to fewer levels, or from a place to the groups of its entries at the same
 -- level. The counter of additions comes back as it was.
-use Prim.Native.Nat.{◌+◌, ◌*◌, ◌-◌, ◌<◌, ◌≤◌}
+use Prim.Native.Nat.{◌+◌, ◌*◌, ◌<◌, ◌≤◌}
 use lib.ListN.{length}
 use mathlib.Core.Path.{◌≡◌}
 use Rattle.base.specs.Chain.{OnChain}

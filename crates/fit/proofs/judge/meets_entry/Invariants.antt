@@ -1,7 +1,6 @@
 -- `meets_entry` meets its contract: none of the groups passed is of the owner by the link.
 use lib.ListN.{length}
 use mathlib.Core.Path.{◌≡◌}
-use Prim.Native.Nat.{◌-◌}
 use Rattle.base.specs.Chain.{OnChain}
 use Rattle.blocks.specs.Entries.{entries_of}
 use Rattle.blocks.specs.declared.Schema.TheVariants.{Specimen}

@@ -1,4 +1,3 @@
-use Prim.Native.Nat.{◌-◌}
 use Rattle.lists.proofs.LoopLaws.{count-end, count-more, count-start, nearer}
 use Rattle.lists.proofs.parts.parts_in.Goals as goal
 

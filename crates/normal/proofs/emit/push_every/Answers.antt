@@ -1,4 +1,3 @@
-use Prim.Native.Nat.{◌-◌}
 use mathlib.Core.Bool.{true}
 use native.Mathlib.Omega.{arith}
 use Rattle.normal.proofs.emit.PlacingLaws.{linking-done, linking-more, linking-room, linking-same, linking-start}

@@ -1,5 +1,4 @@
 use borrow.Author.Rules.{rules}
-use Prim.Native.Nat.{◌-◌}
 use native.Mathlib.Omega.{arith}
 use Rattle.blocks.proofs.Refusing.SingleTable.{ends_found, ends-free, passed-inside, passed-more, passed_start}
 use Rattle.reading.proofs.single.cell_for.Goals as goal

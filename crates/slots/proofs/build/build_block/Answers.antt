@@ -1,4 +1,4 @@
-use Prim.Native.Nat.{◌+◌, ◌-◌, ◌≤◌, suc, ℕ}
+use Prim.Native.Nat.{◌+◌, ◌≤◌, suc, ℕ}
 use lib.ListN.{get_or, length, length-set}
 use mathlib.Core.Path.{◌∙◌, ◌≡◌, ap, refl}
 use native.Mathlib.Omega.{arith}

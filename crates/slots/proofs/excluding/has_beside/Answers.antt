@@ -1,5 +1,4 @@
 -- `has_beside` meets its contract.
-use mathlib.Core.Bool.{false}
 use mathlib.Core.Path.{◌∙◌, ap, sym}
 use Rattle.base.proofs.Tests.{eq-eqb, ne_eqb}
 use Rattle.pairs.specs.code.Index.{beside_at, named_at}

@@ -1,4 +1,3 @@
-use Prim.Native.Nat.{◌-◌}
 use lib.ListN.{get_or-eq_default, length, length-set}
 use lib.Seq.{get_or-set_other, get_or-set_same}
 use mathlib.Core.Path.{◌∙◌, refl}

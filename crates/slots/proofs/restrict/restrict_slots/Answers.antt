@@ -1,4 +1,4 @@
-use Prim.Native.Nat.{◌+◌, ◌-◌}
+use Prim.Native.Nat.{◌+◌}
 use native.Mathlib.Omega.{arith}
 use Rattle.slots.proofs.restrict.RestrictLaws.{kept-stays, key-stays, restrict-done, restrict-goes, restrict-starts}
 use Rattle.slots.proofs.restrict.restrict_slots.Goals as goal

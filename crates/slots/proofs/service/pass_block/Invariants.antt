@@ -8,13 +8,13 @@ use Rattle.blocks.specs.Faults.{first}
 use Rattle.blocks.specs.code.ReadingSteps.{Levels, rule_faults}
 use Rattle.blocks.specs.declared.Schema.TheVariants.{Named}
 use Rattle.pairs.specs.Pairs.{under}
-use Rattle.slots.specs.code.Pass.{Judged}
+use Rattle.slots.specs.code.Pass.{JudgedSoFar}
 use Rattle.slots.proofs.service.pass_block.Given as goal
 
 abbrev pub invariant-loop-i : goal.invariant-loop-i
 invariant-loop-i l = (l.i ≤ l.count) × Levels (Named 0) (entries_of l.d) l.level (l.done + (l.i + 1)) × (length l.level ≡ length l.initial.level) × (length l.states ≡ length l.initial.states)
     × (first (rule_faults (Named 0) (entries_of l.d) (l.done + 1) l.count) ≡ first (rule_faults (Named 0) (entries_of l.d) (l.done + (l.i + 1)) (l.done + l.count + 1 - (l.done + (l.i + 1)))))
-    × Judged (under l.pairs) l.d l.table l.next l.head l.used (l.done + l.i) l.states l.failing
+    × JudgedSoFar (under l.pairs) l.d l.table l.next l.head l.used (l.done + l.i) l.states l.failing
 
 abbrev pub decreases-loop-i : goal.decreases-loop-i
 decreases-loop-i l = l.count - l.i

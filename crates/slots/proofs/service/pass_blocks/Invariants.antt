@@ -9,13 +9,13 @@ use Rattle.blocks.specs.code.Blockwise.{AtBlock}
 use Rattle.blocks.specs.code.ReadingSteps.{Levels, rule_faults}
 use Rattle.blocks.specs.declared.Schema.TheVariants.{Named}
 use Rattle.pairs.specs.Pairs.{under}
-use Rattle.slots.specs.code.Pass.{Judged}
+use Rattle.slots.specs.code.Pass.{JudgedSoFar}
 use Rattle.slots.proofs.service.pass_blocks.Given as goal
 
 abbrev pub invariant-loop-n : goal.invariant-loop-n
 invariant-loop-n l = AtBlock l.total l.n l.at × Levels (Named 0) (entries_of l.d) l.level (l.n + 1) × (length l.level ≡ length l.initial.level) × (length l.states ≡ length l.initial.states)
     × (first (rule_faults (Named 0) (entries_of l.d) 1 l.total) ≡ first (rule_faults (Named 0) (entries_of l.d) (l.n + 1) (l.total + 1 - (l.n + 1))))
-    × Judged (under l.pairs) l.d l.table l.next l.head l.used l.n l.states l.failing
+    × JudgedSoFar (under l.pairs) l.d l.table l.next l.head l.used l.n l.states l.failing
 
 abbrev pub decreases-loop-n : goal.decreases-loop-n
 decreases-loop-n l = l.total - l.n

@@ -1,4 +1,3 @@
-use Rattle.std.proofs.Common.{not}
 use Prim.Native.Nat.{◌+◌, ◌-◌, ◌<◌, ◌≤◌, suc, ℕ}
 use lib.ListN.{get_or, length, length-set}
 use mathlib.Core.Path.{◌∙◌, ◌≡◌, ap, refl, sym}

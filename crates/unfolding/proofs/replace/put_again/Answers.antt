@@ -1,4 +1,4 @@
-use Prim.Native.Nat.{◌+◌, ◌-◌, ℕ}
+use Prim.Native.Nat.{◌+◌, ℕ}
 use lib.ListN.{get_or}
 use mathlib.Core.List.{List, append-nil}
 use mathlib.Core.Path.{◌∙◌, ◌≡◌, ap, refl, sym}

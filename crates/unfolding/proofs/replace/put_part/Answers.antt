@@ -1,4 +1,4 @@
-use Prim.Native.Nat.{◌-◌, ◌≤◌}
+use Prim.Native.Nat.{◌≤◌}
 use lib.ListN.{length, length-append, length-map, length-set, set}
 use lib.Seq.{get_or-set_same}
 use mathlib.Core.List.{map}

@@ -1,4 +1,3 @@
-use Prim.Native.Nat.{◌-◌}
 use lib.ListN.{length-set}
 use mathlib.Core.List.{map}
 use mathlib.Core.Path.{◌≡◌, ap, refl}

@@ -1,5 +1,5 @@
 -- `greatest_name` meets its contract: of the entries gone over, which are the last.
-use Prim.Native.Nat.{◌-◌, ◌≤◌}
+use Prim.Native.Nat.{◌≤◌}
 use lib.ListN.{drop}
 use mathlib.Core.Path.{◌≡◌}
 use Rattle.unfolding.specs.code.Rows.{entries_in, greatest_name}

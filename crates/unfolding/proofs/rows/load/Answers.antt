@@ -1,4 +1,3 @@
-use Prim.Native.Nat.{◌-◌}
 use lib.Seq.{take_all}
 use mathlib.Core.Path.{◌∙◌, ◌≡◌, refl}
 use native.Mathlib.Omega.{arith}

@@ -1,4 +1,3 @@
-use Prim.Native.Nat.{◌-◌}
 use lib.ListN.{drop}
 use mathlib.Core.Path.{◌∙◌, ◌≡◌, refl}
 use native.Mathlib.Omega.{arith}
