@@ -1,8 +1,10 @@
 // Judges specimens of groups and prints how many additions of items each took: `G groups: table T, walk W`, or `G groups: refused N`. The
 // table of totals adds each group once, and the walk over entries none.
+#![tactic(auto)]
+
 use blocks::Entry;
 use fit::{Counted, FitAnswer};
-use libc::STDOUT_FILENO;
+use std::io;
 
 // An entry as one number.
 fn row(kind: u8, owner: u16, name: u16) -> u64 {
@@ -36,10 +38,8 @@ fn link(case: u8, n: u16) -> u16 {
 
 // The groups of a case, 2,016 of them.
 fn fill(rows: &mut [u64; 2016], case: u8) {
-    let mut n: u16 = 0;
-    while n < 2016 {
+    for n in 0..2016u16 {
         rows[n as usize] = row(7, owner(case, n), link(case, n));
-        n += 1;
     }
 }
 
@@ -49,41 +49,49 @@ fn write(specimen: &mut [u8], rows: &[u64; 2016], groups: usize) -> usize {
 }
 
 // Prints a word and a number.
-fn print_field(word: &[u8], number: u64) {
-    io::write_all(STDOUT_FILENO, word);
-    io::print_decimal(STDOUT_FILENO, number);
+fn print_field(rt: &impl Print, word: &str, number: u64) -> io::Result<()> {
+    print!(rt; "{word}{number}")
 }
 
 // Prints the counts of an answer.
-fn print_counted(groups: usize, counted: Counted) {
-    print_field(b"", groups as u64);
+fn print_counted(rt: &impl Print, groups: usize, counted: Counted) -> io::Result<()> {
+    print_field(rt, "", groups as u64)?;
     let answer = counted.answer;
     match answer {
         FitAnswer::Refused(number, _, _) => {
-            print_field(b" groups: refused ", number as u64);
+            print_field(rt, " groups: refused ", number as u64)?;
         }
         _ => {
-            print_field(b" groups: table ", counted.table as u64);
-            print_field(b", walk ", counted.walk as u64);
+            print_field(rt, " groups: table ", counted.table as u64)?;
+            print_field(rt, ", walk ", counted.walk as u64)?;
         }
     }
-    io::write_all(STDOUT_FILENO, b"\n");
+    println!(rt)
 }
 
 // Judges a specimen, the first n bytes, by a description, the first m bytes, and prints the counts.
-fn judge(groups: usize, specimen: &[u8], n: usize, description: &[u8], m: usize) {
+fn judge(
+    rt: &impl Print,
+    groups: usize,
+    specimen: &[u8],
+    n: usize,
+    description: &[u8],
+    m: usize,
+) -> io::Result<()> {
     if n <= specimen.len() {
         if m <= description.len() {
             print_counted(
+                rt,
                 groups,
                 fit::fit_counted(&specimen[0..n], &description[0..m]),
-            );
+            )?;
         }
     }
+    Ok(())
 }
 
 // Judges the first groups of a case by a description of one 'every', by link 1, that asks for at most none.
-fn show(case: u8, groups: usize) {
+fn show(rt: &impl Print, case: u8, groups: usize) -> io::Result<()> {
     let mut rows = [0u64; 2016];
     fill(&mut rows, case);
     let mut blocks = [0u8; 16384];
@@ -93,19 +101,19 @@ fn show(case: u8, groups: usize) {
     let mut block = [0u8; 512];
     let description = &mut block[..];
     let m = writing::write_entries(description, &asked, 2);
-    judge(groups, specimen, n, description, m);
+    judge(rt, groups, specimen, n, description, m)
 }
 
-fn main() {
-    show(1, 0);
-    show(1, 1);
-    show(1, 63);
-    show(1, 64);
-    show(1, 255);
-    show(1, 256);
-    show(1, 2016);
-    show(2, 2016);
-    show(3, 33);
-    show(3, 2016);
-    show(4, 2);
+fn main(rt: HostRuntime) -> io::Result<()> {
+    show(&rt, 1, 0)?;
+    show(&rt, 1, 1)?;
+    show(&rt, 1, 63)?;
+    show(&rt, 1, 64)?;
+    show(&rt, 1, 255)?;
+    show(&rt, 1, 256)?;
+    show(&rt, 1, 2016)?;
+    show(&rt, 2, 2016)?;
+    show(&rt, 3, 33)?;
+    show(&rt, 3, 2016)?;
+    show(&rt, 4, 2)
 }
