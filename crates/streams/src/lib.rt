@@ -1,20 +1,23 @@
 // Reading a stream into a buffer, as the programs read their standard input.
 #![tactic(auto)]
 
-ghost use Rattle.std.specs.Prelude.{◌≤◌, length, IfOk};
+ghost use Rattle.std.specs.Prelude.{◌<◌, ◌≤◌, length, take, IfOk};
+ghost use Rattle.std.specs.Io.KnownBytes.{Consumes, IsAtEnd};
 
 use std::io;
 use std::io::Read;
 
 // Reads until the buffer is full, the input ends or a read fails. Answers how many bytes it put at the start of the buffer, and whether a
 // read failed.
-fn fill(reader: &mut impl Read, buffer: &mut [u8]) -> (usize, io::Result<()>)
-    ensures { result.0 ≤ length buffer.new }
+fn fill<R: Read>(reader: &mut R, buffer: &mut [u8]) -> (usize, io::Result<()>)
+    ensures within { result.0 ≤ length buffer.new }
+    ensures bytes { Consumes (R.remaining reader.old) (R.remaining reader.new) (take result.0 buffer.new) }
+    ensures end { IfOk result.1 (λ _. result.0 < length buffer.new → IsAtEnd (R.remaining reader.new)) }
 {
     let mut done: usize = 0;
     while done < buffer.len() {
         match reader.read(&mut buffer[done..]) {
-            Ok(0) => break,
+            Ok(0) => return (done, Ok(())),
             Ok(n) => done += n,
             Err(e) => return (done, Err(e)),
         }
@@ -23,8 +26,10 @@ fn fill(reader: &mut impl Read, buffer: &mut [u8]) -> (usize, io::Result<()>)
 }
 
 // Reads until the buffer is full or the input ends, and answers how many bytes it put at the start of the buffer.
-pub fn read_full(reader: &mut impl Read, buffer: &mut [u8]) -> io::Result<usize>
-    ensures { IfOk result (λ n. n ≤ length buffer.new) }
+pub fn read_full<R: Read>(reader: &mut R, buffer: &mut [u8]) -> io::Result<usize>
+    ensures within { IfOk result (λ n. n ≤ length buffer.new) }
+    ensures bytes { IfOk result (λ n. Consumes (R.remaining reader.old) (R.remaining reader.new) (take n buffer.new)) }
+    ensures end { IfOk result (λ n. n < length buffer.new → IsAtEnd (R.remaining reader.new)) }
 {
     let (length, outcome) = fill(reader, buffer);
     outcome?;
@@ -32,9 +37,13 @@ pub fn read_full(reader: &mut impl Read, buffer: &mut [u8]) -> io::Result<usize>
 }
 
 // The same, where a read that fails counts as the end of the input.
-pub fn read_until_failure(reader: &mut impl Read, buffer: &mut [u8]) -> usize
-    ensures { result ≤ length buffer.new }
+pub fn read_until_failure<R: Read>(reader: &mut R, buffer: &mut [u8]) -> usize
+    ensures within { result ≤ length buffer.new }
+    ensures bytes { Consumes (R.remaining reader.old) (R.remaining reader.new) (take result buffer.new) }
 {
     let (length, _) = fill(reader, buffer);
     length
 }
+
+#[cfg(test)]
+mod tests;
