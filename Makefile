@@ -5,7 +5,7 @@
 # each program takes, and each call of the library beside plain Rust (docs/BENCHMARKS.md). make stack: the stack that each call of the
 # library takes. make gx: the tool that shows, writes, checks and explains descriptions. make page: its sample pages, looked at in
 # Chromium where that is installed.
-.PHONY: run lib test outside memory fuzz vectors bench stack gx page
+.PHONY: run lib test outside memory fuzz vectors bench stack gx page always
 
 CC = gcc
 CFLAGS = -O2 -Wall -Wextra -Werror -Iinclude
@@ -16,27 +16,31 @@ VALGRIND = valgrind --quiet --error-exitcode=1
 run: target/bin/goltximen
 	@target/bin/goltximen < examples/pair.blocks
 
-# How many crates the program needs, itself among them: crates.txt from its end, since each crate stands below those that it uses.
-NEEDED = tac crates.txt | awk -F '[: ]+' '/^goltximen:/ { need[$$1] } \
+# How many crates a program needs, itself among them: crates.txt from its end, since each crate stands below those that it uses.
+NEEDED = tac crates.txt | awk -F '[: ]+' '/^$*:/ { need[$$1] } \
 	$$1 in need { n++; for (i = 2; i <= NF; i++) need[$$i] } END { print n }'
 
-# Shows rt's line on each crate; target/run.log has all that rt prints. Where nothing has changed rt leaves the program as it is, so
-# its date is set here: now where all is proved, so that the next run answers at once; else an old one, so that it proves again.
-target/bin/goltximen: SHELL := /bin/bash
-target/bin/goltximen: crates.txt $(shell find crates -type f)
-	@echo "proving $$($(NEEDED)) crates, some 5 minutes the first time; the answer follows"
-	@mkdir -p target
-	@set -o pipefail; rt check goltximen 2>&1 | tee target/run.log | grep --line-buffered '^rt:' || \
-		{ touch -c -d @0 $@; echo "NOT PROVED. The end of target/run.log:"; tail -n 40 target/run.log; exit 1; }
-	@touch -c $@
+# Proves and builds a program, and shows rt's own lines; target/NAME.log has all that rt prints. Where nothing has changed rt says so at
+# once, so it is asked each time.
+target/bin/%: SHELL := /bin/bash
+target/bin/%: always
+	@mkdir -p target/bin
+	@[ -e $@ ] || echo "proving $$($(NEEDED)) crates, some 5 minutes the first time; the answer follows"
+	@set -o pipefail; cd crates/$* && rt run < stdin 2>&1 > /dev/null | tee ../../target/$*.log | grep --line-buffered '^rt:' || \
+		{ echo "NOT PROVED. The end of target/$*.log:"; tail -n 40 ../../target/$*.log; exit 1; }
+	@cmp -s crates/$*/out/$* $@ || cp crates/$*/out/$* $@
 
 lib:
-	rt staticlib capi
+	@mkdir -p target/staticlib
+	cd crates/capi && rt lib
+	@cmp -s crates/capi/out/libcapi.a target/staticlib/libcapi.a || cp crates/capi/out/libcapi.a target/staticlib/libcapi.a
+
+always:
 
 test:
 	bash .ci/run
 
-outside: lib gx
+outside: lib gx target/bin/goltximen
 	mkdir -p target/c
 	$(CC) $(CFLAGS) examples/compare.c target/staticlib/libcapi.a -o target/c/compare
 	test "$$(target/c/compare)" = "not contained, entry 1; specimen of 2 entries"
@@ -68,8 +72,7 @@ fuzz: lib
 vectors: lib
 	cargo run --release --quiet --manifest-path rust/differential/Cargo.toml --bin vectors -- crates/vectors
 
-bench:
-	rt check inspect normals fits goltximen
+bench: target/bin/inspect target/bin/normals target/bin/fits target/bin/goltximen
 	bash bench/run
 	$(MAKE) lib
 	cargo run --release --quiet --manifest-path rust/bench/Cargo.toml

@@ -1,6 +1,6 @@
 //! The program, run as a user runs it: what it writes for an input is what the reference gives, byte for byte, and it ends well.
 //!
-//! `rt check goltximen` builds it; where it is not built, a line says so and nothing is tested.
+//! `make target/bin/goltximen` builds it; where it is not built, a line says so and nothing is tested.
 
 use std::io::Write;
 use std::path::{Path, PathBuf};
