@@ -2,6 +2,8 @@
 // call that it wraps answers, as one number of 64 bits; include/goltximen.h states the terms for a C program.
 //
 // The contracts cite Packing of `packing`, which has the table of these numbers, and the specs of the calls.
+#![tactic(auto)]
+
 ghost use Rattle.std.specs.Prelude.{◌≡◌, []};
 ghost use Rattle.blocks.specs.Reading.{reading_of};
 ghost use Rattle.blocks.specs.declared.Schema.{Schema};
