@@ -94,23 +94,23 @@ module _ (P D c list out : List ℕ) where
   unfolding catalogue_of list_reading
   refused-pairs e = rw e
 
-  module _ {l : ℕ} (List-read : pairs_reading P ≡ reading.Accepted l) where
+  module _ {l : ℕ} (list-read : pairs_reading P ≡ reading.Accepted l) where
     -- then the dictionary
     pub refused-dictionary : {k i p : ℕ} → dictionary_reading D ≡ reading.Refused k i p → answer ≡ Refused k i p
     unfolding catalogue_of list_reading unfolding_of
-    refused-dictionary e = rw (List-read, e)
+    refused-dictionary e = rw (list-read, e)
 
     module _ {m : ℕ} (dictionary-read : dictionary_reading D ≡ reading.Accepted m) where
       -- then the supplier in full, as input 1
       pub refused-supplier : {k i p : ℕ} → named_unfolding (dictionary_of D) 1 c ≡ reading.Refused k i p → answer ≡ Refused k i p
       unfolding catalogue_of list_reading unfolding_of
-      refused-supplier e = rw (List-read, dictionary-read, e)
+      refused-supplier e = rw (list-read, dictionary-read, e)
 
       module _ {n : ℕ} (supplier-read : named_unfolding (dictionary_of D) 1 c ≡ reading.Accepted n) where
         -- what the list and its services give
         goes : {r : Reading} → listed_reading D list ≡ r → answer ≡ unless_refused Refused r (cond (ltb (length out) (length (parts_of list))) (Refused 7 0 0) (Filled (length (parts_of list))))
         unfolding catalogue_of list_reading unfolding_of
-        goes e = rw (List-read, dictionary-read, supplier-read, e)
+        goes e = rw (list-read, dictionary-read, supplier-read, e)
 
         -- then 1 "for a list of length 0"
         pub refused-empty : length list ≡ 0 → answer ≡ Refused 1 2 0

@@ -1,4 +1,5 @@
--- What the walks over the struct that holds an input's blocks share.
+-- What a walk by hand over the struct that holds an input's blocks cites. The check finds the proofs of the functions here by itself, so that
+-- none of them does.
 --     Held             the struct's type, over a signature's lifetimes
 --     slice, tag       the machine values of a slice and of a schema
 --     Own, Both        what a lent slice owns, and what it and a schema own together

@@ -1,2 +1,2 @@
--- What the walks over the struct that holds an input's blocks share.
+-- What a walk by hand over the struct that holds an input's blocks cites.
 pub mod HeldLaws

@@ -1,7 +1,6 @@
 // The entries of an input, read by number straight from the lent blocks: a small struct holds the input and its total.
 //
-// A function that takes or makes the struct is proved by a walk of its own. `entry_held` has plain parameters, and serves every other
-// caller.
+// `entry_held` has plain parameters, and serves callers that keep no struct.
 ghost use Rattle.std.specs.Prelude.{◌≡◌};
 ghost use Rattle.blocks.specs.Entries.{entry_of};
 ghost use Rattle.blocks.specs.Reading.{total_read};
