@@ -1,2 +1,2 @@
--- What a walk by hand over the struct that holds an input's blocks cites.
+-- What a walk by hand over the struct that holds an input's blocks would cite; none does now.
 pub mod HeldLaws
