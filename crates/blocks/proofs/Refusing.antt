@@ -4,6 +4,8 @@
 pub mod EntryLaws
 -- Passes over entries that go block by block: each entry of a block is that of the list.
 pub mod Blockwise
+-- Passes over the entries of an input in order.
+pub mod InOrder
 -- The first fault of a list: what finding it means, and how a search goes on.
 pub mod FirstFault
 -- Laws of the rows that blocks break.

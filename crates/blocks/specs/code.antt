@@ -10,3 +10,5 @@ pub mod EntryTable
 pub mod SingleTable
 -- The steps of the pass that looks for number 9, as the code takes them.
 pub mod SingleSteps
+-- The words of pairs of bytes, as the code that checks a block takes them.
+pub mod WordPairs

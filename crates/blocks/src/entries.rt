@@ -1,10 +1,10 @@
 // Entries read by number straight from the lent blocks.
-ghost use Rattle.std.specs.Prelude.{◌≡◌, ◌+◌, ◌*◌, ◌/◌, ◌^◌, ◌≤◌, length};
+ghost use Rattle.std.specs.Prelude.{◌≡◌, ◌+◌, ◌*◌, ◌/◌, ◌^◌, ◌<◌, ◌≤◌, length, take, drop, MatchOption};
 ghost use Rattle.blocks.specs.Frame.{plain, entry_pos};
 ghost use Rattle.blocks.specs.code.Blockwise.{next_count};
-ghost use Rattle.blocks.specs.Entries.{entry_from, entry_of, entry_of_bytes, packed, zero_entry};
+ghost use Rattle.blocks.specs.Entries.{entry_from, entry_of, entry_of_bytes, packed};
 
-use crate::words::{byte, word, word_of_bytes};
+use crate::words::{byte, word};
 use crate::{Entry, Link, Property};
 
 impl Entry {
@@ -31,34 +31,18 @@ fn entry_pos(n: usize) -> usize
     512 * ((n - 1) / 63) + 4 + 8 * ((n - 1) % 63)
 }
 
-// The entry of 8 bytes. For a pass that knows that they are there and reads them itself, without a test for each entry.
+// The entry of 8 bytes, for passes that read them by index.
 pub fn entry_of_bytes(b0: u8, b1: u8, b2: u8, b3: u8, b4: u8, b5: u8, b6: u8, b7: u8) -> Entry
     ensures { result ≡ entry_of_bytes b0 b1 b2 b3 b4 b5 b6 b7 }
 {
-    Entry {
-        kind: b0,
-        reserved: b1,
-        owner: word_of_bytes(b2, b3),
-        name: word_of_bytes(b4, b5),
-        number: word_of_bytes(b6, b7),
-    }
+    Entry::from(&[b0, b1, b2, b3, b4, b5, b6, b7])
 }
 
-// The entry whose 8 bytes start at an index.
-fn entry_from(s: &[u8], at: usize) -> Entry
-    requires { at + 8 ≤ length s.now }
-    ensures { result ≡ entry_from s.now at }
+// The bytes of an entry that start at an index, if all are there.
+fn bytes_at(s: &[u8], at: usize) -> Option<&[u8; 8]>
+    ensures { MatchOption result (length s.now < at + 8) (λ bytes. bytes.now ≡ take 8 (drop at s.now)) }
 {
-    entry_of_bytes(
-        s[at],
-        s[at + 1],
-        s[at + 2],
-        s[at + 3],
-        s[at + 4],
-        s[at + 5],
-        s[at + 6],
-        s[at + 7],
-    )
+    s.get(at..)?.first_chunk::<8>()
 }
 
 // The entry whose bytes start at an index, where some may lie past the end and read 0.
@@ -75,53 +59,34 @@ fn entry_near_end(s: &[u8], at: usize) -> Entry
     }
 }
 
-// The entry of zero bytes.
-fn zero_entry() -> Entry
-    ensures { result ≡ zero_entry }
-{
-    Entry {
-        kind: 0,
-        reserved: 0,
-        owner: 0,
-        name: 0,
-        number: 0,
-    }
-}
-
 // Entry n of blocks that have `total` entries: the zero entry where n is 0 or above the total. A byte past the end reads 0.
 pub fn nth_entry(s: &[u8], total: usize, n: usize) -> Entry
     ensures { result ≡ entry_of s.now total n }
 {
-    if n == 0 {
-        return zero_entry();
-    }
-    if total < n {
-        return zero_entry();
-    }
-    if s.len() / 8 + 1 < n {
-        return zero_entry();
+    if n == 0 || total < n || s.len() / 8 + 1 < n {
+        return Entry::default();
     }
     let at = entry_pos(n);
-    if at + 8 <= s.len() {
-        return entry_from(s, at);
+    match bytes_at(s, at) {
+        Some(bytes) => Entry::from(bytes),
+        None => entry_near_end(s, at),
     }
-    entry_near_end(s, at)
 }
 
 // How many of the entries left stand in the next block: for a pass that goes block by block.
 pub fn next_count(left: usize) -> usize
     ensures { result ≡ next_count left }
 {
-    if left < 63 { left } else { 63 }
+    left.min(63)
 }
 
 // An entry as one number: its 8 bytes, low byte first.
 pub fn pack(e: Entry) -> u64
     ensures { result ≡ packed e }
 {
-    e.kind as u64
-        + 256 * (e.reserved as u64)
-        + 65536 * (e.owner as u64)
-        + 4294967296 * (e.name as u64)
-        + 281474976710656 * (e.number as u64)
+    u64::from(e.kind)
+        + 256 * u64::from(e.reserved)
+        + 65536 * u64::from(e.owner)
+        + 4294967296 * u64::from(e.name)
+        + 281474976710656 * u64::from(e.number)
 }

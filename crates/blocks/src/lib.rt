@@ -6,9 +6,11 @@
 #![tactic(auto)]
 
 mod entries;
+mod in_order;
 mod words;
 
 pub use entries::{entry_of_bytes, next_count, nth_entry, pack};
+pub use in_order::{InOrder, entries_in_order};
 pub use words::{block_check, block_second, byte, word, word_of_bytes};
 
 // A property's number. Properties and links are numbered apart, so each has a type of its own.
@@ -20,7 +22,7 @@ pub struct Property(pub u16);
 pub struct Link(pub u16);
 
 // An entry as it stands in a block; `reserved` is the byte that is always zero in an accepted input.
-#[derive(Clone, Copy)]
+#[derive(Clone, Copy, Default)]
 pub struct Entry {
     pub kind: u8,
     pub reserved: u8,

@@ -1,13 +1,14 @@
 // Bytes and words of a slice, and the two sums that check a block.
-ghost use Rattle.std.specs.Prelude.{◌≡◌, ◌+◌, ◌*◌, ◌%◌, ◌<◌, ◌≤◌, length, slice_index};
+ghost use Rattle.std.specs.Prelude.{◌≡◌, ◌+◌, ◌*◌, ◌%◌, ◌<◌, ◌≤◌, length, take, drop, slice_index};
 ghost use Rattle.base.specs.Range.{sum};
-ghost use Rattle.blocks.specs.Words.{check_of, second_of, weighted, word_at, word_from};
+ghost use Rattle.blocks.specs.Words.{check_of, second_of, word_at};
+ghost use Rattle.blocks.specs.code.WordPairs.{pair, weighted_pair};
 
 // The byte at an index; 0 past the end.
 pub fn byte(s: &[u8], at: usize) -> u8
     ensures { result ≡ slice_index s.now at }
 {
-    if at < s.len() { s[at] } else { 0 }
+    s.get(at).copied().unwrap_or(0)
 }
 
 // The word of two bytes at an index, low byte first; bytes past the end read 0.
@@ -20,93 +21,85 @@ pub fn word(s: &[u8], at: usize) -> u16
     word_of_bytes(byte(s, at), byte(s, at + 1))
 }
 
-// A byte as a word.
-fn wide(x: u8) -> u16
-    ensures { (result ≡ x) × (result < 256) }
-{
-    x as u16
-}
-
 // The word of two bytes, low byte first.
 pub fn word_of_bytes(low: u8, high: u8) -> u16
     ensures { result ≡ low + 256 * high }
 {
-    wide(low) + 256 * wide(high)
+    u16::from_le_bytes([low, high])
 }
 
-// The word of two bytes at an index that has both.
-fn word_at(s: &[u8], at: usize) -> u16
-    requires { at + 1 < length s.now }
-    ensures { result ≡ word_at s.now at }
+// The bytes from an index on, at most so many, of those that are there.
+fn part(s: &[u8], at: usize, most: usize) -> &[u8]
+    ensures bytes { result.now ≡ take most (drop at s.now) }
+    ensures few { length result.now ≤ most }
 {
-    word_of_bytes(s[at], s[at + 1])
+    let rest = &s[at.min(s.len())..];
+    &rest[..most.min(rest.len())]
 }
 
-// The first n words from an index on, all there, added: "this sum wraps at 65,536".
-fn sum_words(s: &[u8], at: usize, n: usize) -> u16
-    requires { (at + 2 * n ≤ length s.now) × (n ≤ 255) }
-    ensures { result ≡ sum (word_from s.now at) n % 65536 }
+// Words added: "this sum wraps at 65,536".
+fn sum_words(words: &[[u8; 2]]) -> u16
+    ensures { result ≡ sum (pair words.now) (length words.now) % 65536 }
 {
     let mut acc: u16 = 0;
-    let mut i: usize = 0;
-    while i < n {
-        acc = std::num::wrapping_add_u16(acc, word_at(s, at + 2 * i));
-        i += 1;
+    for bytes in words {
+        acc = acc.wrapping_add(u16::from_le_bytes(*bytes));
     }
     acc
 }
 
-// The check of block i, counted from 0: its first 255 words added, wrapping at 65,536. Bytes past the end count as 0: then the whole
-// words that are there are added, and the half one after them.
+// The words of some bytes added, at most 255. The half word after them, if there is one, is a word whose second byte is 0.
+#[inline(always)]
+fn sum_bytes(bytes: &[u8]) -> u16
+    requires { length bytes.now ≤ 510 }
+    ensures { result ≡ check_of bytes.now 0 }
+{
+    let (words, half) = bytes.as_chunks::<2>();
+    sum_words(words).wrapping_add(u16::from(byte(half, 0)))
+}
+
+// The check of block i, counted from 0: its first 255 words added, wrapping at 65,536. Bytes past the end count as 0. Where all are there the
+// sum is compiled for their number.
 pub fn block_check(s: &[u8], i: u16) -> u16
     ensures { result ≡ check_of s.now (512 * i) }
 {
-    let at = 512 * (i as usize);
-    if at + 510 <= s.len() {
-        return sum_words(s, at, 255);
+    let at = 512 * usize::from(i);
+    match s.get(at..at + 510) {
+        Some(whole) => sum_bytes(whole),
+        None => sum_bytes(part(s, at, 510)),
     }
-    if s.len() <= at {
-        return 0;
-    }
-    let n = (s.len() - at) / 2;
-    std::num::wrapping_add_u16(sum_words(s, at, n), word(s, at + 2 * n))
 }
 
-// A product that wraps at 65,536.
-fn times(k: u16, x: u16) -> u16
-    ensures { result ≡ (k * x) % 65536 }
-{
-    ((k as u32) * (x as u32) % 65536) as u16
-}
-
-// The first n words from an index on, all there, each times its number, counted from 1, and added.
-fn weigh_words(s: &[u8], at: usize, n: usize) -> u16
-    requires { (at + 2 * n ≤ length s.now) × (n ≤ 254) }
-    ensures { result ≡ sum (weighted s.now at) n % 65536 }
+// Words, each times its number, counted from 1, and added.
+fn weigh_words(words: &[[u8; 2]]) -> u16
+    requires { length words.now ≤ 254 }
+    ensures { result ≡ sum (weighted_pair words.now) (length words.now) % 65536 }
 {
     let mut acc: u16 = 0;
-    let mut i: usize = 0;
-    while i < n {
-        acc = std::num::wrapping_add_u16(acc, times(i as u16 + 1, word_at(s, at + 2 * i)));
-        i += 1;
+    for (k, bytes) in words.iter().enumerate() {
+        acc = acc.wrapping_add((k as u16 + 1).wrapping_mul(u16::from_le_bytes(*bytes)));
     }
     acc
+}
+
+// The words of some bytes, at most 254, each times its number, and added, with the half word as above.
+#[inline(always)]
+fn weigh_bytes(bytes: &[u8]) -> u16
+    requires { length bytes.now ≤ 508 }
+    ensures { result ≡ second_of bytes.now 0 }
+{
+    let (words, half) = bytes.as_chunks::<2>();
+    let number = words.len() as u16 + 1;
+    weigh_words(words).wrapping_add(number.wrapping_mul(u16::from(byte(half, 0))))
 }
 
 // The second sum of block i, counted from 0: its first 254 words, each times its number. Bytes past the end count as 0, as above.
 pub fn block_second(s: &[u8], i: u16) -> u16
     ensures { result ≡ second_of s.now (512 * i) }
 {
-    let at = 512 * (i as usize);
-    if at + 508 <= s.len() {
-        return weigh_words(s, at, 254);
+    let at = 512 * usize::from(i);
+    match s.get(at..at + 508) {
+        Some(whole) => weigh_bytes(whole),
+        None => weigh_bytes(part(s, at, 508)),
     }
-    if s.len() <= at {
-        return 0;
-    }
-    let n = (s.len() - at) / 2;
-    std::num::wrapping_add_u16(
-        weigh_words(s, at, n),
-        times((n + 1) as u16, word(s, at + 2 * n)),
-    )
 }

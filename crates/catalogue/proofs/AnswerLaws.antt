@@ -1,14 +1,14 @@
--- Laws of the code: a copy of some bytes, and the ways to an answer.
+-- Laws of the code: the ways to an answer.
 -- Assumes nothing.
-use Prim.Native.Nat.{◌%◌, ◌+◌, ◌<◌, ◌≤◌, suc, ℕ}
+use Prim.Native.Nat.{◌%◌, ◌<◌, ◌≤◌, suc, ℕ}
 use lib.Dec.{eqb, ltb}
-use lib.ListN.{drop, get_or, length, length-map, length-replicate, replicate, set, take}
-use lib.Seq.{length-take-le, take_at, take-suc}
+use lib.ListN.{drop, length, length-map, length-replicate, replicate, take}
+use lib.Seq.{take_at}
 use mathlib.Core.Bool.{◌||◌, not}
 use mathlib.Core.List.{List, [], ◌++◌, ◌∷◌, map}
 use mathlib.Core.Path.{◌∙◌, ◌≡◌, ap, refl, sym}
 use native.Mathlib.Omega.{arith}
-use Rattle.base.proofs.StoresLaws.{length-stored, stored-front, stored-none, stored_one, stored-then}
+use Rattle.base.proofs.StoresLaws.{length-stored, stored-front}
 use Rattle.base.proofs.Tests.{bool_cases, ge-ltb, lt-ltb, ltb-ge}
 use Rattle.base.specs.Stores.{stored}
 use Rattle.blocks.proofs.Refusing.Readings.{reading-cases}
@@ -22,28 +22,6 @@ use Rattle.names.specs.NamedReading.{dictionary_of, named_unfolding, sent_of, un
 use Rattle.pairs.specs.Pairs.{pairs_reading}
 use Rattle.slots.specs.Catalogue.{answers_after, bits_before, cut_reading, list_bits, list_reading, listed_bits, listed_reading, service_bit, services_reading}
 
--- ---- a copy
-
--- i bytes are copied
-abbrev pub Copied : List ℕ → List ℕ → ℕ → List ℕ → Type 0
-Copied t old i out = (i ≤ length t) × (out ≡ stored old 0 (take i t))
-
-pub copy_start : (t old : List ℕ) → Copied t old 0 old
-copy_start t old = (omega arith, stored-none old 0)
-
-pub copy_more : (t old : List ℕ) (i : ℕ) (out : List ℕ) → i < length t → Copied t old i out → Copied t old (i + 1) (set out i (get_or t i 0))
-copy_more t old i out h c =
-    let one : i + 1 ≡ suc i = omega arith in
-    let long : length (take i t) ≡ i = length-take-le i t c.0 in
-    (omega arith, stored-then old (take i t) (get_or t i 0 ∷ []) 0 i c.1 (stored_one out i (get_or t i 0)) (omega arith) ∙ rw (one, take-suc t i 0 h))
-
-pub copy-end : (t old : List ℕ) (i n : ℕ) {out : List ℕ} → i ≡ n → Copied t old i out → out ≡ stored old 0 (take n t)
-copy-end t old i n e c = rw (← e) c.1
-
--- of as many as it is told
-pub copied : (t old : List ℕ) {out : List ℕ} {m n : ℕ} → m ≡ n → out ≡ stored old 0 (take m t) → out ≡ stored old 0 (take n t)
-copied t old e c = c ∙ rw e
-
 -- ---- what is accepted
 
 -- the bytes before the first refusal are all bytes where nothing is refused
@@ -52,7 +30,7 @@ unfolding services_reading bits_before
 bits-all P D s i [] e = refl
 bits-all P D s i (d ∷ ds) {n} e =
     reading-cases (named_unfolding (dictionary_of D) i d)
-    (λ k j p q. let z : reading.Refused k j p ≡ reading.Accepted n = rw q at e in let y : ◌≡◌ {A = ℕ} 0 1 = cc in absurd (omega arith))
+    (λ k j p q. let z : reading.Refused k j p ≡ reading.Accepted n = rw q at e in cc)
     (λ m q. let w : services_reading (dictionary_of D) (suc i) ds ≡ reading.Accepted n = rw q at e in rw (q, bits-all P D s (suc i) ds w))
 
 -- the ways to a list that is accepted: nothing is refused
@@ -69,16 +47,16 @@ pub record Taken (P D c list : List ℕ) (n : ℕ) : Type 0 where
 
 -- an answer that is accepted comes after a reading that is
 goes : {X : Type 0} (r a : Reading) {n : ℕ} → unless_refused reading.Refused r a ≡ reading.Accepted n → ((m : ℕ) → r ≡ reading.Accepted m → a ≡ reading.Accepted n → X) → X
-goes (reading.Refused k i p) a e f = let y : ◌≡◌ {A = ℕ} 0 1 = cc in absurd (omega arith)
+goes (reading.Refused k i p) a e f = cc
 goes (reading.Accepted m) a e f = f m refl e
 
 cut-taken : (list : List ℕ) {n : ℕ} → cut_reading list ≡ reading.Accepted n → (n ≡ length (parts_of list)) × (n ≤ 64)
 unfolding cut_reading
 cut-taken list {n} e =
     bool_cases (eqb (length list) 0 || not (eqb (length list % 512) 0))
-    (λ q. let z : reading.Refused 1 2 0 ≡ reading.Accepted n = rw q at e in let y : ◌≡◌ {A = ℕ} 0 1 = cc in absurd (omega arith))
+    (λ q. let z : reading.Refused 1 2 0 ≡ reading.Accepted n = rw q at e in cc)
     (λ q. bool_cases (ltb 64 (length (parts_of list)))
-    (λ w. let z : reading.Refused 8 2 0 ≡ reading.Accepted n = rw (q, w) at e in let y : ◌≡◌ {A = ℕ} 0 1 = cc in absurd (omega arith))
+    (λ w. let z : reading.Refused 8 2 0 ≡ reading.Accepted n = rw (q, w) at e in cc)
     (λ w.
     let z : reading.Accepted (length (parts_of list)) ≡ reading.Accepted n = rw (q, w) at e in
     let y : n ≡ length (parts_of list) = cc in
@@ -144,7 +122,7 @@ module _ (P D c list out : List ℕ) {r : Reading} (q : r ≡ list_reading P D c
         let l : length out < length (parts_of list) = omega (arith, (list-taken P D c list accepted).count) in
         (rw (accepted, lt-ltb l), rw (accepted, lt-ltb l))
 
-    pub answer-filled : n ≤ length out → {answers new : List ℕ} → answers ≡ answers_after P D c list (replicate 64 0) → new ≡ stored out 0 (take n answers)
+    pub answer-filled : n ≤ length out → {answers new : List ℕ} → answers ≡ answers_after P D c list (replicate 64 0) → new ≡ take n answers ++ drop n out
         → (Filled n ≡ catalogue_of P D c list out) × (new ≡ filled_of P D c list out)
     unfolding catalogue_of filled_of answers_after
     answer-filled h a w =
@@ -157,4 +135,4 @@ module _ (P D c list out : List ℕ) {r : Reading} (q : r ≡ list_reading P D c
         let zeros = length-replicate {A = ℕ} 64 0 in
         let front : stored (replicate 64 0) 0 bits ≡ bits ++ drop (length bits) (replicate 64 0) = stored-front (replicate 64 0) bits (omega arith) in
         let same : take n (stored (replicate 64 0) 0 (list_bits P D c list)) ≡ bits = rw (bits-listed P D c list accepted, front) (take_at bits (drop (length bits) (replicate 64 0)) n long) in
-        (rw (accepted, ge-ltb l) (ap Filled count), w ∙ rw (a, same, accepted, ge-ltb l, ← count, ← long) (stored-front out bits (omega arith)))
+        (rw (accepted, ge-ltb l) (ap Filled count), w ∙ rw (a, same, accepted, ge-ltb l, ← count))

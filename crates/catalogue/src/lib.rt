@@ -5,11 +5,9 @@
 // `answers`.
 #![tactic(auto)]
 
-ghost use Rattle.std.specs.Prelude.{◌≡◌, ◌≤◌, length, take};
-ghost use Rattle.base.specs.Stores.{stored};
+ghost use Rattle.std.specs.Prelude.{◌≡◌};
 ghost use Rattle.catalogue.specs.Answer.{catalogue_of, filled_of};
 
-use base::wide;
 use blocks::Reading;
 
 // What the call answers: how many bytes it filled, or the refusal's number, the input and the place.
@@ -17,18 +15,6 @@ use blocks::Reading;
 pub enum Catalogued {
     Filled(u16),
     Refused(u8, u16, u16),
-}
-
-// Copies the first n bytes of a table to the front of an output.
-fn copy(out: &mut [u8], answers: &[u8], n: usize)
-    requires { (n ≤ length answers.now) × (n ≤ length out.old) }
-    ensures { out.new ≡ stored out.old 0 (take n answers.now) }
-{
-    let mut i: usize = 0;
-    while i < n {
-        out[i] = answers[i];
-        i += 1;
-    }
 }
 
 // Compares the supplier's description with each of 1 to 64 services laid end to end, under a list of pairs and a dictionary, and fills one
@@ -48,12 +34,13 @@ pub fn catalogue(
     let reading = slots::judge_list(pairs, dictionary, c, list, &mut answers);
     match reading {
         Reading::Refused(number, input, place) => Catalogued::Refused(number, input, place),
-        Reading::Accepted(n) => {
-            if out.len() < wide(n) {
+        Reading::Accepted(count) => {
+            let n = usize::from(count);
+            if out.len() < n {
                 return Catalogued::Refused(7, 0, 0);
             }
-            copy(out, &answers, wide(n));
-            Catalogued::Filled(n)
+            out[..n].copy_from_slice(&answers[..n]);
+            Catalogued::Filled(count)
         }
     }
 }

@@ -1,139 +1,78 @@
 // Number 12 of the table of refusals, in a specimen that nothing else refuses. An entry completes a pair where it gives a property, and an
-// earlier entry gives its owner one that makes a pair with it: those beside it in the list are found by the list's index, and whether one of
-// them was given, by a table of the properties given so far.
-ghost use Rattle.std.specs.Prelude.{◌≡◌, ◌&&◌, ◌+◌, ◌≤◌, ◌<◌, eqb, length};
-ghost use Rattle.base.specs.Search.{first_from};
+// earlier entry gives its owner one that makes a pair with it: those that exclude it are found by the list's index, and whether one of them
+// was given, by a table of the properties given so far.
+ghost use Rattle.std.specs.Prelude.{◌≡◌, ◌+◌, ◌≤◌, ◌<◌, length};
 ghost use Rattle.blocks.specs.Entries.{entries_of, nth};
-ghost use Rattle.blocks.specs.code.EntryTable.{Met};
-ghost use Rattle.clashes.specs.Clash.{completes, gives_property, partner_before};
+ghost use Rattle.clashes.specs.Clash.{completes, partner_before};
 ghost use Rattle.clashes.specs.Promise.{apart_ok};
 ghost use Rattle.clashes.specs.code.Given.{given_before};
 ghost use Rattle.pairs.specs.Pairs.{pair_count};
-ghost use Rattle.pairs.specs.code.Index.{PairsIndexed, beside_at, named_at};
+ghost use Rattle.pairs.specs.code.Search.{Finds};
 
-use crate::given::{given_before, note};
-use blocks::{Entry, nth_entry};
-use pairs::{beside, index_pairs, last_naming, names, naming_before};
+use crate::given::Given;
+use blocks::{Entry, Property, nth_entry};
+use pairs::Exclusions;
 
-// Whether number k of the list names the property of entry e, and one of the first n entries gives its owner the property beside it.
-fn given_beside(
-    pairs: &[u8],
-    k: u8,
-    s: &[u8],
-    table: &[u16],
-    most: usize,
-    n: usize,
+// Whether one of the entries before gives the owner of entry e a property that excludes that of e.
+fn partner_before<const MOST: usize, const CELLS: usize>(
+    exclusions: Exclusions,
+    given: &Given<MOST, CELLS>,
     e: Entry,
 ) -> bool
-    requires { Met gives_property (entries_of s.now) most table.now n }
-    ensures { result ≡ (eqb (named_at pairs.now k) e.name && given_before (entries_of s.now) e.owner (beside_at pairs.now k) n) }
+    ensures { result ≡ partner_before exclusions.entry.pairs.now (entries_of given.now.s.now) e.owner e.name given.now.n }
 {
-    if names(pairs, k, e.property()) {
-        given_before(s, table, most, n, e.owner, beside(pairs, k))
-    } else {
-        false
-    }
+    exclusions.excluding(e.property()).any(
+        |q: Property| -> bool
+            ensures { result ≡ given_before (entries_of given.entry.now.s.now) e.owner q.0 given.entry.now.n }
+        { given.has(e.owner, q) },
+    )
 }
 
-// Whether one of the first n entries gives the owner of entry e a property that makes a pair with that of e. A property that is in no pair
-// costs one look.
-fn partner_before(
-    pairs: &[u8],
-    index: &[u8; 512],
-    s: &[u8],
-    table: &[u16],
-    most: usize,
-    n: usize,
+// Whether entry e, the next after those before, completes a pair.
+fn completes_pair<const MOST: usize, const CELLS: usize>(
+    exclusions: Exclusions,
+    given: &Given<MOST, CELLS>,
     e: Entry,
 ) -> bool
-    requires { PairsIndexed pairs.now index.now × Met gives_property (entries_of s.now) most table.now n }
-    ensures { result ≡ partner_before pairs.now (entries_of s.now) e.owner e.name n }
+    requires { e ≡ nth (entries_of given.now.s.now) (given.now.n + 1) }
+    ensures { result ≡ completes exclusions.entry.pairs.now (entries_of given.now.s.now) (given.now.n + 1) }
 {
-    let mut k = last_naming(index, e.property());
-    loop {
-        if k == 0 {
-            break false;
-        }
-        if given_beside(pairs, k, s, table, most, n, e) {
-            break true;
-        }
-        k = naming_before(index, k);
-    }
+    e.kind == 1 && partner_before(exclusions, given, e)
 }
 
-// Whether entry e, which stands after the first n, completes a pair.
-fn completes_pair(
-    pairs: &[u8],
-    index: &[u8; 512],
-    s: &[u8],
-    table: &[u16],
-    most: usize,
-    n: usize,
-    e: Entry,
-) -> bool
-    requires { PairsIndexed pairs.now index.now × Met gives_property (entries_of s.now) most table.now n × (e ≡ nth (entries_of s.now) (n + 1)) }
-    ensures { result ≡ completes pairs.now (entries_of s.now) (n + 1) }
-{
-    if e.kind == 1 {
-        partner_before(pairs, index, s, table, most, n, e)
-    } else {
-        false
-    }
-}
-
-// The lowest of n entries that completes a pair, or 0. The table, blank before, holds the properties given.
-fn clash_by(
-    pairs: &[u8],
-    index: &[u8; 512],
+// The lowest of n entries that completes a pair, found with a table of its own for fewer than MOST entries, of twice MOST cells.
+fn clash_within<const MOST: usize, const CELLS: usize>(
+    exclusions: Exclusions,
     s: &[u8],
     n: usize,
-    table: &mut [u16],
-    most: usize,
-) -> usize
-    requires { PairsIndexed pairs.now index.now × (n < most) × (n ≤ length (entries_of s.now)) × Met gives_property (entries_of s.now) most table.old 0 }
-    ensures { result ≡ first_from (apart_ok pairs.now (entries_of s.now)) 1 n }
+) -> Option<usize>
+    requires { (n < MOST) × (MOST ≤ 2017) × (CELLS ≡ MOST + MOST) × (n ≤ length (entries_of s.now)) }
+    ensures { Finds (apart_ok exclusions.entry.pairs.now (entries_of s.now)) n result }
 {
-    let mut k: usize = 0;
-    loop {
-        if n <= k {
-            break 0;
-        }
+    let mut given = Given::<MOST, CELLS> {
+        s,
+        n: 0,
+        table: [0; CELLS],
+    };
+    for k in 0..n {
         let e = nth_entry(s, n, k + 1);
-        if completes_pair(pairs, index, s, table, most, k, e) {
-            break k + 1;
+        if completes_pair(exclusions, &given, e) {
+            return Some(k + 1);
         }
-        k += 1;
-        note(table, most, k, e);
+        given.add(e);
     }
+    None
 }
 
-// The same with a table of its own, for at most 63 entries.
-fn clash_of_few(pairs: &[u8], index: &[u8; 512], s: &[u8], n: usize) -> usize
-    requires { PairsIndexed pairs.now index.now × (n < 64) × (n ≤ length (entries_of s.now)) }
-    ensures { result ≡ first_from (apart_ok pairs.now (entries_of s.now)) 1 n }
-{
-    let mut table = [0u16; 128];
-    clash_by(pairs, index, s, n, &mut table, 64)
-}
-
-// The same for any number.
-fn clash_of_many(pairs: &[u8], index: &[u8; 512], s: &[u8], n: usize) -> usize
-    requires { PairsIndexed pairs.now index.now × (n ≤ 2016) × (n ≤ length (entries_of s.now)) }
-    ensures { result ≡ first_from (apart_ok pairs.now (entries_of s.now)) 1 n }
-{
-    let mut table = [0u16; 4034];
-    clash_by(pairs, index, s, n, &mut table, 2017)
-}
-
-// The lowest of n entries that completes a pair of a list, or 0.
-pub(crate) fn first_clash(pairs: &[u8], s: &[u8], n: usize) -> usize
+// The lowest of n entries that completes a pair of a list.
+pub(crate) fn first_clash(pairs: &[u8], s: &[u8], n: usize) -> Option<usize>
     requires { (pair_count pairs.now ≤ 64) × (n ≤ 2016) × (n ≤ length (entries_of s.now)) }
-    ensures { (result ≡ first_from (apart_ok pairs.now (entries_of s.now)) 1 n) × (result ≤ 2017) }
+    ensures { Finds (apart_ok pairs.now (entries_of s.now)) n result }
 {
     let mut index = [0u8; 512];
-    index_pairs(pairs, &mut index);
+    let exclusions = Exclusions::new(pairs, &mut index);
     if n < 64 {
-        return clash_of_few(pairs, &index, s, n);
+        return clash_within::<64, 128>(exclusions, s, n);
     }
-    clash_of_many(pairs, &index, s, n)
+    clash_within::<2017, 4034>(exclusions, s, n)
 }

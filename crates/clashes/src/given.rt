@@ -1,88 +1,72 @@
-// The table of the properties given so far, in chains by owner and property: at b the last entry of bucket b, and at `most` + k the one of
-// the same bucket before entry k.
-ghost use Rattle.std.specs.Prelude.{◌≡◌, ◌+◌, ◌≤◌, ◌<◌, length, get_or, set};
-ghost use Rattle.blocks.specs.Entries.{entries_of};
-ghost use Rattle.blocks.specs.code.EntryTable.{Met, entry_hash, noted, owned_as};
+// The properties that the entries of a specimen give, found by owner and property.
+ghost use Rattle.std.specs.Prelude.{◌≡◌, ◌+◌, ◌≤◌, ◌<◌, ◌≢◌, length, get_or, unwrap_or, IfSome};
+ghost use Rattle.blocks.specs.Entries.{entries_of, nth};
+ghost use Rattle.blocks.specs.code.EntryTable.{Met, entry_hash, owned_as};
 ghost use Rattle.clashes.specs.Clash.{gives_property};
 ghost use Rattle.clashes.specs.code.Given.{given_before};
 
-use base::wide;
 use blocks::{Entry, Property, nth_entry};
 
-// The bucket of an owner and a property, of `most`. Tables come in two sizes, and a division by a constant is sooner done.
-fn bucket(owner: u16, p: Property, most: usize) -> usize
-    requires { 0 < most }
-    ensures { (result ≡ entry_hash most owner p.0) × (result < most) }
+// The bucket of an owner and a property, of MOST: a division by a constant.
+fn bucket<const MOST: usize>(owner: u16, p: Property) -> usize
+    requires { 0 < MOST }
+    ensures { (result ≡ entry_hash MOST owner p.0) × (result < MOST) }
 {
-    let x = 31 * wide(owner) + wide(p.0);
-    if most == 2017 {
-        return x % 2017;
-    }
-    if most == 64 {
-        return x % 64;
-    }
-    x % most
+    (31 * usize::from(owner) + usize::from(p.0)) % MOST
 }
 
 // Whether entry x is of an owner and has a property's number for its name.
 fn owned_as(owner: u16, p: Property, x: Entry) -> bool
     ensures { result ≡ owned_as owner p.0 x }
 {
-    if owner == x.owner {
-        p.0 == x.name
-    } else {
+    owner == x.owner && p.0 == x.name
+}
+
+// The properties that the first n entries of a specimen give, in chains: at b the last entry of bucket b, and at MOST + k the one of the same
+// bucket before entry k. There are twice MOST cells. A link is two bytes, and 0 where a chain ends: an Option for each would double the table.
+#[derive(Drop)]
+pub(crate) struct Given<'a, const MOST: usize, const CELLS: usize> {
+    pub(crate) s: &'a [u8],
+    pub(crate) n: usize,
+    pub(crate) table: [u16; CELLS],
+    ghost met: { Met gives_property (entries_of s.now) MOST table n },
+}
+
+impl<const MOST: usize, const CELLS: usize> Given<'_, MOST, CELLS> {
+    // Whether one of the entries gives an owner a property.
+    pub(crate) fn has(&self, owner: u16, p: Property) -> bool
+        ensures { result ≡ given_before (entries_of self.now.s.now) owner p.0 self.now.n }
+    {
+        let mut next = self.link(bucket::<MOST>(owner, p));
+        while let Some(k) = next {
+            if owned_as(owner, p, nth_entry(self.s, self.n, k)) {
+                return true;
+            }
+            next = self.link(MOST + k);
+        }
         false
     }
-}
 
-// The number at an index of the table.
-fn link_at(table: &[u16], i: usize) -> u16
-    requires { i < length table.now }
-    ensures { result ≡ get_or table.now i 0 }
-{
-    table[i]
-}
-
-// Sets the number at an index of the table.
-fn set_link(table: &mut [u16], i: usize, x: u16)
-    requires { i < length table.old }
-    ensures { table.new ≡ set table.old i x }
-{
-    table[i] = x;
-}
-
-// Whether one of the first n entries gives an owner a property.
-pub(crate) fn given_before(
-    s: &[u8],
-    table: &[u16],
-    most: usize,
-    n: usize,
-    owner: u16,
-    p: Property,
-) -> bool
-    requires { Met gives_property (entries_of s.now) most table.now n }
-    ensures { result ≡ given_before (entries_of s.now) owner p.0 n }
-{
-    let mut k = wide(link_at(table, bucket(owner, p, most)));
-    loop {
-        if k == 0 {
-            break false;
-        }
-        if owned_as(owner, p, nth_entry(s, n, k)) {
-            break true;
-        }
-        k = wide(link_at(table, most + k));
+    // The entry at a place of the table, if there is one.
+    fn link(&self, i: usize) -> Option<usize>
+        requires { i < MOST + MOST }
+        ensures number { unwrap_or result 0 ≡ get_or self.now.table i 0 }
+        ensures some { IfSome result (λ k. k ≢ 0) }
+    {
+        let k = usize::from(self.table[i]);
+        (k != 0).then_some(k)
     }
-}
 
-// Puts entry n, which is e, in front of the chain of its bucket, if it gives a property.
-pub(crate) fn note(table: &mut [u16], most: usize, n: usize, e: Entry)
-    requires { (n < most) × (most ≤ 2017) × (length table.old ≡ most + most) }
-    ensures { table.new ≡ noted gives_property most table.old n e }
-{
-    if e.kind == 1 {
-        let b = bucket(e.owner, e.property(), most);
-        set_link(table, most + n, link_at(table, b));
-        set_link(table, b, n as u16);
+    // Takes the next entry, which is e: in front of the chain of its bucket, if it gives a property.
+    pub(crate) fn add(&mut self, e: Entry)
+        requires { (self.old.n + 1 < MOST) × (self.old.n + 1 ≤ length (entries_of self.old.s.now)) × (e ≡ nth (entries_of self.old.s.now) (self.old.n + 1)) }
+        ensures { (self.new.n ≡ self.old.n + 1) × (self.new.s ≡ self.old.s) }
+    {
+        self.n += 1;
+        if e.kind == 1 {
+            let b = bucket::<MOST>(e.owner, e.property());
+            self.table[MOST + self.n] = self.table[b];
+            self.table[b] = self.n as u16;
+        }
     }
 }

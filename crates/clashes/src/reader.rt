@@ -15,11 +15,10 @@ fn read_clashes(pairs: &[u8], s: &[u8], m: u16, n: u16) -> Reading
     requires { (pairs_reading pairs.now ≡ Reading.Accepted m) × (reading_of Schema.Specimen 1 s.now ≡ Reading.Accepted n) }
     ensures { result ≡ specimen_reading pairs.now s.now }
 {
-    let place = first_clash(pairs, s, n as usize);
-    if place == 0 {
-        return Reading::Accepted(n);
+    match first_clash(pairs, s, usize::from(n)) {
+        Some(place) => Reading::Refused(12, 1, place as u16),
+        None => Reading::Accepted(n),
     }
-    Reading::Refused(12, 1, place as u16)
 }
 
 // Reads a specimen under an accepted list of m pairs. Where there is none, nothing more is read than without a list.

@@ -1,6 +1,6 @@
 -- Mirrors of the code: the contracts of its functions cite these, and no promise to the customer does.
 
--- What a place is asked for, as names and numbers: the enums of src/asked.rt.
+-- What a place is asked for, as names and numbers.
 pub mod Asked
 -- The places of a specimen as codes: a place of the first description's slots, and how far on the path to the entry that fails.
 pub mod Codes
@@ -10,3 +10,5 @@ pub mod Tags
 pub mod Laying
 -- What is known where an entry fails: two descriptions, the slots of the first, and room.
 pub mod Prepared
+-- A code of places, one for each.
+pub mod PlaceCode

@@ -1,80 +1,95 @@
 // What a place of the specimen is asked for beyond what the first description says there: on the path to the entry that fails, an item by
-// the next link; at its end, what the entry denies. A target is a number: 0 asks nothing, i + 1 stands i links down the path of m links.
+// the next link; at its end, what the entry denies. A target is a number: 0 asks nothing, i + 1 stands i links down the path.
 ghost use Rattle.std.specs.Prelude.{◌≡◌, List, ℕ, ◌+◌, ◌*◌, ◌≤◌};
 ghost use Rattle.meaning.specs.Description.{atom_of};
 ghost use Rattle.logic.specs.Witness.{target_links, target_properties, want};
 ghost use Rattle.compare.specs.code.Codes.{target_at, target_below, up_from};
-ghost use Rattle.compare.specs.code.Asked.{One, code_asked, least_asked, link_in, property_in};
+ghost use Rattle.compare.specs.code.Asked.{One, code_asked, least_asked, link_in, names_in, property_in};
 
-use crate::path::link_at;
-use base::long;
-use blocks::{Entry, Link, Property};
+use crate::items::Items;
+use crate::path::Path;
+use blocks::{Link, Property};
 
-// The property that a place is asked for, if any.
-#[derive(Clone, Copy)]
-pub(crate) enum AskedProperty {
-    Nothing,
-    Property(Property),
+// The kinds of entries that ask for something where they are denied.
+const LACKS: u8 = 2;
+
+const AT_MOST: u8 = 4;
+
+// A link is no property's number, nor is a property's number a link's.
+impl Path {
+    // The property that is asked for: that of a 'lacks' at the end of the path.
+    pub(crate) fn asked_property(&self, target: usize) -> Option<Property>
+        requires { target ≤ self.now.depth + 1 }
+        ensures { One (property_in result) × (target_properties (target_at (up_from self.now.links self.now.depth) (atom_of self.now.entry) target) ≡ property_in result) }
+    {
+        let e = self.entry;
+        if target == self.depth() + 1 && e.kind == LACKS {
+            Some(e.property())
+        } else {
+            None
+        }
+    }
+
+    // The items that are asked for: one by the next link of the path; at its end, one more than an 'at most' allows.
+    pub(crate) fn asked_items(&self, target: usize) -> Option<Items>
+        requires { target ≤ self.now.depth + 1 }
+        ensures { One (link_in result) × (target_links (target_at (up_from self.now.links self.now.depth) (atom_of self.now.entry) target) ≡ link_in result)
+            × ((x : ℕ) → want (target_at (up_from self.now.links self.now.depth) (atom_of self.now.entry) target) x ≡ least_asked result x)
+            × ((x : ℕ) → 1024 * target_below (up_from self.now.links self.now.depth) target x ≡ code_asked result x) }
+    {
+        if target == 0 {
+            return None;
+        }
+        let depth = self.depth();
+        if target <= depth {
+            return Some(Items {
+                link: self.link(depth - target),
+                count: 1,
+                code: (1024 * (target + 1)) as u16,
+            });
+        }
+        let e = self.entry;
+        if e.kind != AT_MOST {
+            return None;
+        }
+        Some(Items {
+            link: e.link(),
+            count: u64::from(e.number) + 1,
+            code: 0,
+        })
+    }
 }
 
-// The link by which a place is asked for items, if any: how many, and 1,024 times the target of the place that they lead to. A link is no
-// property's number, nor is a property's number a link's.
-#[derive(Clone, Copy)]
-pub(crate) enum AskedLink {
-    Nothing,
-    Items(Link, u64, u16),
-}
-
-// The property that is asked for: that of a 'lacks' at the end of the path.
-pub(crate) fn asked_property(target: usize, m: usize, e: Entry) -> AskedProperty
-    requires { (target ≤ m + 1) × (m ≤ 32) }
-    ensures { One (property_in result) × ((links : List ℕ) → target_properties (target_at (up_from links m) (atom_of e) target) ≡ property_in result) }
+// The name of the property that is asked for.
+pub(crate) fn property_name(asked: Option<Property>) -> Option<u16>
+    ensures { names_in result ≡ property_in asked }
 {
-    if target != m + 1 {
-        return AskedProperty::Nothing;
-    }
-    if e.kind != 2 {
-        return AskedProperty::Nothing;
-    }
-    AskedProperty::Property(e.property())
+    asked.map(|p| p.0)
 }
 
-// The items that are asked for: one by the next link of the path; at its end, one more than an 'at most' allows.
-pub(crate) fn asked_link(target: usize, links: &[u16; 32], m: usize, e: Entry) -> AskedLink
-    requires { (target ≤ m + 1) × (m ≤ 32) }
-    ensures { One (link_in result) × (target_links (target_at (up_from links.now m) (atom_of e) target) ≡ link_in result)
-        × ((x : ℕ) → want (target_at (up_from links.now m) (atom_of e) target) x ≡ least_asked result x)
-        × ((x : ℕ) → 1024 * target_below (up_from links.now m) target x ≡ code_asked result x)
-        × ((x : ℕ) → least_asked result x ≤ 65536) × ((x : ℕ) → code_asked result x ≤ 33792) }
+// The name of the link of which items are asked for.
+pub(crate) fn link_name(asked: Option<Items>) -> Option<u16>
+    ensures { names_in result ≡ link_in asked }
 {
-    if target == 0 {
-        return AskedLink::Nothing;
-    }
-    if target <= m {
-        return AskedLink::Items(link_at(links, m - target), 1, (1024 * (target + 1)) as u16);
-    }
-    if e.kind != 4 {
-        return AskedLink::Nothing;
-    }
-    AskedLink::Items(e.link(), long(e.number) + 1, 0)
+    asked.map(|items| items.link.0)
 }
 
 // How many items of a link are asked for.
-pub(crate) fn least_asked(asked: AskedLink, l: Link) -> u64
+pub(crate) fn least_asked(asked: Option<Items>, l: Link) -> u64
     ensures { result ≡ least_asked asked l.0 }
 {
     match asked {
-        AskedLink::Nothing => 0,
-        AskedLink::Items(k, n, _) => { if l.0 == k.0 { n } else { 0 } }
+        Some(items) if l.0 == items.link.0 => items.count,
+        _ => 0,
     }
 }
 
 // The code of the target that they lead to.
-pub(crate) fn code_asked(asked: AskedLink, l: Link) -> u16
+pub(crate) fn code_asked(asked: Option<Items>, l: Link) -> u16
     ensures { result ≡ code_asked asked l.0 }
 {
     match asked {
-        AskedLink::Nothing => 0,
-        AskedLink::Items(k, _, c) => { if l.0 == k.0 { c } else { 0 } }
+        Some(items) if l.0 == items.link.0 => items.code,
+        _ => 0,
     }
 }

@@ -8,9 +8,11 @@
 #![tactic(auto)]
 
 mod asked;
+mod items;
 mod path;
 mod places;
 mod rows;
+mod settled;
 mod specimen;
 mod verdict;
 

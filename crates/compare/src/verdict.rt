@@ -1,85 +1,60 @@
 // The comparison. Whether all entries of the second description hold is asked of the normal form's layer, which slots the first and leaves
 // its slots in a lent table. Only where one fails is the specimen written to the output, from these slots. Tables are made in two sizes, so
 // that two descriptions of one block each do not pay for clearing tables for 1,008 entries.
-ghost use Rattle.std.specs.Prelude.{◌≡◌, ◌*◌, ◌+◌, ◌≤◌, leb, ltb, length, replicate, ◌&&◌};
+ghost use Rattle.std.specs.Prelude.{◌≡◌, ◌*◌, ◌+◌, ◌≤◌, ◌<◌, leb, ltb, length, min, replicate, ◌&&◌};
 ghost use Rattle.logic.specs.Background.{Background, Ruled};
 ghost use Rattle.slots.specs.code.Standing.{BothRead};
 ghost use Rattle.compare.specs.Answer.{compare_of, compare_under, output_of, output_under};
 ghost use Rattle.compare.specs.code.Prepared.{Agreed, Failed, FailedSomehow, Roomy, Showable, shown_after, shown_by};
 
 use crate::Comparison;
-use crate::path::links_up;
+use crate::path::Path;
+use crate::settled::Workspace;
 use crate::specimen::specimen_rows;
 use slots::Holding;
 
 // Writes the specimen that the slots give for entry n of a description, in lent tables, and returns its number of entries.
-fn write_specimen(
-    table: &[u64],
-    d: &[u8],
-    n: usize,
-    last: &mut [u16],
-    before: &mut [u16],
-    order: &mut [u64],
-    rows: &mut [u64],
-    below: &mut [u16],
-    out: &mut [u8],
-) -> usize
-    requires { Showable table.now d.now n (length rows.old) out.old × (last.old ≡ replicate (length last.old) 0) × (2 * length table.now ≤ length last.old)
-        × (length table.now ≤ length before.old) × (length table.now ≤ length order.old) × (below.old ≡ replicate (length rows.old + 1) 0) }
+fn write_specimen(table: &[u64], d: &[u8], n: usize, work: Workspace, out: &mut [u8]) -> usize
+    requires { Showable table.now d.now n (length work.rows.now) out.old × (work.last.now ≡ replicate (length work.last.now) 0) × (2 * length table.now ≤ length work.last.now)
+        × (length table.now ≤ length work.before.now) × (length table.now ≤ length work.order.now) × (work.below.now ≡ replicate (length work.rows.now + 1) 0) }
     ensures { (result ≡ length (shown_by table.now d.now n)) × (result ≤ 2016) × (out.new ≡ shown_after table.now d.now n out.old) }
 {
-    let mut links = [0u16; 32];
-    let m = links_up(d, n, &mut links);
-    let e = lent::entry_held(d, n, n);
-    let count = specimen_rows(table, last, before, &links, m, e, order, rows, below);
+    let Workspace {
+        last,
+        before,
+        order,
+        rows,
+        below,
+    } = work;
+    let path = Path::to(d, n);
+    let count = specimen_rows(table, &path, last, before, order, rows, below);
     writing::write_entries(out, rows, count);
     count
 }
 
-// The same with tables of its own, where the two descriptions are of one block each.
-fn show_few(table: &[u64], d: &[u8], n: usize, out: &mut [u8]) -> usize
-    requires { Showable table.now d.now n 126 out.old × (length table.now ≤ 64) }
+// The same with tables of its own, for so many slots and rows.
+fn show_sized<const SLOTS: usize, const RUNS: usize, const ROWS: usize, const PLACES: usize>(
+    table: &[u64],
+    d: &[u8],
+    n: usize,
+    out: &mut [u8],
+) -> usize
+    requires { Showable table.now d.now n ROWS out.old × (length table.now ≤ SLOTS) × (SLOTS ≤ 1009) × (RUNS ≡ 2 * SLOTS) × (PLACES ≡ ROWS + 1) }
     ensures { (result ≡ length (shown_by table.now d.now n)) × (result ≤ 2016) × (out.new ≡ shown_after table.now d.now n out.old) }
 {
-    let mut last = [0u16; 128];
-    let mut before = [0u16; 64];
-    let mut order = [0u64; 64];
-    let mut rows = [0u64; 126];
-    let mut below = [0u16; 127];
-    write_specimen(
-        table,
-        d,
-        n,
-        &mut last,
-        &mut before,
-        &mut order,
-        &mut rows,
-        &mut below,
-        out,
-    )
-}
-
-// The same for any two.
-fn show_many(table: &[u64], d: &[u8], n: usize, out: &mut [u8]) -> usize
-    requires { Showable table.now d.now n 2016 out.old }
-    ensures { (result ≡ length (shown_by table.now d.now n)) × (result ≤ 2016) × (out.new ≡ shown_after table.now d.now n out.old) }
-{
-    let mut last = [0u16; 2018];
-    let mut before = [0u16; 1009];
-    let mut order = [0u64; 1009];
-    let mut rows = [0u64; 2016];
-    let mut below = [0u16; 2017];
-    write_specimen(
-        table,
-        d,
-        n,
-        &mut last,
-        &mut before,
-        &mut order,
-        &mut rows,
-        &mut below,
-        out,
-    )
+    let mut last = [0u16; RUNS];
+    let mut before = [0u16; SLOTS];
+    let mut order = [0u64; SLOTS];
+    let mut rows = [0u64; ROWS];
+    let mut below = [0u16; PLACES];
+    let work = Workspace {
+        last: &mut last,
+        before: &mut before,
+        order: &mut order,
+        rows: &mut rows,
+        below: &mut below,
+    };
+    write_specimen(table, d, n, work, out)
 }
 
 // Whether two descriptions are of one block each.
@@ -95,10 +70,12 @@ fn show(c: &[u8], d: &[u8], n: usize, table: &[u64], out: &mut [u8]) -> Comparis
     ensures { (b : Background) → Ruled b → Failed b c.now d.now n table.now
         → (result ≡ compare_under b c.now d.now out.old) × (out.new ≡ output_under b c.now d.now out.old) }
 {
-    if are_small(c, d) {
-        return Comparison::NotContained(n as u16, show_few(table, d, n, out) as u16);
-    }
-    Comparison::NotContained(n as u16, show_many(table, d, n, out) as u16)
+    let count = if are_small(c, d) {
+        show_sized::<64, 128, 126, 127>(table, d, n, out)
+    } else {
+        show_sized::<1009, 2018, 2016, 2017>(table, d, n, out)
+    };
+    Comparison::NotContained(n as u16, count as u16)
 }
 
 // Whether an output is shorter than two descriptions together.
@@ -142,23 +119,16 @@ fn compare_in(pairs: &[u8], c: &[u8], d: &[u8], table: &mut [u64], out: &mut [u8
     match holding {
         Holding::Refused(number, input, place) => Comparison::Refused(number, input, place),
         Holding::All => agree(c, d, out),
-        Holding::Fails(n, used) => deny(c, d, n as usize, &table[0..used as usize + 1], out),
+        Holding::Fails(n, used) => deny(c, d, usize::from(n), &table[..usize::from(used) + 1], out),
     }
 }
 
-// The same with a table of its own, where the first description is of one block, and where it is any.
-fn compare_few(pairs: &[u8], c: &[u8], d: &[u8], out: &mut [u8]) -> Comparison
-    requires { length c.now ≤ 512 }
+// The same with a table of its own, for so many slots.
+fn compare_sized<const SLOTS: usize>(pairs: &[u8], c: &[u8], d: &[u8], out: &mut [u8]) -> Comparison
+    requires { (63 * min (length c.now) 8192 < 512 * SLOTS) × (SLOTS ≤ 1009) }
     ensures { (result ≡ compare_of pairs.now c.now d.now out.old) × (out.new ≡ output_of pairs.now c.now d.now out.old) }
 {
-    let mut table = [0u64; 64];
-    compare_in(pairs, c, d, &mut table, out)
-}
-
-fn compare_many(pairs: &[u8], c: &[u8], d: &[u8], out: &mut [u8]) -> Comparison
-    ensures { (result ≡ compare_of pairs.now c.now d.now out.old) × (out.new ≡ output_of pairs.now c.now d.now out.old) }
-{
-    let mut table = [0u64; 1009];
+    let mut table = [0u64; SLOTS];
     compare_in(pairs, c, d, &mut table, out)
 }
 
@@ -171,7 +141,7 @@ pub fn compare(pairs: &[u8], c: &[u8], d: &[u8], out: &mut [u8]) -> Comparison
     ensures { (result ≡ compare_of pairs.now c.now d.now out.old) × (out.new ≡ output_of pairs.now c.now d.now out.old) }
 {
     if are_small(c, d) {
-        return compare_few(pairs, c, d, out);
+        return compare_sized::<64>(pairs, c, d, out);
     }
-    compare_many(pairs, c, d, out)
+    compare_sized::<1009>(pairs, c, d, out)
 }

@@ -1,110 +1,146 @@
 // What the items of one group of a specimen have: properties, and items that they are linked to.
-ghost use Rattle.std.specs.Prelude.{◌≡◌, ◌||◌, not, ◌%◌, ◌-◌, ◌<◌, eqb, get_or, length};
+ghost use Rattle.std.specs.Prelude.{◌≡◌, ◌%◌, ◌-◌, ◌+◌, ◌≤◌, ◌<◌, eqb, get_or, length};
 ghost use Rattle.blocks.specs.Entries.{entries_of};
-ghost use Rattle.fit.specs.code.Groups.{has_bare, has_property, meets_atom};
 ghost use Rattle.blocks.specs.declared.Schema.{Schema};
-ghost use Rattle.fit.specs.code.Index.{Ready, any_of, is_of};
-ghost use Rattle.fit.specs.code.Rows.{Known};
+ghost use Rattle.fit.specs.Totals.{TotalsOf};
+ghost use Rattle.fit.specs.code.Groups.{has_bare, has_property, meets_atom};
+ghost use Rattle.fit.specs.code.Index.{Ready, any_of, hash_of, is_of};
+ghost use Rattle.fit.specs.code.Rows.{Singles};
 
+use crate::chain::Chain;
 use crate::entries::entry_at;
-use crate::index::{hash, last_of, previous_of};
-use crate::totals::{at_most, total_of};
+use crate::index::hash;
+use crate::totals::Totals;
 use blocks::{Entry, Link, Property};
+
+// The kinds of a specimen's entries, by their numbers in the format, and the one by which groups that own nothing are found.
+const PROPERTY: u8 = 1;
+
+const GROUP: u8 = 7;
+
+const BARE: u8 = 8;
 
 // Whether an entry is of this owner, kind and name. Only the functions below call it: their types say which names are whose.
 fn is_of(e: Entry, owner: usize, kind: u8, name: u16) -> bool
     ensures { result ≡ is_of e owner kind name }
 {
-    if e.owner as usize != owner {
-        return false;
-    }
-    if e.kind == kind {
-        e.name == name
-    } else {
-        false
-    }
+    usize::from(e.owner) == owner && e.kind == kind && e.name == name
 }
 
 // Whether an entry is a group by a link that group g owns.
 pub(crate) fn is_group(e: Entry, g: usize, l: Link) -> bool
     ensures { result ≡ is_of e g 7 l.0 }
 {
-    is_of(e, g, 7, l.0)
+    is_of(e, g, GROUP, l.0)
 }
 
-// Whether an entry of bucket b is of this owner, kind and name.
-fn any_of(s: &[u8], index: &[u16], most: usize, b: usize, g: usize, kind: u8, name: u16) -> bool
-    requires { Ready Schema.Specimen most s.now index.now × (b < most) }
-    ensures { result ≡ any_of most (entries_of s.now) b g kind name }
-{
-    let mut k = last_of(index, b);
-    loop {
-        if k == 0 {
-            break false;
+// A specimen with its index: its entries stand in buckets, of `most`, by owner, kind and name.
+#[derive(Clone, Copy)]
+pub(crate) struct Items<'a> {
+    pub bytes: &'a [u8],
+    pub index: &'a [u16],
+    pub most: usize,
+    ghost ready: { Ready Schema.Specimen most bytes.now index.now },
+    ghost even: { (most - 1) % 2 ≡ 1 },
+}
+
+impl<'a> Items<'a> {
+    // The entries of the bucket of an owner, a kind and a name, from the last back.
+    #[inline(always)]
+    fn bucket(&self, g: usize, kind: u8, name: u16) -> Chain<'a>
+        requires { g < 2048 }
+        ensures { (result.table.now ≡ self.now.index.now) × (result.most ≡ self.now.most) × (result.next ≡ get_or self.now.index.now (hash_of self.now.most g kind name) 0) }
+    {
+        Chain::of_bucket(self.index, self.most, hash(self.most, g, kind, name))
+    }
+
+    // The entries of the bucket where group g's groups by a link stand, from the last back.
+    #[inline(always)]
+    pub(crate) fn groups_by(&self, g: usize, l: Link) -> Chain<'a>
+        requires { g < 2048 }
+        ensures { (result.table.now ≡ self.now.index.now) × (result.most ≡ self.now.most) × (result.next ≡ get_or self.now.index.now (hash_of self.now.most g 7 l.0) 0) }
+    {
+        self.bucket(g, GROUP, l.0)
+    }
+
+    // The entries of a bucket from number k back.
+    #[inline(always)]
+    pub(crate) fn back_from(&self, k: usize) -> Chain<'a>
+        requires { k ≤ length (entries_of self.now.bytes.now) }
+        ensures { (result.table.now ≡ self.now.index.now) × (result.most ≡ self.now.most) × (result.next ≡ k) }
+    {
+        Chain::from_number(self.index, self.most, k)
+    }
+
+    // Whether no entry stands before number k in its bucket.
+    #[inline(always)]
+    pub(crate) fn is_first(&self, k: usize) -> bool
+        requires { k ≤ length (entries_of self.now.bytes.now) }
+        ensures { result ≡ eqb (get_or self.now.index.now (self.now.most + k) 0) 0 }
+    {
+        self.index[self.most + k] == 0
+    }
+
+    // Whether an entry of the bucket by which owner, kind and name are found is of this owner, kind and name.
+    fn any_of(&self, code: u8, g: usize, kind: u8, name: u16) -> bool
+        requires { g < 2048 }
+        ensures { result ≡ any_of self.now.most (entries_of self.now.bytes.now) (hash_of self.now.most g code name) g kind name }
+    {
+        for k in self.bucket(g, code, name) {
+            if is_of(entry_at(self.bytes, k), g, kind, name) {
+                return true;
+            }
         }
-        if is_of(entry_at(s, k), g, kind, name) {
-            break true;
-        }
-        k = previous_of(index, most, k);
+        false
+    }
+
+    // Whether the items of group g have a property: whether an entry that g owns gives it.
+    pub(crate) fn has_property(&self, g: usize, p: Property) -> bool
+        requires { g < 2048 }
+        ensures { result ≡ has_property (entries_of self.now.bytes.now) g p.0 }
+    {
+        self.any_of(PROPERTY, g, PROPERTY, p.0)
+    }
+
+    // Whether group g has a group by a link that owns nothing.
+    pub(crate) fn has_bare(&self, g: usize, l: Link) -> bool
+        requires { g < 2048 }
+        ensures { result ≡ has_bare (entries_of self.now.bytes.now) g l.0 }
+    {
+        self.any_of(BARE, g, GROUP, l.0)
     }
 }
 
-// Whether the items of group g have a property: whether an entry that g owns gives it.
-fn has_property(s: &[u8], index: &[u16], most: usize, g: usize, p: Property) -> bool
-    requires { Ready Schema.Specimen most s.now index.now × (g < 2048) }
-    ensures { result ≡ has_property (entries_of s.now) g p.0 }
-{
-    any_of(s, index, most, hash(most, g, 1, p.0), g, 1, p.0)
+// What judging knows of a specimen: its entries by their index, and the table of totals.
+#[derive(Clone, Copy)]
+pub(crate) struct Known<'a> {
+    pub items: Items<'a>,
+    pub totals: Totals<'a>,
+    ghost counted: { ∥ TotalsOf (entries_of items.bytes.now) (length (entries_of items.bytes.now)) totals.rows.now totals.used ∥₁ },
+    ghost single: { Singles (entries_of items.bytes.now) (length (entries_of items.bytes.now)) },
 }
 
-// Whether group g has a group by a link that owns nothing.
-fn has_bare(s: &[u8], index: &[u16], most: usize, g: usize, l: Link) -> bool
-    requires { Ready Schema.Specimen most s.now index.now × (g < 2048) × ((most - 1) % 2 ≡ 1) }
-    ensures { result ≡ has_bare (entries_of s.now) g l.0 }
-{
-    any_of(s, index, most, hash(most, g, 8, l.0), g, 7, l.0)
-}
-
-// Whether group g has a group by a link that owns nothing, and an item with nothing does not fit the place of entry e.
-pub(crate) fn bare_fails(
-    s: &[u8],
-    index: &[u16],
-    marks: &[u8],
-    most: usize,
-    g: usize,
-    l: Link,
-    e: usize,
-) -> bool
-    requires { Ready Schema.Specimen most s.now index.now × (g < 2048) × (e < length marks.now) × ((most - 1) % 2 ≡ 1) }
-    ensures { result ≡ not (eqb (get_or marks.now e 0) 0 || not (has_bare (entries_of s.now) g l.0)) }
-{
-    if marks[e] == 0 {
-        return false;
+impl<'a> Known<'a> {
+    // What is known of the specimen that has these items and this table.
+    pub(crate) fn new(items: Items<'a>, totals: Totals<'a>) -> Known<'a>
+        requires { ∥ TotalsOf (entries_of items.bytes.now) (length (entries_of items.bytes.now)) totals.rows.now totals.used ∥₁ × Singles (entries_of items.bytes.now) (length (entries_of items.bytes.now)) }
+        ensures { result.items.bytes.now ≡ items.entry.bytes.now }
+    {
+        Known { items, totals }
     }
-    has_bare(s, index, most, g, l)
-}
 
-// Whether the items of group g meet an entry of a description that owns no place. Totals come from the table: nothing is added here.
-pub(crate) fn meets_atom(
-    s: &[u8],
-    si: &[u16],
-    rows: &[u64],
-    links: &[u16],
-    most: usize,
-    used: usize,
-    g: usize,
-    e: Entry,
-    adds: &mut u16,
-) -> bool
-    requires { Known most s.now si.now rows.now links.now used × (g < 2048) }
-    ensures { (result ≡ meets_atom (entries_of s.now) g e) × (adds.new ≡ adds.old) }
-{
-    let kind = e.kind;
-    match kind {
-        1 => has_property(s, si, most, g, e.property()),
-        2 => !has_property(s, si, most, g, e.property()),
-        3 => e.number as u32 <= total_of(rows, links, most, used, g, e.link()),
-        4 => at_most(rows, links, most, used, g, e.link(), e.number),
-        _ => false,
+    // Whether the items of group g meet an entry of a description that owns no place. Totals come from the table: nothing is added here.
+    #[tactic(auto, unfolding(crate::specs::code::Groups::meets_atom))]
+    pub(crate) fn meets_atom(&self, g: usize, e: Entry, adds: &mut u16) -> bool
+        requires { g < 2048 }
+        ensures { (result ≡ meets_atom (entries_of self.now.items.bytes.now) g e) × (adds.new ≡ adds.old) }
+    {
+        match e.kind {
+            1 => self.items.has_property(g, e.property()),
+            2 => !self.items.has_property(g, e.property()),
+            3 => u32::from(e.number) <= self.totals.total_of(g, e.link()),
+            4 => self.totals.at_most(g, e.link(), e.number),
+            _ => false,
+        }
     }
 }

@@ -3,166 +3,125 @@
 // specimen at most once, and over the first group found once more. So the time grows at most with the product of the two inputs' numbers of
 // entries, 2,016 · 1,008, at some nanoseconds each, and is far less where groups are few or have places of their own.
 //
-// They are handed the tables that stay as they are: `si`, `ri` and `di` are the indexes of the specimen, of the rows of totals and of the
-// description, and `dm` marks the places of the description that an item with nothing does not fit.
-ghost use Rattle.std.specs.Prelude.{◌&&◌, cond, false, true, ◌≢◌, ◌≡◌, ◌%◌, ◌-◌, ◌≤◌, ◌<◌, eqb, length};
+// They are handed what stays as it is: what is known of the specimen, and the places of the description.
+ghost use Rattle.std.specs.Prelude.{◌≡◌, ◌-◌, ◌≤◌, ◌<◌, length};
 ghost use Rattle.base.specs.Chain.{OnChain};
 ghost use Rattle.blocks.specs.Entries.{entries_of, nth};
-ghost use Rattle.blocks.specs.code.Blockwise.{Whole};
 ghost use Rattle.blocks.specs.declared.Schema.{Schema};
-ghost use Rattle.fit.specs.code.Bare.{Marked, demands};
-ghost use Rattle.fit.specs.code.Groups.{Rests, fits_place, groups_fit, meets_entry};
-ghost use Rattle.fit.specs.code.Index.{Ready, bucket_of, hash_of};
-ghost use Rattle.fit.specs.code.Rows.{Known};
+ghost use Rattle.fit.specs.code.Groups.{Told, fits_place, groups_fit};
+ghost use Rattle.fit.specs.code.Index.{bucket_of, hash_of};
 
 use crate::entries::entry_at;
-use crate::groups::{bare_fails, is_group, meets_atom};
-use crate::index::{last_group, last_of, previous_of};
+use crate::groups::{Known, is_group};
+use crate::places::Places;
 
-// Whether both numbers are 0.
-fn neither(a: usize, b: usize) -> bool
-    ensures { result ≡ (eqb a 0 && eqb b 0) }
-{
-    if a == 0 { b == 0 } else { false }
+// How the items of a group meet an entry: they do, they do not, or that rests on the groups by the entry's link from one back in their bucket,
+// which must all fit the place that the entry owns.
+#[derive(Clone, Copy)]
+pub(crate) enum Verdict {
+    Met,
+    Unmet,
+    RestsOn(usize),
 }
 
-// Whether an entry that owns no place is met, as a number: it rests on no group.
-fn rest_of(met: bool) -> usize
-    ensures { result ≡ cond met 0 65535 }
-{
-    if met { 0 } else { 65535 }
-}
-
-// Whether the items of group g meet entry e of the description: 0 if they do, 65,535 if not, and else the last of the groups on which that
-// rests, which must all fit the place that e owns: `meets_every` goes on from there. It calls nothing that calls it, so that the tables are at
-// hand in the loop that calls it.
+// How the items of group g meet entry e of the description; where that rests on groups, `meets_every` goes on from the last of them. It calls
+// nothing that calls it, so that the tables are at hand in the loop that calls it.
 fn meets_entry(
-    s: &[u8],
-    si: &[u16],
-    rows: &[u64],
-    ri: &[u16],
-    d: &[u8],
-    dm: &[u8],
-    most: usize,
-    used: usize,
+    known: &Known,
+    places: &Places,
     g: usize,
     e: usize,
     left: usize,
     adds: &mut u16,
-) -> usize
-    requires { Known most s.now si.now rows.now ri.now used × Whole d.now (length (entries_of d.now)) × Marked demands (entries_of d.now) (length (entries_of d.now)) most dm.now × (g < 2048) × (e < most) × (length (entries_of d.now) < 2048) × ((most - 1) % 2 ≡ 1) × (1 ≤ e) × (e ≤ length (entries_of d.now)) }
-    ensures { (result ≡ 0 → meets_entry left (entries_of s.now) (entries_of d.now) g e ≡ true) × (result ≡ 65535 → meets_entry left (entries_of s.now) (entries_of d.now) g e ≡ false)
-        × (result ≢ 0 → result ≢ 65535 → Rests most left (entries_of s.now) (entries_of d.now) g e (nth (entries_of d.now) e).name result) × (adds.new ≡ adds.old) }
+) -> Verdict
+    requires { (g < 2048) × (1 ≤ e) × (e ≤ length (entries_of places.now.bytes.now)) }
+    ensures { Told known.now.items.most left (entries_of known.now.items.bytes.now) (entries_of places.now.bytes.now) g e result × (adds.new ≡ adds.old) }
 {
     if left == 0 {
-        return 65535;
+        return Verdict::Unmet;
     }
-    let entry = entry_at(d, e);
+    let entry = entry_at(places.bytes, e);
     let kind = entry.kind;
     if kind != 5 {
-        return rest_of(meets_atom(s, si, rows, ri, most, used, g, entry, adds));
+        if known.meets_atom(g, entry, adds) {
+            return Verdict::Met;
+        }
+        return Verdict::Unmet;
     }
     let link = entry.link();
-    if bare_fails(s, si, dm, most, g, link, e) {
-        return 65535;
+    if places.demands(e) && known.items.has_bare(g, link) {
+        return Verdict::Unmet;
     }
-    let mut h = last_group(si, most, g, link);
-    loop {
-        if h == 0 {
-            break 0;
+    for h in known.items.groups_by(g, link) {
+        if is_group(entry_at(known.items.bytes, h), g, link) {
+            return Verdict::RestsOn(h);
         }
-        if is_group(entry_at(s, h), g, link) {
-            break h;
-        }
-        h = previous_of(si, most, h);
     }
+    Verdict::Met
 }
 
 // Whether the items of group g fit the place that entry o of the description owns, followed down for `left` levels. Where one group is all
-// that is left to judge, it is judged in the stead of g, with no call: to hand seven tables on costs more than to judge a group of a chain.
+// that is left to judge, it is judged in the stead of g, with no call: that costs more than to judge a group of a chain. A `for` could not
+// begin anew at another place.
 #[cycle(fits_place_meets_every)]
 pub(crate) fn fits_place(
-    s: &[u8],
-    si: &[u16],
-    rows: &[u64],
-    ri: &[u16],
-    d: &[u8],
-    di: &[u16],
-    dm: &[u8],
-    most: usize,
-    used: usize,
+    known: &Known,
+    places: &Places,
     g: usize,
     o: usize,
     left: usize,
     adds: &mut u16,
 ) -> bool
-    requires { Known most s.now si.now rows.now ri.now used × Ready Schema.Description most d.now di.now × Marked demands (entries_of d.now) (length (entries_of d.now)) most dm.now × (g < 2048) × (o < most) × (left ≤ 33) × ((most - 1) % 2 ≡ 1) }
-    ensures { (result ≡ fits_place left (entries_of s.now) (entries_of d.now) g o) × (adds.new ≡ adds.old) }
+    requires { (g < 2048) × (o < places.now.most) × (left ≤ 33) }
+    ensures { (result ≡ fits_place left (entries_of known.now.items.bytes.now) (entries_of places.now.bytes.now) g o) × (adds.new ≡ adds.old) }
 {
     let mut g = g;
     let mut left = left;
-    let mut next = last_of(di, o);
-    loop {
-        if next == 0 {
-            break true;
-        }
-        let e = next;
-        next = previous_of(di, most, e);
-        let h = meets_entry(s, si, rows, ri, d, dm, most, used, g, e, left, adds);
-        if h == 0 {
-            continue;
-        }
-        if h == 65535 {
-            break false;
-        }
-        if neither(next, previous_of(si, most, h)) {
-            g = h;
-            left -= 1;
-            next = last_of(di, e);
-            continue;
-        }
-        if !meets_every(s, si, rows, ri, d, di, dm, most, used, g, e, h, left, adds) {
-            break false;
+    // Copies of its own stand in registers; those that it is lent are handed on.
+    let (k, p) = (*known, *places);
+    let mut rest = p.entries(o);
+    while let Some(e) = rest.next() {
+        match meets_entry(&k, &p, g, e, left, adds) {
+            Verdict::Met => {}
+            Verdict::Unmet => return false,
+            Verdict::RestsOn(h) => {
+                if rest.is_done() && k.items.is_first(h) {
+                    g = h;
+                    left -= 1;
+                    rest = p.entries(e);
+                } else if !meets_every(known, places, g, e, h, left, adds) {
+                    return false;
+                }
+            }
         }
     }
+    true
 }
 
 // Whether group g meets 'every' entry e of the description by its groups from number h back in their bucket: whether those by the entry's link
 // fit the place that e owns. A level of depth takes at most two frames of the stack, this function's and the former's.
 #[cycle(fits_place_meets_every)]
 pub(crate) fn meets_every(
-    s: &[u8],
-    si: &[u16],
-    rows: &[u64],
-    ri: &[u16],
-    d: &[u8],
-    di: &[u16],
-    dm: &[u8],
-    most: usize,
-    used: usize,
+    known: &Known,
+    places: &Places,
     g: usize,
     e: usize,
     h: usize,
     left: usize,
     adds: &mut u16,
 ) -> bool
-    requires { Known most s.now si.now rows.now ri.now used × Ready Schema.Description most d.now di.now × Marked demands (entries_of d.now) (length (entries_of d.now)) most dm.now × (g < 2048) × (e < most) × (left ≤ 33) × ((most - 1) % 2 ≡ 1) × (1 ≤ e) × (e ≤ length (entries_of d.now)) × (1 ≤ left)
-        × OnChain (bucket_of Schema.Specimen most (entries_of s.now)) (hash_of most g 7 (nth (entries_of d.now) e).name) h (length (entries_of s.now)) }
-    ensures { (result ≡ groups_fit most left (entries_of s.now) (entries_of d.now) g e (nth (entries_of d.now) e).name h) × (adds.new ≡ adds.old) }
+    requires { (g < 2048) × (left ≤ 33) × (1 ≤ e) × (e ≤ length (entries_of places.now.bytes.now)) × (1 ≤ left)
+        × OnChain (bucket_of Schema.Specimen known.now.items.most (entries_of known.now.items.bytes.now)) (hash_of known.now.items.most g 7 (nth (entries_of places.now.bytes.now) e).name) h (length (entries_of known.now.items.bytes.now)) }
+    ensures { (result ≡ groups_fit known.now.items.most left (entries_of known.now.items.bytes.now) (entries_of places.now.bytes.now) g e (nth (entries_of places.now.bytes.now) e).name h) × (adds.new ≡ adds.old) }
 {
-    let entry = entry_at(d, e);
+    let entry = entry_at(places.bytes, e);
     let link = entry.link();
-    let mut next = h;
-    loop {
-        if next == 0 {
-            break true;
-        }
-        let h = next;
-        next = previous_of(si, most, h);
-        if is_group(entry_at(s, h), g, link) {
-            if !fits_place(s, si, rows, ri, d, di, dm, most, used, h, e, left - 1, adds) {
-                break false;
-            }
+    for h in known.items.back_from(h) {
+        if is_group(entry_at(known.items.bytes, h), g, link)
+            && !fits_place(known, places, h, e, left - 1, adds)
+        {
+            return false;
         }
     }
+    true
 }

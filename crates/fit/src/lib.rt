@@ -7,10 +7,12 @@
 
 mod answer;
 mod bare;
+mod chain;
 mod entries;
 mod groups;
 mod index;
 mod judge;
+mod places;
 mod tables;
 mod totals;
 

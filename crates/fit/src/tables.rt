@@ -6,9 +6,11 @@ ghost use Rattle.blocks.specs.declared.Schema.{Schema};
 ghost use Rattle.fit.specs.Answer.{top_fits};
 ghost use Rattle.fit.specs.Counted.{groups_in};
 
+use crate::groups::{Items, Known};
 use crate::index::{index_description, index_specimen};
 use crate::judge::fits_place;
-use crate::totals::fill_totals;
+use crate::places::Places;
+use crate::totals::{Totals, fill_totals};
 
 // Whether the top item fits, and how many additions the table of totals and the walk over entries took.
 #[derive(Clone, Copy)]
@@ -18,148 +20,52 @@ pub(crate) struct Judged {
     pub walk: u16,
 }
 
-// Judges the top item of a specimen with n entries by a description with m entries, both accepted, with tables that are lent. One counter
-// goes through the making of the table and then through the walk.
-fn judge_with(
+// Judges the top item of a specimen with n entries by a description with m entries, both accepted, with tables of its own for fewer than MOST
+// entries in each input; LINKS is twice that. One counter goes through the making of the table of totals and then through the walk.
+fn judge_sized<const MOST: usize, const LINKS: usize>(
     s: &[u8],
     n: usize,
     d: &[u8],
     m: usize,
-    most: usize,
-    si: &mut [u16],
-    di: &mut [u16],
-    rows: &mut [u64],
-    links: &mut [u16],
-    owning: &mut [u8],
-    demanding: &mut [u8],
 ) -> Judged
-    requires { (reading_of Schema.Specimen 1 s.now ≡ Reading.Accepted n) × (reading_of Schema.Description 2 d.now ≡ Reading.Accepted m) × (n < most) × (m < most) × (most ≤ 2048) × ((most - 1) % 2 ≡ 1)
-        × (si.old ≡ replicate (most + most) 0) × (di.old ≡ replicate (most + most) 0) × (length rows.old ≡ most) × (links.old ≡ replicate (most + most) 0) × (owning.old ≡ replicate most 0) × (demanding.old ≡ replicate most 0) }
+    requires { (reading_of Schema.Specimen 1 s.now ≡ Reading.Accepted n) × (reading_of Schema.Description 2 d.now ≡ Reading.Accepted m) × (n < MOST) × (m < MOST) × (MOST ≤ 2048) × ((MOST - 1) % 2 ≡ 1) × (LINKS ≡ MOST + MOST) }
     ensures { (result.fits ≡ top_fits s.now d.now) × (result.table ≡ groups_in s.now) × (result.walk ≡ 0) }
 {
+    let mut rows = [0u64; MOST];
+    let mut links = [0u16; LINKS];
+    let mut owning = [false; MOST];
     let mut adds: u16 = 0;
-    let used = fill_totals(s, n, most, rows, links, owning, &mut adds);
+    let used = fill_totals(s, n, MOST, &mut rows, &mut links, &mut owning, &mut adds);
     let table = adds;
-    index_specimen(s, n, most, owning, si);
-    index_description(d, m, most, di, demanding);
-    let fits = fits_place(
-        s, si, rows, links, d, di, demanding, most, used, 0, 0, 33, &mut adds,
-    );
+    let mut si = [0u16; LINKS];
+    index_specimen(s, n, MOST, &owning, &mut si);
+    let mut di = [0u16; LINKS];
+    let mut demanding = [false; MOST];
+    index_description(d, m, MOST, &mut di, &mut demanding);
+    let items = Items {
+        bytes: s,
+        index: &si,
+        most: MOST,
+    };
+    let totals = Totals {
+        rows: &rows,
+        links: &links,
+        most: MOST,
+        used,
+    };
+    let places = Places {
+        bytes: d,
+        index: &di,
+        marks: &demanding,
+        most: MOST,
+    };
+    let known = Known::new(items, totals);
+    let fits = fits_place(&known, &places, 0, 0, 33, &mut adds);
     Judged {
-        fits: fits,
-        table: table,
+        fits,
+        table,
         walk: adds - table,
     }
-}
-
-// The same with tables of its own, for at most 63 entries in each input.
-fn judge_few(s: &[u8], n: usize, d: &[u8], m: usize) -> Judged
-    requires { (reading_of Schema.Specimen 1 s.now ≡ Reading.Accepted n) × (reading_of Schema.Description 2 d.now ≡ Reading.Accepted m) × (n < 64) × (m < 64) }
-    ensures { (result.fits ≡ top_fits s.now d.now) × (result.table ≡ groups_in s.now) × (result.walk ≡ 0) }
-{
-    let mut si = [0u16; 128];
-    let mut di = [0u16; 128];
-    let mut rows = [0u64; 64];
-    let mut links = [0u16; 128];
-    let mut owning = [0u8; 64];
-    let mut demanding = [0u8; 64];
-    judge_with(
-        s,
-        n,
-        d,
-        m,
-        64,
-        &mut si,
-        &mut di,
-        &mut rows,
-        &mut links,
-        &mut owning,
-        &mut demanding,
-    )
-}
-
-// The same for at most 255.
-fn judge_some(s: &[u8], n: usize, d: &[u8], m: usize) -> Judged
-    requires { (reading_of Schema.Specimen 1 s.now ≡ Reading.Accepted n) × (reading_of Schema.Description 2 d.now ≡ Reading.Accepted m) × (n < 256) × (m < 256) }
-    ensures { (result.fits ≡ top_fits s.now d.now) × (result.table ≡ groups_in s.now) × (result.walk ≡ 0) }
-{
-    let mut si = [0u16; 512];
-    let mut di = [0u16; 512];
-    let mut rows = [0u64; 256];
-    let mut links = [0u16; 512];
-    let mut owning = [0u8; 256];
-    let mut demanding = [0u8; 256];
-    judge_with(
-        s,
-        n,
-        d,
-        m,
-        256,
-        &mut si,
-        &mut di,
-        &mut rows,
-        &mut links,
-        &mut owning,
-        &mut demanding,
-    )
-}
-
-// The same for at most 1,023.
-fn judge_many(s: &[u8], n: usize, d: &[u8], m: usize) -> Judged
-    requires { (reading_of Schema.Specimen 1 s.now ≡ Reading.Accepted n) × (reading_of Schema.Description 2 d.now ≡ Reading.Accepted m) × (n < 1024) × (m < 1024) }
-    ensures { (result.fits ≡ top_fits s.now d.now) × (result.table ≡ groups_in s.now) × (result.walk ≡ 0) }
-{
-    let mut si = [0u16; 2048];
-    let mut di = [0u16; 2048];
-    let mut rows = [0u64; 1024];
-    let mut links = [0u16; 2048];
-    let mut owning = [0u8; 1024];
-    let mut demanding = [0u8; 1024];
-    judge_with(
-        s,
-        n,
-        d,
-        m,
-        1024,
-        &mut si,
-        &mut di,
-        &mut rows,
-        &mut links,
-        &mut owning,
-        &mut demanding,
-    )
-}
-
-// The same for any number.
-fn judge_all(s: &[u8], n: usize, d: &[u8], m: usize) -> Judged
-    requires { (reading_of Schema.Specimen 1 s.now ≡ Reading.Accepted n) × (reading_of Schema.Description 2 d.now ≡ Reading.Accepted m) }
-    ensures { (result.fits ≡ top_fits s.now d.now) × (result.table ≡ groups_in s.now) × (result.walk ≡ 0) }
-{
-    let mut si = [0u16; 4096];
-    let mut di = [0u16; 4096];
-    let mut rows = [0u64; 2048];
-    let mut links = [0u16; 4096];
-    let mut owning = [0u8; 2048];
-    let mut demanding = [0u8; 2048];
-    judge_with(
-        s,
-        n,
-        d,
-        m,
-        2048,
-        &mut si,
-        &mut di,
-        &mut rows,
-        &mut links,
-        &mut owning,
-        &mut demanding,
-    )
-}
-
-fn larger(a: usize, b: usize) -> usize
-    ensures { (a ≤ result) × (b ≤ result) }
-{
-    if a < b { b } else { a }
 }
 
 // Judges the top item, with tables of a size that is enough for the longer input.
@@ -167,15 +73,14 @@ pub(crate) fn judge_top(s: &[u8], n: usize, d: &[u8], m: usize) -> Judged
     requires { (reading_of Schema.Specimen 1 s.now ≡ Reading.Accepted n) × (reading_of Schema.Description 2 d.now ≡ Reading.Accepted m) }
     ensures { (result.fits ≡ top_fits s.now d.now) × (result.table ≡ groups_in s.now) × (result.walk ≡ 0) }
 {
-    let longer = larger(n, m);
+    let longer = n.max(m);
     if longer < 64 {
-        return judge_few(s, n, d, m);
+        judge_sized::<64, 128>(s, n, d, m)
+    } else if longer < 256 {
+        judge_sized::<256, 512>(s, n, d, m)
+    } else if longer < 1024 {
+        judge_sized::<1024, 2048>(s, n, d, m)
+    } else {
+        judge_sized::<2048, 4096>(s, n, d, m)
     }
-    if longer < 256 {
-        return judge_some(s, n, d, m);
-    }
-    if longer < 1024 {
-        return judge_many(s, n, d, m);
-    }
-    judge_all(s, n, d, m)
 }

@@ -1,7 +1,7 @@
 // The table of totals, worked out before the walk over entries: for each owner and link with a group, the number of items in all its
 // groups, and nothing else. A row is one number of 64 bits, owner and link above the items; chains by the bucket of owner and link find it
 // again. At most 2,016 groups of at most 65,536 items make 132,120,576.
-ghost use Rattle.std.specs.Prelude.{◌≡◌, List, ◌+◌, ◌*◌, ◌≤◌, ◌<◌, ℕ, eqb, leb, length, get_or, replicate, set};
+ghost use Rattle.std.specs.Prelude.{◌≡◌, List, ◌+◌, ◌*◌, ◌≤◌, ◌<◌, ℕ, eqb, false, leb, length, get_or, replicate, set};
 ghost use Rattle.base.specs.Chain.{last_where};
 ghost use Rattle.base.specs.Range.{bit};
 ghost use Rattle.blocks.specs.Entries.{entries_of, nth};
@@ -11,12 +11,11 @@ ghost use Rattle.blocks.specs.declared.Entry.{Entry};
 ghost use Rattle.fit.specs.Totals.{TotalsOf, groups_up_to, items_in};
 ghost use Rattle.fit.specs.code.Bare.{Marked, any_entry};
 ghost use Rattle.fit.specs.code.Index.{Ordered};
-ghost use Rattle.fit.specs.code.Rows.{Rows, Singles, Small, empty_row, pair_in, pair_of, pairs_of};
+ghost use Rattle.fit.specs.code.Rows.{FoundRow, Rows, Singles, Small, empty_row, pair_in, pair_of, pairs_of};
 
-use crate::bare::mark;
+use crate::chain::Chain;
 use crate::entries::{entry_from, next_pos};
-use crate::index::{hash, last_of, previous_of, put};
-use base::{long, wide};
+use crate::index::{hash, put};
 use blocks::{Entry, Link};
 
 // The owner and the link of a row.
@@ -38,82 +37,56 @@ fn pair_of(owner: usize, l: Link) -> u64
     requires { owner < 65536 }
     ensures { (result ≡ pair_of owner l.0) × (result < 4294967296) × (l.0 < 65536) }
 {
-    65536 * (owner as u64) + long(l.0)
+    65536 * (owner as u64) + u64::from(l.0)
 }
 
-// Row r.
-fn row_at(rows: &[u64], r: usize) -> u64
-    requires { r < length rows.now }
-    ensures { result ≡ get_or rows.now r 0 }
-{
-    rows[r]
+// The table as it is looked into: rows 1 to `used`, chained by the buckets, of `most`, of their owners and links.
+#[derive(Clone, Copy)]
+pub(crate) struct Totals<'a> {
+    pub rows: &'a [u64],
+    pub links: &'a [u16],
+    pub most: usize,
+    pub used: usize,
+    ghost kept: { Rows most rows.now links.now used },
 }
 
-// Sets row r.
-fn set_row(rows: &mut [u64], r: usize, x: u64)
-    requires { r < length rows.old }
-    ensures { rows.new ≡ set rows.old r x }
-{
-    rows[r] = x;
-}
-
-// The row of an owner and a link, or 0.
-fn find_row(rows: &[u64], links: &[u16], most: usize, used: usize, owner: usize, l: Link) -> usize
-    requires { Rows most rows.now links.now used × (owner < 65536) }
-    ensures { (result ≡ last_where (pairs_of rows.now) (pair_of owner l.0) used) × (l.0 < 65536) }
-{
-    let pair = pair_of(owner, l);
-    let mut r = last_of(links, hash(most, owner, 7, l.0));
-    loop {
-        if r == 0 {
-            break 0;
+impl<'a> Totals<'a> {
+    // The row of an owner and a link.
+    fn row_of(&self, owner: usize, l: Link) -> Option<usize>
+        requires { owner < 65536 }
+        ensures { FoundRow self.now.rows.now self.now.used owner l.0 result × (l.0 < 65536) }
+    {
+        let pair = pair_of(owner, l);
+        for r in Chain::of_bucket(self.links, self.most, hash(self.most, owner, 7, l.0)) {
+            if pair_in(self.rows[r]) == pair {
+                return Some(r);
+            }
         }
-        if pair_in(row_at(rows, r)) == pair {
-            break r;
+        None
+    }
+
+    // The number of items of an owner by a link: that of their row. Without a row they have none. Nothing is added up here.
+    pub(crate) fn total_of(&self, owner: usize, l: Link) -> u32
+        requires { owner < 65536 }
+        ensures { (es : List Entry) → (n : ℕ) → TotalsOf es n self.now.rows.now self.now.used → result ≡ items_up_to es owner l.0 n }
+    {
+        match self.row_of(owner, l) {
+            Some(r) => items_in(self.rows[r]),
+            None => 0,
         }
-        r = previous_of(links, most, r);
     }
-}
 
-// The number of items of an owner by a link: that of their row. Without a row they have none. Nothing is added up here.
-pub(crate) fn total_of(
-    rows: &[u64],
-    links: &[u16],
-    most: usize,
-    used: usize,
-    owner: usize,
-    l: Link,
-) -> u32
-    requires { Rows most rows.now links.now used × (owner < 65536) }
-    ensures { (es : List Entry) → (n : ℕ) → TotalsOf es n rows.now used → result ≡ items_up_to es owner l.0 n }
-{
-    let r = find_row(rows, links, most, used, owner, l);
-    if r == 0 {
-        return 0;
-    }
-    items_in(row_at(rows, r))
-}
-
-// Whether an owner has at most so many items by a link. Of a link that leads to one item only an accepted specimen has one at most, so
-// that at most 1 or more needs no look.
-pub(crate) fn at_most(
-    rows: &[u64],
-    links: &[u16],
-    most: usize,
-    used: usize,
-    owner: usize,
-    l: Link,
-    number: u16,
-) -> bool
-    requires { Rows most rows.now links.now used × (owner < 65536) }
-    ensures { (es : List Entry) → (n : ℕ) → TotalsOf es n rows.now used → Singles es n → result ≡ leb (items_up_to es owner l.0 n) number }
-{
-    if 32768 <= l.0 {
-        if 0 < number {
+    // Whether an owner has at most so many items by a link. Of a link that leads to one item only an accepted specimen has one at most, so
+    // that at most 1 or more needs no look.
+    pub(crate) fn at_most(&self, owner: usize, l: Link, number: u16) -> bool
+        requires { owner < 65536 }
+        ensures { (es : List Entry) → (n : ℕ) → TotalsOf es n self.now.rows.now self.now.used → Singles es n → result ≡ leb (items_up_to es owner l.0 n) number }
+    {
+        if 32768 <= l.0 && 0 < number {
             return true;
         }
+        self.total_of(owner, l) <= u32::from(number)
     }
-    total_of(rows, links, most, used, owner, l) <= number as u32
 }
 
 // Adds the items of a group to a row, and counts that. Items are added nowhere else.
@@ -122,7 +95,7 @@ fn add_items(row: u64, e: Entry, adds: &mut u16) -> u64
     ensures { (result ≡ row + (e.number + 1)) × (e.number < 65536) × (adds.new ≡ adds.old + 1) }
 {
     *adds += 1;
-    row + (long(e.number) + 1)
+    row + (u64::from(e.number) + 1)
 }
 
 // Enters entry e, which stands after the first n: the items of a group go to the row of its owner and link, which is found or made. Returns
@@ -144,20 +117,26 @@ fn enter(
     if e.kind != 7 {
         return used;
     }
-    let owner = wide(e.owner);
+    let owner = usize::from(e.owner);
     let link = e.link();
-    let r = find_row(rows, links, most, used, owner, link);
-    if r != 0 {
-        set_row(rows, r, add_items(row_at(rows, r), e, adds));
-        return used;
+    let table = Totals {
+        rows: &*rows,
+        links: &*links,
+        most,
+        used,
+    };
+    match table.row_of(owner, link) {
+        Some(r) => {
+            rows[r] = add_items(rows[r], e, adds);
+            used
+        }
+        None => {
+            let row = 4294967296 * pair_of(owner, link);
+            rows[used + 1] = add_items(row, e, adds);
+            put(links, most, used + 1, hash(most, owner, 7, link.0));
+            used + 1
+        }
     }
-    set_row(
-        rows,
-        used + 1,
-        add_items(4294967296 * pair_of(owner, link), e, adds),
-    );
-    put(links, most, used + 1, hash(most, owner, 7, link.0));
-    used + 1
 }
 
 // Works out the table of a specimen with so many entries, and returns its number of rows. Each group is added once. Owners are marked, so
@@ -168,11 +147,11 @@ pub(crate) fn fill_totals(
     most: usize,
     rows: &mut [u64],
     links: &mut [u16],
-    marks: &mut [u8],
+    marks: &mut [bool],
     adds: &mut u16,
 ) -> usize
     requires { (total ≡ length (entries_of s.now)) × (total < most) × (most ≤ 2048) × (length rows.old ≡ most) × (links.old ≡ replicate (most + most) 0) × (adds.old ≡ 0)
-        × Ordered (entries_of s.now) × (marks.old ≡ replicate most 0) × Whole s.now total }
+        × Ordered (entries_of s.now) × (marks.old ≡ replicate most false) × Whole s.now total }
     ensures { Rows most rows.new links.new result × TotalsOf (entries_of s.now) total rows.new result
         × (adds.new ≡ groups_up_to (entries_of s.now) total) × Marked any_entry (entries_of s.now) total most marks.new }
 {
@@ -182,7 +161,7 @@ pub(crate) fn fill_totals(
     while n < total {
         let e = entry_from(s, at);
         at = next_pos(at);
-        mark(marks, wide(e.owner));
+        marks[usize::from(e.owner)] = true;
         used = enter(rows, links, most, n, used, e, adds);
         n += 1;
     }

@@ -12,7 +12,7 @@ fn print_lines(rt: &impl Print, answer: Comparison, blocks: &[u8]) -> io::Result
     let mut line = [0u8; LINE_BYTES];
     for n in 0..=report::specimen_lines(answer) {
         let length = report::line_text(answer, blocks, n, &mut line);
-        rt.write_all(&line[0..length])?;
+        rt.write_all(&line[..length])?;
     }
     Ok(())
 }
@@ -21,6 +21,6 @@ fn main(rt: HostRuntime) -> io::Result<()> {
     let mut input = report::input_buffer();
     let mut blocks = report::input_buffer();
     let length = streams::read_until_failure(&mut rt.reader(), &mut input);
-    let answer = report::compare_parts(&input[0..length], &mut blocks);
+    let answer = report::compare_parts(&input[..length], &mut blocks);
     print_lines(&rt, answer, &blocks)
 }

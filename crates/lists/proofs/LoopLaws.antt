@@ -1,11 +1,13 @@
 -- Laws of the loops, one for each way through them.
 -- Assumes nothing.
+use Rattle.std.proofs.Common.{Bor, Some}
+use Rattle.std.specs.Iterator.{MakesProgress, item_count}
 use Prim.Native.Nat.{◌*◌, ◌+◌, ◌-◌, ◌<◌, ◌≤◌, suc, ℕ}
 use lib.ListN.{drop, get_or, length, length-drop, take}
-use lib.Seq.{drop-cons, drop-drop}
+use lib.Seq.{drop-cons}
 use mathlib.Core.List.{List, [], ◌∷◌}
 use mathlib.Core.Logic.{◌≢◌}
-use mathlib.Core.Path.{◌∙◌, ◌≡◌, ap, refl, sym}
+use mathlib.Core.Path.{◌∙◌, ◌≡◌, ap, refl}
 use native.Mathlib.Numerals.{add-one}
 use native.Mathlib.Omega.{arith}
 use Rattle.base.proofs.Parts.{high_is, high_of, low-is, low_of}
@@ -13,9 +15,9 @@ use Rattle.base.proofs.RangeLaws.{none_left, one_left}
 use Rattle.base.proofs.Tests.{eq-eqb, lt-cases, ne_eqb}
 use Rattle.blocks.specs.Frame.{blocks_in}
 use Rattle.blocks.specs.Words.{word_at}
-use Rattle.lists.proofs.FirstPart.{first-bound, first_some}
-use Rattle.lists.proofs.PartLaws.{part_at, parts_none, parts-of, start-below, start-next, start-past}
-use Rattle.lists.specs.Parts.{division_from, first_length, parts_of, second_part, start_of}
+use Rattle.lists.proofs.FirstPart.{first_some}
+use Rattle.lists.proofs.PartLaws.{part_at, parts-of, start-below, start-next, start-past}
+use Rattle.lists.specs.Parts.{division_from, first_length, parts_of, start_of}
 
 -- ---- the search for the end of the first part
 
@@ -40,47 +42,18 @@ module _ (s : List ℕ) where
 
 -- ---- from part to part
 
--- `count` parts are passed, up to the offset `at`
-abbrev pub Counted : List ℕ → ℕ → ℕ → Type 0
-Counted s at count = (at ≤ length s) × (count ≤ at) × (length (parts_of s) ≡ count + length (parts_of (drop at s)))
+-- what is left has its first part, of length f, and those behind it, as the code takes them
+pub left-parts : (s : List ℕ) {f : ℕ} → length s ≢ 0 → f ≡ first_length s → parts_of s ≡ take f s ∷ parts_of (high_of f s)
+left-parts s {f} h e = parts-of s h ∙ rw (high_is f s, e)
 
-module _ (s : List ℕ) where
-  pub count-start : Counted s 0 0
-  count-start = (omega arith, omega arith, omega arith)
-
-  -- one part more: f is the length of the part at the offset, as the code computes it
-  module _ (at : ℕ) {f : ℕ} (e : f ≡ first_length (take (length s - at) (drop at s))) where
-    passed : f ≡ first_length (drop at s)
-    passed = e ∙ ap first_length (high_is at s)
-
-    left_behind : second_part (drop at s) ≡ drop (at + f) s
-    left_behind = drop-drop (first_length (drop at s)) at s ∙ ap (λ (k : ℕ). drop (at + k) s) (sym passed)
-
-    within : at ≤ length s → at + f ≤ length s
-    within h = let b = first-bound (drop at s) in let p = passed in omega (arith, length-drop at s)
-
-    -- it has a byte, so that the end comes nearer
-    further : at < length s → 0 < f
-    further l = let a = first_some (drop at s) (omega (arith, length-drop at s)) in let p = passed in omega arith
-
-    pub nearer : (count : ℕ) → at < length s → Counted s at count → length s - (at + f) < length s - at
-    nearer count l h = let p = further l in omega arith
-
-    pub count-more : (count : ℕ) → at < length s → Counted s at count → Counted s (at + f) (count + 1)
-    count-more count l h =
-        let one : length (parts_of (drop at s)) ≡ suc (length (parts_of (drop (at + f) s))) =
-        ap length (parts-of (drop at s) (omega (arith, length-drop at s))) ∙ ap (λ (t : List ℕ). suc (length (parts_of t))) left_behind in
-        let a = h.1 in
-        let b = h.2 in
-        let p = further l in
-        (within (omega arith), omega arith, omega arith)
-
-  -- at the end of the list there is none more
-  pub count-end : (at count : ℕ) → length s ≤ at → Counted s at count → count ≡ length (parts_of s)
-  count-end at count l h =
-      let z : length (parts_of (drop at s)) ≡ 0 = ap length (parts_none (drop at s) (omega (arith, length-drop at s))) in
-      let a = h.2 in
-      omega arith
+-- so that fewer are left
+pub parts-fall : (can : List (List ℕ) → Type 0) → ((l : List (List ℕ)) → can l) → (l m : List (List ℕ)) (x : Bor (List ℕ)) → l ≡ x.now ∷ m
+    → MakesProgress can (item_count (λ parts. parts)) l (Some x) m
+parts-fall can always l m x e = record {
+  on = λ _. (always m, tt, rw e (omega arith));
+  keeps = always m;
+  rests = λ _. tt;
+}
 
 -- ---- each part looked at in turn
 

@@ -57,6 +57,16 @@ parts-of s h =
     ∙ one_from (length s) s h
     ∙ ap (λ (t : List (List ℕ)). first_part s ∷ t) (enough (length s) (length (second_part s)) (second_part s) (omega arith) (omega arith))
 
+-- each has a byte, so that there are no more of them
+pub parts-short : (s : List ℕ) → length (parts_of s) ≤ length s
+unfolding parts_of parts_from
+parts-short s = go (length s) s
+  where
+    go : (f : ℕ) (s : List ℕ) → length (parts_from f s) ≤ f
+    go zero s = omega arith
+    go (suc f) s =
+        eq-cases (length s) 0 (λ e. rw (none_from (suc f) s e) (omega arith)) (λ e. rw (one_from f s e) (omega (arith, go f (second_part s))))
+
 -- ---- where part n begins
 
 pub start-within : (s : List ℕ) (n : ℕ) → start_of n s ≤ length s

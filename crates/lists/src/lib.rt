@@ -7,4 +7,4 @@
 
 mod parts;
 
-pub use parts::{part_length, parts_in};
+pub use parts::{Parts, part_length, parts_in};

@@ -1,6 +1,9 @@
-// The parts of a list: the length of the first, their number, and the offset at which each begins.
-ghost use Rattle.std.specs.Prelude.{◌≡◌, ◌≤◌, length};
+// The parts of a list: the length of the first, and each in turn.
+ghost use Rattle.std.specs.Prelude.{◌≡◌, ◌≤◌, ℕ, List, length};
+ghost use Rattle.std.specs.Iterator.{item_count, YieldsFirstRef};
 ghost use Rattle.lists.specs.Parts.{first_length, parts_of};
+
+use std::marker::Model;
 
 // The length of the first description: the offset of the first later whole block with number 1, which begins the second one; with no
 // such block, the whole length. Later means not the block at offset 0, whole that all its 512 bytes are there.
@@ -8,15 +11,50 @@ pub fn part_length(s: &[u8]) -> usize
     ensures { (result ≡ first_length s.now) × (result ≤ length s.now) }
 {
     let n = s.len() / 512;
-    let mut i: usize = 1;
-    loop {
-        if n <= i {
-            break s.len();
-        }
+    for i in 1..n {
         if blocks::word(s, 512 * i) == 1 {
-            break 512 * i;
+            return 512 * i;
         }
-        i += 1;
+    }
+    s.len()
+}
+
+// The descriptions of a list that are left, each as its bytes.
+#[derive(Drop)]
+pub struct Parts<'a> {
+    rest: &'a [u8],
+}
+
+impl<'a> Model for Parts<'a> {
+    ghost Value = { List (List ℕ) };
+
+    ghost view = { λ p. parts_of p.rest.now };
+}
+
+impl<'a> Iterator for Parts<'a> {
+    type Item = &'a [u8];
+
+    ghost next_gives = { YieldsFirstRef (λ parts. parts) };
+
+    ghost remaining = { item_count (λ parts. parts) };
+
+    fn next(&mut self) -> Option<&'a [u8]> {
+        let rest = self.rest;
+        if rest.is_empty() {
+            return None;
+        }
+        let n = part_length(rest);
+        self.rest = &rest[n..];
+        Some(&rest[..n])
+    }
+}
+
+impl<'a> Parts<'a> {
+    // The descriptions of a list, in turn.
+    pub fn of(list: &'a [u8]) -> Parts<'a>
+        ensures { result ≡ parts_of list.now }
+    {
+        Parts { rest: list }
     }
 }
 
@@ -24,11 +62,5 @@ pub fn part_length(s: &[u8]) -> usize
 pub fn parts_in(s: &[u8]) -> usize
     ensures { result ≡ length (parts_of s.now) }
 {
-    let mut at: usize = 0;
-    let mut count: usize = 0;
-    while at < s.len() {
-        at += part_length(&s[at..s.len()]);
-        count += 1;
-    }
-    count
+    Parts::of(s).count()
 }

@@ -1,6 +1,6 @@
 -- Tables that have room for an input.
 -- Assumes nothing.
-use Prim.Native.Nat.{◌*◌, ◌+◌, ◌<◌, ◌≤◌, ℕ}
+use Prim.Native.Nat.{◌*◌, ◌+◌, ◌<◌, ◌≤◌, min, ℕ}
 use lib.Dec.{ltb}
 use lib.ListN.{length, length-replicate, replicate}
 use mathlib.Core.Bool.{true}
@@ -52,12 +52,9 @@ roomy-zeros d n m l e f one few h =
       };
     }
 
--- an input of one block has at most 63 entries, and any has at most 1,008
-pub few-entries : (d : List ℕ) → length d ≤ 512 → (k : ℕ) → reading_of Description 1 d ≡ reading.Accepted k → k ≤ 63
-few-entries d h k a = omega (arith, (accepted-few 1 d a).3, h)
-
-pub many-entries : (d : List ℕ) (k : ℕ) → reading_of Description 1 d ≡ reading.Accepted k → k ≤ 1008
-many-entries d k a = omega (arith, (accepted-few 1 d a).0, (accepted-few 1 d a).1)
+-- an input has at most 63 entries for each of its blocks, of which it has at most 16
+pub entries-few : (d : List ℕ) {n : ℕ} → 63 * min (length d) 8192 ≤ 512 * n → (k : ℕ) → reading_of Description 1 d ≡ reading.Accepted k → k ≤ n
+entries-few d h k a = omega (arith, h, accepted-few 1 d a)
 
 module _ {d t bad full last before order rows below : List ℕ} (R : Roomy d t bad full last before order rows below) where
   -- other tables of the same lengths have room too

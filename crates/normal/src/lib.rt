@@ -9,6 +9,7 @@
 mod emit;
 mod ordering;
 mod output;
+mod settled;
 mod tables;
 mod walk;
 

@@ -1,37 +1,42 @@
 // The answer, and the blocks that are written.
-ghost use Rattle.std.specs.Prelude.{◌≡◌, ◌≤◌, length};
+ghost use Rattle.std.specs.Prelude.{◌≡◌, ◌+◌, ◌*◌, ◌≤◌, length, min};
 ghost use Rattle.logic.specs.Background.{Background, LawfulBackground};
 ghost use Rattle.normal.specs.Answer.{normalise_of, normalise_under, normalised_of, normalised_under};
 ghost use Rattle.normal.specs.code.Emitted.{Roomy, Stands};
 ghost use Rattle.slots.specs.code.Standing.{Standing};
 
 use crate::NormalAnswer;
+use crate::settled::Workspace;
 use crate::tables::normal_rows;
 use slots::Slotting;
 
-// The answer for a description whose slots stand in the tables: 7 where the output is shorter, else its normal form is written.
+// The answer for a description whose slots stand in the tables: 7 where the output is shorter, else its normal form is written. `used` stays
+// beside `table`, whose slots end with it: that there is room for the rows is known of the whole table.
 fn write_normal(
     d: &[u8],
     used: usize,
     table: &[u64],
     bad: &[u8],
     full: &[u8],
-    last: &mut [u16],
-    before: &mut [u16],
-    order: &mut [u64],
-    rows: &mut [u64],
-    below: &mut [u16],
+    work: Workspace,
     out: &mut [u8],
 ) -> NormalAnswer
-    requires { Stands d.now used table.now bad.now full.now × Roomy d.now table.now bad.now full.now last.old before.old order.old rows.old below.old }
+    requires { Stands d.now used table.now bad.now full.now × Roomy d.now table.now bad.now full.now work.last.now work.before.now work.order.now work.rows.now work.below.now }
     ensures { (b : Background) → LawfulBackground b → Standing b d.now used table.now bad.now full.now
         → (result ≡ normalise_under b d.now out.old) × (out.new ≡ normalised_under b d.now out.old) }
 {
     if out.len() < d.len() {
         return NormalAnswer::Refused(7, 0, 0);
     }
+    let Workspace {
+        last,
+        before,
+        order,
+        rows,
+        below,
+    } = work;
     let count = normal_rows(
-        &table[0..used + 1],
+        &table[..used + 1],
         bad,
         full,
         last,
@@ -51,88 +56,44 @@ fn normalise_in(
     table: &mut [u64],
     bad: &mut [u8],
     full: &mut [u8],
-    last: &mut [u16],
-    before: &mut [u16],
-    order: &mut [u64],
-    rows: &mut [u64],
-    below: &mut [u16],
+    work: Workspace,
     out: &mut [u8],
 ) -> NormalAnswer
-    requires { Roomy d.now table.old bad.old full.old last.old before.old order.old rows.old below.old }
+    requires { Roomy d.now table.old bad.old full.old work.last.now work.before.now work.order.now work.rows.now work.below.now }
     ensures { (result ≡ normalise_of pairs.now d.now out.old) × (out.new ≡ normalised_of pairs.now d.now out.old) }
 {
     let slotting = slots::fill(pairs, d, table, bad, full);
     match slotting {
         Slotting::Refused(number, input, place) => NormalAnswer::Refused(number, input, place),
-        Slotting::Filled(used) => write_normal(
-            d,
-            used as usize,
-            table,
-            bad,
-            full,
-            last,
-            before,
-            order,
-            rows,
-            below,
-            out,
-        ),
+        Slotting::Filled(used) => write_normal(d, usize::from(used), table, bad, full, work, out),
     }
 }
 
-// The answer for a description of one block, or none: small tables are sooner cleared.
-fn normalise_few(pairs: &[u8], d: &[u8], out: &mut [u8]) -> NormalAnswer
-    requires { length d.now ≤ 512 }
+// The same in tables of its own, for so many entries: a description of one block has at most 63, and small tables are sooner cleared.
+fn normalise_sized<const ROWS: usize, const SLOTS: usize, const RUNS: usize>(
+    pairs: &[u8],
+    d: &[u8],
+    out: &mut [u8],
+) -> NormalAnswer
+    requires { (63 * min (length d.now) 8192 ≤ 512 * ROWS) × (1 ≤ ROWS) × (ROWS ≤ 1008) × (SLOTS ≡ ROWS + 1) × (RUNS ≡ 2 * SLOTS) }
     ensures { (result ≡ normalise_of pairs.now d.now out.old) × (out.new ≡ normalised_of pairs.now d.now out.old) }
 {
-    let mut table = [0u64; 64];
-    let mut bad = [0u8; 64];
-    let mut full = [0u8; 64];
-    let mut last = [0u16; 128];
-    let mut before = [0u16; 64];
-    let mut order = [0u64; 63];
-    let mut rows = [0u64; 63];
-    let mut below = [0u16; 64];
-    normalise_in(
-        pairs,
-        d,
-        &mut table,
-        &mut bad,
-        &mut full,
-        &mut last,
-        &mut before,
-        &mut order,
-        &mut rows,
-        &mut below,
-        out,
-    )
-}
-
-// The same for any.
-fn normalise_many(pairs: &[u8], d: &[u8], out: &mut [u8]) -> NormalAnswer
-    ensures { (result ≡ normalise_of pairs.now d.now out.old) × (out.new ≡ normalised_of pairs.now d.now out.old) }
-{
-    let mut table = [0u64; 1009];
-    let mut bad = [0u8; 1009];
-    let mut full = [0u8; 1009];
-    let mut last = [0u16; 2018];
-    let mut before = [0u16; 1009];
-    let mut order = [0u64; 1008];
-    let mut rows = [0u64; 1008];
-    let mut below = [0u16; 1009];
-    normalise_in(
-        pairs,
-        d,
-        &mut table,
-        &mut bad,
-        &mut full,
-        &mut last,
-        &mut before,
-        &mut order,
-        &mut rows,
-        &mut below,
-        out,
-    )
+    let mut table = [0u64; SLOTS];
+    let mut bad = [0u8; SLOTS];
+    let mut full = [0u8; SLOTS];
+    let mut last = [0u16; RUNS];
+    let mut before = [0u16; SLOTS];
+    let mut order = [0u64; ROWS];
+    let mut rows = [0u64; ROWS];
+    let mut below = [0u16; SLOTS];
+    let work = Workspace {
+        last: &mut last,
+        before: &mut before,
+        order: &mut order,
+        rows: &mut rows,
+        below: &mut below,
+    };
+    normalise_in(pairs, d, &mut table, &mut bad, &mut full, work, out)
 }
 
 // Writes the normal form of a description, under a list of pairs, in blocks from the start of the output, which is at least as long as the
@@ -142,7 +103,7 @@ pub fn normalise(pairs: &[u8], description: &[u8], out: &mut [u8]) -> NormalAnsw
     ensures { (result ≡ normalise_of pairs.now description.now out.old) × (out.new ≡ normalised_of pairs.now description.now out.old) }
 {
     if description.len() <= 512 {
-        return normalise_few(pairs, description, out);
+        return normalise_sized::<63, 64, 128>(pairs, description, out);
     }
-    normalise_many(pairs, description, out)
+    normalise_sized::<1008, 1009, 2018>(pairs, description, out)
 }

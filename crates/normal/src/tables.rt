@@ -4,9 +4,14 @@ ghost use Rattle.slots.specs.code.TablePlaces.{used_in};
 ghost use Rattle.normal.specs.code.ClassRuns.{Runnable, place_cells};
 ghost use Rattle.normal.specs.code.Emitted.{Lent, Pushed, all_rows, keep_in, table_rows};
 
+use crate::settled::Slots;
 use crate::walk::write_rows;
 
-// Puts settled slots on the chains of their runs and writes the rows of all places; returns their number.
+// The entry of kind 6, 'nothing fits', of the top.
+const NOTHING: u64 = 6;
+
+// Puts settled slots on the chains of their runs and writes the rows of all places; returns their number. The tables stay parameters: fields
+// that are lent at once through a `&mut Workspace`, some to be read and some to be written, get no proof.
 fn chained_rows(
     table: &[u64],
     full: &[u8],
@@ -21,7 +26,13 @@ fn chained_rows(
     ensures { Pushed (length rows.old) [] 0 (all_rows (keep_in full.now) (place_cells table.now (used_in table.now))) rows.new result }
 {
     runs::chain_slots(table, (table.len() - 1) as u16, last, before);
-    write_rows(table, full, last, before, order, rows, below)
+    let slots = Slots {
+        table,
+        full,
+        last,
+        before,
+    };
+    write_rows(&slots, order, rows, below)
 }
 
 // Writes the packed entries that settled slots give; returns their number. One of kind 6 stands alone where the top is impossible.
@@ -40,7 +51,7 @@ pub(crate) fn normal_rows(
     ensures { Pushed (length rows.old) [] 0 (table_rows table.now bad.now full.now) rows.new result }
 {
     if bad[0] != 0 {
-        rows[0] = 6;
+        rows[0] = NOTHING;
         return 1;
     }
     chained_rows(table, full, last, before, order, rows, below)

@@ -1,20 +1,21 @@
 -- The index of a list: how it is filled, and a walk along the chain of a property.
 -- Assumes nothing.
+use Rattle.std.proofs.lemmas.List.{take_all}
 use Prim.Native.Nat.{◌+◌, ◌-◌, ◌<◌, ◌≤◌, suc, zero, ℕ}
 use lib.Dec.{eqb}
-use lib.ListN.{get_or, length, length-replicate, length-set, replicate, set}
+use lib.ListN.{get_or, length, length-replicate, length-set, replicate, set, take}
 use lib.Seq.{get_or-set_other, get_or-set_same}
 use mathlib.Core.Bool.{Bool, ◌&&◌, ◌||◌, false, true}
-use mathlib.Core.List.{List}
+use mathlib.Core.List.{List, [], ◌∷◌}
 use mathlib.Core.Logic.{◌≢◌}
-use mathlib.Core.Path.{◌∙◌, ◌≡◌, ap, refl}
+use mathlib.Core.Path.{◌∙◌, ◌≡◌, ap, refl, sym}
 use native.Mathlib.Omega.{arith}
-use Rattle.base.proofs.ChainLaws.{chains-more, chains-start, skip-goes, skip-starts, walk-starts}
+use Rattle.base.proofs.ChainLaws.{chains-more, chains-start, skip-goes, skip-starts, walk-falls, walk-goes, walk-starts}
 use Rattle.base.proofs.Lists.{zeros-read}
-use Rattle.base.proofs.Tests.{bool_cases, both_ways, eq-eqb, eqb-eq}
+use Rattle.base.proofs.Tests.{bool_cases, both_ways, eq-eqb, eqb-eq, ne_eqb}
 use Rattle.base.specs.Chain.{Chains, OnChain}
 use Rattle.pairs.specs.Pairs.{pair_count}
-use Rattle.pairs.specs.code.Index.{PairsIndexed, beside_at, bucket_of, indexed_to, named_at, named_count, noted, partnered}
+use Rattle.pairs.specs.code.Index.{PairsIndexed, beside_at, bucket_of, indexed_to, named_at, named_count, noted, partnered, partners}
 
 -- ---- filling
 
@@ -98,3 +99,52 @@ module _ {P t : List ℕ} (I : PairsIndexed P t) (has : ℕ → Bool) (p : ℕ) 
 
     pub partner-miss : {j : ℕ} → here ≡ false → j ≡ get_or t (256 + k) 0 → partnered P has p k ≡ partnered P has p j
     partner-miss h e = partner-here ∙ rw h (skip-goes I.chains (bucket_of p) S z e (partnered P has p) skips)
+
+-- a list of at most 64 pairs is indexed as it is
+pub list-whole : (P : List ℕ) → pair_count P ≤ 64 → take 259 P ≡ P
+unfolding pair_count
+list-whole P few = take_all 259 P (omega arith)
+
+-- ---- a walk that gathers what stands beside a property
+
+module _ {P t : List ℕ} (I : PairsIndexed P t) (p : ℕ) where
+  -- a number of another bucket names another property
+  partners-skip : (k : ℕ) → eqb (bucket_of (named_at P (suc k))) (bucket_of p) ≡ false → partners P p (suc k) ≡ partners P p k
+  unfolding partners
+  partners-skip k out =
+      bool_cases (eqb (named_at P (suc k)) p)
+      (λ q. both_ways (eq-eqb (ap bucket_of (eqb-eq q))) out)
+      (λ q. rw q)
+
+  -- it begins at the last number of the bucket
+  module _ {k : ℕ} (e : k ≡ get_or t (bucket_of p) 0) where
+    pub partners-reached : OnChain (λ j. bucket_of (named_at P j)) (bucket_of p) k (named_count P)
+    partners-reached = walk-starts I.chains (bucket_of p) (bucket-below p) e
+
+    pub partners-start : partners P p k ≡ partners P p (named_count P)
+    partners-start = sym (skip-starts I.chains (bucket_of p) (bucket-below p) e (partners P p) partners-skip)
+
+  -- it goes on to the number before
+  module _ {k : ℕ} (S : OnChain (λ j. bucket_of (named_at P j)) (bucket_of p) k (named_count P)) (z : k ≢ 0) {j : ℕ} (e : j ≡ get_or t (256 + k) 0) where
+    pub partners-goes : OnChain (λ i. bucket_of (named_at P i)) (bucket_of p) j (named_count P)
+    partners-goes = walk-goes I.chains (bucket_of p) S z e
+
+    pub partners-falls : j < k
+    partners-falls = walk-falls I.chains (bucket_of p) S z e
+
+    pub partners-hit : named_at P k ≡ p → partners P p k ≡ beside_at P k ∷ partners P p j
+    unfolding partners
+    partners-hit h =
+        let up : k ≡ suc (k - 1) = omega arith in
+        ap (partners P p) up ∙ rw (← up, eq-eqb h) (ap (λ (ys : List ℕ). beside_at P k ∷ ys) (skip-goes I.chains (bucket_of p) S z e (partners P p) partners-skip))
+
+    pub partners-miss : named_at P k ≢ p → partners P p k ≡ partners P p j
+    unfolding partners
+    partners-miss h =
+        let up : k ≡ suc (k - 1) = omega arith in
+        ap (partners P p) up ∙ rw (← up, ne_eqb h) (skip-goes I.chains (bucket_of p) S z e (partners P p) partners-skip)
+
+-- where it ends, nothing is left
+pub partners-end : (P : List ℕ) (p : ℕ) {k : ℕ} → k ≡ 0 → partners P p k ≡ []
+unfolding partners
+partners-end P p z = rw z

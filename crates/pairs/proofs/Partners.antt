@@ -1,5 +1,11 @@
 -- A property and what stands beside it in a list: those, and no others, exclude it.
 -- Assumes nothing.
+use Rattle.std.proofs.lemmas.Iterator.Consumers.{YieldsList-from_first}
+use Rattle.std.proofs.lemmas.Iterator.Search.{any_from_yields_List}
+use Rattle.std.specs.Fn.{Called}
+use Rattle.std.specs.Iterator.{ChecksAny, YieldsFirstBy}
+use Rattle.std.specs.List.{list_any}
+use denote.Param.Members.{Mut}
 use Prim.Native.Nat.{◌%◌, ◌*◌, ◌+◌, ◌-◌, ◌/◌, ◌≤◌, suc, zero, ℕ}
 use lib.Dec.{eqb}
 use mathlib.Core.Bool.{Bool, ◌&&◌, true}
@@ -11,17 +17,17 @@ use Rattle.base.proofs.Tests.{and_both, and_left, and_right, bool_cases, both_wa
 use Rattle.blocks.specs.Words.{word_at}
 use Rattle.pairs.proofs.Excluding.{excludes-turned, none-excludes, own_pair, pair-cases, pair-excludes}
 use Rattle.pairs.specs.Pairs.{excludes_in, is_pair, one_of, other_of, pair_count}
-use Rattle.pairs.specs.code.Index.{beside_at, named_at, named_count, partnered}
+use Rattle.pairs.specs.code.Index.{beside_at, named_at, named_count, partnered, partners}
 
 module _ (P : List ℕ) where
   -- ---- a pair by the numbers of its two properties
 
   module _ (i : ℕ) (lo : 1 ≤ i) where
-    first-named : named_at P (2 * i - 1) ≡ one_of P i
+    pub first-named : named_at P (2 * i - 1) ≡ one_of P i
     unfolding named_at one_of
     first-named = let e : 2 * (2 * i - 1 - 1) ≡ 4 * (i - 1) = omega arith in ap (word_at P) e
 
-    second-named : named_at P (2 * i) ≡ other_of P i
+    pub second-named : named_at P (2 * i) ≡ other_of P i
     unfolding named_at other_of
     second-named = let e : 2 * (2 * i - 1) ≡ 4 * (i - 1) + 2 = omega arith in ap (word_at P) e
 
@@ -98,3 +104,19 @@ module _ (P : List ℕ) (has : ℕ → Bool) (p : ℕ) where
   -- what is true exactly where there is such a partner
   pub partnered-is : {a : Bool} → (a ≡ true → Partner P has p) → (Partner P has p → a ≡ true) → a ≡ partnered P has p (named_count P)
   partnered-is to from = iff-eq (λ t. partner-found (to t)) (λ t. from (partner-among (named_count P) (omega arith) t))
+
+-- one of those beside a property is one that `has` holds of
+pub partnered-any : (P : List ℕ) (has : ℕ → Bool) (p k : ℕ) → partnered P has p k ≡ list_any has (partners P p k)
+unfolding partnered partners
+partnered-any P has p zero = refl
+partnered-any P has p (suc k) =
+    bool_cases (eqb (named_at P (suc k)) p)
+    (λ q. rw (q, partnered-any P has p k))
+    (λ q. rw (q, partnered-any P has p k))
+
+-- `any` of the properties that exclude one, by a test that answers what `has` does
+pub any-partnered : {S A F : Type 0} {v : A → ℕ} {rest : S → List ℕ} {g : Mut F (A × Unit {0}) Bool} {s : S} (P : List ℕ) (has : ℕ → Bool) (p : ℕ)
+    (u : S) (f : F) (r : Bool) → ChecksAny (YieldsFirstBy v rest) g s f r u → rest s ≡ partners P p (named_count P)
+    → ((x : A) (b : Bool) (q : F) → Called g f (x, tt) b q → (q ≡ f) × (b ≡ has (v x))) → r ≡ partnered P has p (named_count P)
+any-partnered {v = v} {rest} {s = s} P has p u f r ran e test =
+    any_from_yields_List has u f r ran (YieldsList-from_first v rest {s = s} _ e) test ∙ sym (partnered-any P has p (named_count P))

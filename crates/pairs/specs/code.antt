@@ -1,6 +1,6 @@
 -- Mirrors of the code: the contracts of its functions cite these, and no promise to the customer does.
 
--- The test that the search for a wrong pair makes.
+-- The test that the search for a wrong pair makes, and what a search answers.
 pub mod Search
 -- The properties that a list names by number, and the index by which they are found.
 pub mod Index

@@ -5,9 +5,11 @@
 // one, and which records keep it, is proved in proofs/.
 #![tactic(auto)]
 
+mod exclusions;
 mod index;
 mod list;
 mod reader;
 
-pub use index::{beside, index_pairs, last_naming, names, naming_before, number_beside};
+pub use exclusions::{Excluders, Exclusions};
+pub use index::{index_pairs, last_naming, naming_before, number_beside};
 pub use reader::read_pairs;

@@ -1,21 +1,16 @@
-// The numbers of a list's pairs. Pairs count from 1; bytes past the last whole pair belong to none.
-ghost use Rattle.std.specs.Prelude.{◌≡◌, ◌*◌, ◌≤◌, length};
-ghost use Rattle.pairs.specs.Pairs.{one_of, other_of};
+// The properties that a list of pairs names. Pairs count from 1, and so do the properties, two for each pair; bytes past the last whole pair
+// belong to none.
+ghost use Rattle.std.specs.Prelude.{◌≡◌, ◌≤◌};
+ghost use Rattle.pairs.specs.code.Index.{named_at, named_count};
 
-use blocks::{Property, word};
+use blocks::{Property, word_of_bytes};
 
-// The property that pair i names first.
-pub(crate) fn one_of(pairs: &[u8], i: usize) -> Property
-    requires { (1 ≤ i) × (4 * i ≤ length pairs.now) }
-    ensures { result.0 ≡ one_of pairs.now i }
+// The property of number k, of 64 pairs at most. Its two bytes are there, so that no length is tested.
+#[tactic(auto, unfolding(crate::specs::code::Index::named_at, crate::specs::Pairs::pair_count, blocks::specs::Words::word_at))]
+pub(crate) fn named_at(pairs: &[u8], k: usize) -> Property
+    requires { (1 ≤ k) × (k ≤ named_count pairs.now) × (k ≤ 128) }
+    ensures { result.0 ≡ named_at pairs.now k }
 {
-    Property(word(pairs, 4 * (i - 1)))
-}
-
-// The property that it names second.
-pub(crate) fn other_of(pairs: &[u8], i: usize) -> Property
-    requires { (1 ≤ i) × (4 * i ≤ length pairs.now) }
-    ensures { result.0 ≡ other_of pairs.now i }
-{
-    Property(word(pairs, 4 * (i - 1) + 2))
+    let at = 2 * (k - 1);
+    Property(word_of_bytes(pairs[at], pairs[at + 1]))
 }

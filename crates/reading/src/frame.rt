@@ -20,10 +20,8 @@ fn all_zero(s: &[u8], from: usize, to: usize) -> bool
     ensures { result ≡ all (zero_at s.now) from (to - from) }
 {
     let mut found: u8 = 0;
-    let mut i = from;
-    while i < to {
-        found = found_with(found, s[i]);
-        i += 1;
+    for b in &s[from..to] {
+        found = found_with(found, *b);
     }
     found == 0
 }
@@ -34,15 +32,10 @@ fn used_ok(n: usize, i: usize, used: usize) -> bool
     ensures { result ≡ used_ok plain n i used }
 {
     if i + 1 < n {
-        return used == 63;
+        used == 63
+    } else {
+        used <= 63 && (0 < used || n == 1)
     }
-    if 63 < used {
-        return false;
-    }
-    if 0 < used {
-        return true;
-    }
-    n == 1
 }
 
 // Whether block i, counted from 0, breaks number 2: its check or its second sum is wrong.
@@ -92,15 +85,11 @@ pub(crate) fn first_block_fault(s: &[u8], n: usize) -> Finding
     requires { (512 * n ≤ length s.now) × (n ≤ 32) }
     ensures { result ≡ first (block_faults plain s.now n 0 n) }
 {
-    let mut i: usize = 0;
-    loop {
-        if n <= i {
-            break Finding::Clean;
-        }
+    for i in 0..n {
         let number = block_refusal(s, n, i);
         if number != 0 {
-            break Finding::Faulty(number, (i + 1) as u16);
+            return Finding::Faulty(number, (i + 1) as u16);
         }
-        i += 1;
     }
+    Finding::Clean
 }

@@ -11,4 +11,4 @@ mod rules;
 mod single;
 
 pub use reader::{read, read_blocks, read_description, read_specimen};
-pub use rules::entry_refusal;
+pub use rules::{entry_refusal, level_under, owner_level};

@@ -1,5 +1,5 @@
 // Reading an input: number 1 by its length, then its blocks, then its entries.
-ghost use Rattle.std.specs.Prelude.{◌≡◌, cond, ◌∷◌, ◌*◌, ◌-◌, ◌≤◌, length};
+ghost use Rattle.std.specs.Prelude.{◌≡◌, ◌∷◌, ◌*◌, ◌-◌, ◌≤◌, length};
 ghost use Rattle.blocks.specs.Frame.{plain, blocks_in, used_in, total_in};
 ghost use Rattle.blocks.specs.Entries.{limit_of, entries_of};
 ghost use Rattle.blocks.specs.Faults.{block_faults, entry_faults, fault, first, length_wrong};
@@ -58,33 +58,19 @@ fn read_entries(s: &[u8], schema: Schema, input: u16, total: u16) -> Reading
     }
 }
 
-// Reads an input, or its blocks alone. It is one function for both, so that the check of the blocks stands in it and is not called.
-fn read_to(s: &[u8], schema: Schema, input: u16, whole: bool) -> Reading
-    ensures { result ≡ cond whole (reading_of schema input s.now)
-        (answer input (total_in plain s.now) (first (fault (length_wrong schema s.now) 1 0 ∷ block_faults plain s.now (blocks_in s.now) 0 (blocks_in s.now)))) }
+// Reads the blocks of an input and not its entries: how many these are, or the refusal by number 1, 2 or 3. It stands in each function that calls it.
+#[inline(always)]
+pub fn read_blocks(s: &[u8], schema: Schema, input: u16) -> Reading
+    ensures { result ≡ answer input (total_in plain s.now) (first (fault (length_wrong schema s.now) 1 0 ∷ block_faults plain s.now (blocks_in s.now) 0 (blocks_in s.now))) }
 {
     let n = blocks_read(s, schema);
     if n == 0 {
         return Reading::Refused(1, input, 0);
     }
-    let found = first_block_fault(s, n);
-    match found {
+    match first_block_fault(s, n) {
         Finding::Faulty(number, place) => Reading::Refused(number, input, place),
-        Finding::Clean => {
-            let total = entries_in(s, n);
-            if whole {
-                return read_entries(s, schema, input, total as u16);
-            }
-            Reading::Accepted(total as u16)
-        }
+        Finding::Clean => Reading::Accepted(entries_in(s, n) as u16),
     }
-}
-
-// Reads the blocks of an input and not its entries: how many these are, or the refusal by number 1, 2 or 3.
-pub fn read_blocks(s: &[u8], schema: Schema, input: u16) -> Reading
-    ensures { result ≡ answer input (total_in plain s.now) (first (fault (length_wrong schema s.now) 1 0 ∷ block_faults plain s.now (blocks_in s.now) 0 (blocks_in s.now))) }
-{
-    read_to(s, schema, input, false)
 }
 
 // Reads an input as a description, with or without names, or a specimen: its number of entries, or the refusal by the first number that applies. The
@@ -92,7 +78,10 @@ pub fn read_blocks(s: &[u8], schema: Schema, input: u16) -> Reading
 pub fn read(s: &[u8], schema: Schema, input: u16) -> Reading
     ensures { result ≡ reading_of schema input s.now }
 {
-    read_to(s, schema, input, true)
+    match read_blocks(s, schema, input) {
+        Reading::Accepted(total) => read_entries(s, schema, input, total),
+        Reading::Refused(number, at, place) => Reading::Refused(number, at, place),
+    }
 }
 
 // Reads a description as input 1: 1 to 16 blocks of entries of kinds 1 to 6.

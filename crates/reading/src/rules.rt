@@ -1,31 +1,13 @@
 // The rules of single entries: the table of kinds, names, owners and depths, numbers 4, 13, 5 and 6 of the table of refusals.
-ghost use Rattle.std.specs.Prelude.{◌≡◌, ◌||◌, false, not, true, ◌+◌, ◌*◌, ◌/◌, ◌≤◌, ◌<◌, eqb, length};
+ghost use Rattle.std.specs.Prelude.{◌≡◌, ◌||◌, false, not, true, ◌+◌, ◌*◌, ◌/◌, ◌≤◌, ◌<◌, eqb, length, slice_index};
 ghost use Rattle.base.specs.Range.{bit};
-ghost use Rattle.blocks.specs.Entries.{kind_ok, name_given, name_ok, names_ok, number_ok, form_ok, owning_kind, entries_of, entry_from};
+ghost use Rattle.blocks.specs.Entries.{kind_ok, name_given, name_ok, names_ok, number_ok, form_ok, owning_kind, entries_of};
 ghost use Rattle.blocks.specs.Faults.{first};
-ghost use Rattle.blocks.specs.code.Blockwise.{InBlock, Whole};
-ghost use Rattle.blocks.specs.code.ReadingSteps.{Levels, level_by, entry_refusal, level_under, rule_faults};
-ghost use Rattle.blocks.specs.declared.Finding.{Finding};
+ghost use Rattle.blocks.specs.code.Blockwise.{Whole};
+ghost use Rattle.blocks.specs.code.ReadingSteps.{entry_refusal, level_under, rule_faults};
 ghost use Rattle.blocks.specs.declared.Schema.{Schema};
 
-use blocks::{Entry, Finding, Schema, entry_of_bytes, next_count};
-
-// The entry whose 8 bytes start at an index: a pass over a block knows that they are there.
-pub(crate) fn entry_from(s: &[u8], at: usize) -> Entry
-    requires { at + 8 ≤ length s.now }
-    ensures { result ≡ entry_from s.now at }
-{
-    entry_of_bytes(
-        s[at],
-        s[at + 1],
-        s[at + 2],
-        s[at + 3],
-        s[at + 4],
-        s[at + 5],
-        s[at + 6],
-        s[at + 7],
-    )
-}
+use blocks::{Entry, Finding, Schema, entries_in_order};
 
 // Whether a kind is one of a description that may name others.
 fn named_kind(kind: u8) -> bool
@@ -134,13 +116,11 @@ fn names_ok(schema: Schema, e: Entry) -> bool
     }
 }
 
-// The level of owner o of entry n: 0 where it may own nothing or does not stand earlier.
-fn level_by(level: &[u8], n: usize, o: u16) -> u8
-    requires { n ≤ length level.now }
-    ensures { result ≡ level_by level.now n o }
+// The level of an owner, from a table of the levels of the entries passed: 0 where it may own nothing or is not passed.
+pub fn owner_level(passed: &[u8], owner: u16) -> u8
+    ensures { result ≡ slice_index passed.now owner }
 {
-    let at = o as usize;
-    if at < n { level[at] } else { 0 }
+    passed.get(usize::from(owner)).copied().unwrap_or(0)
 }
 
 // What the number of a description's entry, counted from 1, is multiplied by to see its form at a look: the product is at most 1 where the
@@ -229,97 +209,56 @@ pub fn entry_refusal(schema: Schema, e: Entry, l: u8) -> u8
     first_refusal(schema, e, l)
 }
 
-// The level of an entry of this kind whose owner has level l.
-fn level_under(schema: Schema, kind: u8, l: u8) -> u8
-    requires { l < 255 }
-    ensures { result ≡ level_under schema kind l }
+// The level of an entry of this kind whose owner has level l, which is at most 33 where the entry is not refused.
+pub fn level_under(schema: Schema, kind: u8, l: u8) -> u8
+    ensures { l < 255 → result ≡ level_under schema kind l }
 {
     if kind == owning_kind(schema) {
-        l + 1
+        l.saturating_add(1)
     } else {
         0
     }
 }
 
-// The lowest of `count` entries, those after the first `done`, whose bytes start at `from`, that breaks number 4, 13, 5 or 6. Each entry is
-// decoded once, and a table holds the level of each entry before it, so that neither its owner nor its chain of owners is looked up again.
-fn fault_in_block(
-    s: &[u8],
-    schema: Schema,
-    from: usize,
-    count: usize,
-    done: usize,
-    level: &mut [u8],
-) -> Finding
-    requires { (length (entries_of s.now) ≤ 2016) × InBlock s.now from count done × Levels schema (entries_of s.now) level.old (done + 1) }
-    ensures { (result ≡ first (rule_faults schema (entries_of s.now) (done + 1) count))
-        × (result ≡ Finding.Clean → Levels schema (entries_of s.now) level.new (done + count + 1)) }
-{
-    let mut i: usize = 0;
-    loop {
-        if count <= i {
-            break Finding::Clean;
-        }
-        let e = entry_from(s, from + 8 * i);
-        i += 1;
-        let l = level_by(level, done + i, e.owner);
-        let number = entry_refusal(schema, e, l);
-        if number != 0 {
-            break Finding::Faulty(number, (done + i) as u16);
-        }
-        level[done + i] = level_under(schema, e.kind, l);
-    }
-}
-
-// The lowest of `total` entries that breaks number 4, 13, 5 or 6, block by block, with a table of levels that has a number for each.
+// The lowest of `total` entries that breaks number 4, 13, 5 or 6, with a table that has room for the level of each. Each entry is decoded once, and
+// the table holds the level of each entry before it, so that neither its owner nor its chain of owners is looked up again.
+#[inline(always)]
 fn fault_by_levels(s: &[u8], schema: Schema, total: usize, level: &mut [u8]) -> Finding
     requires { (total ≡ length (entries_of s.now)) × (total ≤ 2016) × Whole s.now total × (total < length level.old) }
     ensures { result ≡ first (rule_faults schema (entries_of s.now) 1 total) }
 {
     level[0] = 1;
-    let mut n: usize = 0;
-    let mut at: usize = 4;
-    loop {
-        if total <= n {
-            break Finding::Clean;
+    for (before, bytes) in entries_in_order(s, total).enumerate() {
+        let e = Entry::from(bytes);
+        let n = before + 1;
+        let l = owner_level(&level[..n], e.owner);
+        let number = entry_refusal(schema, e, l);
+        if number != 0 {
+            return Finding::Faulty(number, n as u16);
         }
-        let count = next_count(total - n);
-        let found = fault_in_block(s, schema, at, count, n, level);
-        match found {
-            Finding::Faulty(number, place) => break Finding::Faulty(number, place),
-            Finding::Clean => {
-                n += count;
-                at += 512;
-            }
-        }
+        level[n] = level_under(schema, e.kind, l);
     }
+    Finding::Clean
 }
 
-// The same with a table of its own, for at most 63 entries.
-fn few_entries_fault(s: &[u8], schema: Schema, total: usize) -> Finding
-    requires { (total ≡ length (entries_of s.now)) × (total < 64) × Whole s.now total }
+// The same with a table of its own, of N numbers.
+#[inline(always)]
+fn fault_in_table<const N: usize>(s: &[u8], schema: Schema, total: usize) -> Finding
+    requires { (total ≡ length (entries_of s.now)) × (total < N) × (N ≤ 2017) × Whole s.now total }
     ensures { result ≡ first (rule_faults schema (entries_of s.now) 1 total) }
 {
-    let mut level = [0u8; 64];
-    fault_by_levels(s, schema, total, &mut level)
-}
-
-// The same for any number.
-fn many_entries_fault(s: &[u8], schema: Schema, total: usize) -> Finding
-    requires { (total ≡ length (entries_of s.now)) × (total ≤ 2016) × Whole s.now total }
-    ensures { result ≡ first (rule_faults schema (entries_of s.now) 1 total) }
-{
-    let mut level = [0u8; 2017];
+    let mut level = [0u8; N];
     fault_by_levels(s, schema, total, &mut level)
 }
 
 // The lowest of `total` entries that breaks number 4, 13, 5 or 6. Few entries take a small table, which is sooner cleared.
+#[inline(always)]
 pub(crate) fn first_rule_fault(s: &[u8], schema: Schema, total: usize) -> Finding
     requires { (total ≡ length (entries_of s.now)) × (total ≤ 2016) × (512 * ((total + 62) / 63) ≤ length s.now) }
     ensures { result ≡ first (rule_faults schema (entries_of s.now) 1 total) }
 {
     if total < 64 {
-        return few_entries_fault(s, schema, total);
+        return fault_in_table::<64>(s, schema, total);
     }
-    many_entries_fault(s, schema, total)
+    fault_in_table::<2017>(s, schema, total)
 }

@@ -1,10 +1,12 @@
--- Numbers in decimal: their digits, one after the other, what these mean, and how many they are.
+-- Numbers in decimal: their digits, one after the other, what these mean, and that they are what the library writes.
 -- Assumes nothing.
-use Prim.Native.Nat.{◌%◌, ◌*◌, ◌+◌, ◌-◌, ◌/◌, ◌<◌, ◌≤◌, suc, zero, ℕ}
+use Prim.Native.Nat.{◌%◌, ◌*◌, ◌+◌, ◌-◌, ◌/◌, ◌<◌, ◌^◌, ◌≤◌, suc, zero, ℕ}
 use lib.ListN.{get_or-append, get_or, length, length-append}
 use mathlib.Core.List.{List, [], ◌++◌, ◌∷◌}
-use mathlib.Core.Path.{◌∙◌, ◌≡◌, ap, refl}
+use mathlib.Core.Path.{◌∙◌, ◌≡◌, ap, refl, sym}
 use native.Mathlib.Omega.{arith}
+use Rattle.std.proofs.lemmas.Fmt.{decimal_from_appends, length-decimal-le_succ}
+use Rattle.std.specs.Fmt as std
 use Rattle.base.proofs.Tests.{ge-ltb, lt-cases, lt-ltb}
 use Rattle.report.specs.Promise.{AllDigits, Decimal, value_from}
 use Rattle.report.specs.Text.{decimal, digits_of}
@@ -19,22 +21,9 @@ many : (most n : ℕ) → 10 ≤ n → digits_of (suc most) n ≡ digits_of most
 unfolding digits_of
 many most n h = simp (digits_of, ge-ltb h)
 
--- more room than the digits take does not change them
-enough : (f g n : ℕ) → n < f → n < g → digits_of f n ≡ digits_of g n
-enough zero g n p q = absurd (omega arith)
-enough (suc f) zero n p q = absurd (omega arith)
-enough (suc f) (suc g) n p q =
-    lt-cases n 10
-    (λ h. rw (few f n h, few g n h))
-    (λ h. rw (many f n h, many g n h, enough f g (n / 10) (omega arith) (omega arith)))
-
 pub decimal-few : (n : ℕ) → n < 10 → decimal n ≡ (48 + n) ∷ []
 unfolding decimal
 decimal-few n h = few n n h
-
-pub decimal-more : (n : ℕ) → 10 ≤ n → decimal n ≡ decimal (n / 10) ++ ((48 + n % 10) ∷ [])
-unfolding decimal
-decimal-more n h = rw (many n n h, enough n (suc (n / 10)) (n / 10) (omega arith) (omega arith))
 
 -- ---- what holds of every number's digits, by their number
 
@@ -98,29 +87,8 @@ decimal-right n =
       lead = λ e. let z = r.lead e in ap decimal z ∙ decimal-few 0 (omega arith);
     }
 
--- ---- how many they are
+-- ---- they are what the standard library writes
 
--- a number below m has at most k digits
-abbrev Within : ℕ → ℕ → Type 0
-Within m k = (n : ℕ) → n < m → length (decimal n) ≤ k
-
-ten-times : {m k : ℕ} → 1 ≤ k → Within m k → Within (10 * m) (suc k)
-ten-times {m} {k} s h n l =
-    lt-cases n 10
-    (λ q. rw (decimal-few n q) (omega arith))
-    (λ q. rw (decimal-more n q, length-append (decimal (n / 10)) ((48 + n % 10) ∷ [])) (let a = h (n / 10) (omega arith) in omega arith))
-
-five : Within 100000 5
-five =
-    ten-times (omega arith) (ten-times (omega arith) (ten-times (omega arith) (ten-times (omega arith)
-    (λ n h. rw (decimal-few n h) (omega arith)))))
-
-ten : Within 10000000000 10
-ten = ten-times (omega arith) (ten-times (omega arith) (ten-times (omega arith) (ten-times (omega arith) (ten-times (omega arith) five))))
-
--- of 16 bits, and of 32
-pub short-number : (n : ℕ) → n < 65536 → length (decimal n) ≤ 5
-short-number n h = five n (omega arith)
-
-pub long-number : (n : ℕ) → n < 4294967296 → length (decimal n) ≤ 10
-long-number n h = ten n (omega arith)
+pub decimal_written : (n : ℕ) → n < 2 ^ 64 → std.decimal n ≡ decimal n
+unfolding decimal
+decimal_written n h = sym (decimal_from_appends digits_of (record { one = few; more = many }) (suc n) n h (omega (arith, length-decimal-le_succ n h)))

@@ -8,11 +8,9 @@ pub mod Printed
 pub mod PrintedText
 -- The lines that the paper gives, to their last byte.
 pub mod SecondExample
--- What the code compares are the two parts of the division.
-pub mod DivisionLaws
 -- The lines of a specimen that is written at the start of the output are the lines of its entries.
 pub mod WrittenLines
--- Numbers in decimal: their digits, one after the other, what these mean, and how many they are.
+-- Numbers in decimal: their digits, one after the other, what these mean, and that they are what the library writes.
 pub mod Decimals
--- Laws of putting text into a buffer, one for each way through the code.
+-- Laws of the words of a line that has more than one field.
 pub mod TextLaws

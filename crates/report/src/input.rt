@@ -10,7 +10,7 @@ use compare::Comparison;
 pub fn input_buffer() -> [u8; 16385]
     ensures { result ≡ replicate input_bytes 0 }
 {
-    [0u8; 16385]
+    [0; 16385]
 }
 
 // Compares the first description of an input with the second, with no pairs and no dictionary, and writes the specimen from the start of
@@ -19,6 +19,6 @@ pub fn compare_parts(s: &[u8], out: &mut [u8]) -> Comparison
     ensures { (result ≡ compare_named [] [] (first_part s.now) (second_part s.now) out.old)
         × (out.new ≡ output_named [] [] (first_part s.now) (second_part s.now) out.old) }
 {
-    let first = lists::part_length(s);
-    named::compare_sent(&s[0..0], &s[0..first], &s[first..s.len()], out)
+    let (first, second) = s.split_at(lists::part_length(s));
+    named::compare_sent(&[], first, second, out)
 }

@@ -29,12 +29,13 @@ pub fn specimen_lines(answer: Comparison) -> u16
 
 // The line of entry n of a specimen that stands in `blocks` and has `total` entries: an entry of kind 7 is a group and has one item
 // more than its number says, any other is a property that its owner has. Entry 0 and entries above the total read as the zero entry.
+#[tactic(auto, unfolding(crate::specs::Lines::specimen_line, crate::specs::Lines::entry_line))]
 pub(crate) fn specimen_line(blocks: &[u8], total: usize, n: u16) -> Line
     ensures { result ≡ specimen_line blocks.now total n }
 {
-    let e = blocks::nth_entry(blocks, total, n as usize);
+    let e = blocks::nth_entry(blocks, total, usize::from(n));
     if e.kind == 7 {
-        return Line::Group(n, e.owner, e.link(), e.number as u32 + 1);
+        return Line::Group(n, e.owner, e.link(), u32::from(e.number) + 1);
     }
     Line::Has(n, e.owner, e.property())
 }

@@ -1,132 +1,81 @@
-// The bytes of the lines that the program prints. Each function puts bytes from an index of a lent buffer on, and returns the index
-// after them.
-ghost use Rattle.std.specs.Prelude.{◌≡◌, ◌++◌, ◌∷◌, [], ◌+◌, ◌≤◌, ◌<◌, drop, length};
-ghost use Rattle.base.specs.Stores.{stored};
-ghost use Rattle.report.specs.Text.{ascii, decimal, line_of, line_text, line_words};
-ghost use Rattle.report.specs.declared.Line.TheVariants.{Group, Has, Refused};
+// The text of the lines that the program prints.
+//
+// `Line` has no `impl Display`, tried: a `fmt` promises its text only where it returns `Ok`, and `line_text` has to give the text always.
+ghost use Rattle.std.specs.Prelude.{◌≡◌, ◌++◌, ◌+◌, ◌≤◌, ◌<◌, drop, length};
+ghost use Rattle.arrayvec.specs.ArrayString.{array_string_len};
+ghost use Rattle.report.specs.declared.text.TheConstants.{LINE_BYTES};
+ghost use Rattle.report.specs.Text.{line_of, line_text, line_words};
 
 use crate::Line;
 use crate::lines::{answer_line, specimen_line, specimen_lines};
-use blocks::{Link, Property};
+use arrayvec::ArrayString;
 use compare::Comparison;
+use itoa::{Buffer, Integer};
 
 // Room for the longest line.
 pub const LINE_BYTES: usize = 64;
 
-// Puts a word.
-fn put_word(buffer: &mut [u8; LINE_BYTES], at: usize, word: &[u8]) -> usize
-    requires { at + length word.now ≤ 64 }
-    ensures { (result ≡ at + length word.now) × (buffer.new ≡ stored buffer.old at word.now) }
-{
-    let mut i: usize = 0;
-    while i < word.len() {
-        buffer[at + i] = word[i];
-        i += 1;
-    }
-    at + i
-}
-
-// Puts a digit.
-fn put_digit(buffer: &mut [u8; LINE_BYTES], at: usize, digit: u32) -> usize
-    requires { (at < 64) × (digit < 10) }
-    ensures { (result ≡ at + 1) × (buffer.new ≡ stored buffer.old at ((48 + digit) ∷ [])) }
-{
-    buffer[at] = 48 + digit as u8;
-    at + 1
-}
-
-// Puts the digits of a number: those of a tenth of it, and then its last digit.
-fn put_number(buffer: &mut [u8; LINE_BYTES], at: usize, number: u32) -> usize
-    requires { at + length (decimal number) ≤ 64 }
-    ensures { (result ≡ at + length (decimal number)) × (buffer.new ≡ stored buffer.old at (decimal number)) }
-{
-    if number < 10 {
-        return put_digit(buffer, at, number);
-    }
-    let end = put_number(buffer, at, number / 10);
-    put_digit(buffer, end, number % 10)
-}
-
 // Puts a word and a number.
-fn put_field(buffer: &mut [u8; LINE_BYTES], at: usize, word: &[u8], number: u32) -> usize
-    requires { at + length (word.now ++ decimal number) ≤ 64 }
-    ensures { (result ≡ at + length (word.now ++ decimal number))
-        × (buffer.new ≡ stored buffer.old at (word.now ++ decimal number)) }
+fn put_field<N: Integer>(text: &mut ArrayString<LINE_BYTES>, word: &str, number: N)
+    requires { array_string_len text.old + length word.now + N.MAX_STR_LEN ≤ LINE_BYTES }
+    ensures bytes { text.new.bytes ≡ text.old.bytes ++ (word.now ++ N.text number) }
+    ensures len { array_string_len text.new ≤ array_string_len text.old + length word.now + N.MAX_STR_LEN }
 {
-    let end = put_word(buffer, at, word);
-    put_number(buffer, end, number)
+    text.push_str(word);
+    text.push_str(Buffer::new().format(number));
 }
 
-// Puts the words of a refusal.
-fn put_refused(buffer: &mut [u8; LINE_BYTES], number: u8, input: u16, place: u16) -> usize
-    ensures { (result ≡ length (line_words (Refused number input place))) × (result < 64)
-        × (buffer.new ≡ stored buffer.old 0 (line_words (Refused number input place))) }
+// The words of a line.
+#[tactic(auto, using(crate::proofs::Decimals::decimal_written), unfolding(crate::specs::Text::line_words))]
+fn words(line: Line) -> ArrayString<LINE_BYTES>
+    ensures bytes { result.bytes ≡ line_words line }
+    ensures len { array_string_len result < LINE_BYTES }
 {
-    let a = put_field(buffer, 0, b"refused ", number as u32);
-    let b = put_field(buffer, a, b" input ", input as u32);
-    put_field(buffer, b, b" place ", place as u32)
-}
-
-// Puts the words of a property that entry n gives.
-fn put_has(buffer: &mut [u8; LINE_BYTES], n: u16, owner: u16, p: Property) -> usize
-    ensures { (result ≡ length (line_words (Has n owner p))) × (result < 64)
-        × (buffer.new ≡ stored buffer.old 0 (line_words (Has n owner p))) }
-{
-    let a = put_field(buffer, 0, b"has ", n as u32);
-    let b = put_field(buffer, a, b" owner ", owner as u32);
-    put_field(buffer, b, b" property ", p.0 as u32)
-}
-
-// Puts the words of a group that entry n gives.
-fn put_group(buffer: &mut [u8; LINE_BYTES], n: u16, owner: u16, l: Link, count: u32) -> usize
-    ensures { (result ≡ length (line_words (Group n owner l count))) × (result < 64)
-        × (buffer.new ≡ stored buffer.old 0 (line_words (Group n owner l count))) }
-{
-    let a = put_field(buffer, 0, b"group ", n as u32);
-    let b = put_field(buffer, a, b" owner ", owner as u32);
-    let c = put_field(buffer, b, b" link ", l.0 as u32);
-    put_field(buffer, c, b" count ", count)
-}
-
-// Puts the words of a line.
-fn put_words(buffer: &mut [u8; LINE_BYTES], line: Line) -> usize
-    ensures { (result ≡ length (line_words line)) × (result < 64) × (buffer.new ≡ stored buffer.old 0 (line_words line)) }
-{
+    let mut text = ArrayString::new();
     match line {
-        Line::Contained => put_word(buffer, 0, b"contained"),
-        Line::NotContained(entry) => put_field(buffer, 0, b"not contained ", entry as u32),
-        Line::Refused(number, input, place) => put_refused(buffer, number, input, place),
-        Line::Has(n, owner, p) => put_has(buffer, n, owner, p),
-        Line::Group(n, owner, l, count) => put_group(buffer, n, owner, l, count),
+        Line::Contained => text.push_str("contained"),
+        Line::NotContained(entry) => put_field(&mut text, "not contained ", entry),
+        Line::Refused(number, input, place) => {
+            put_field(&mut text, "refused ", number);
+            put_field(&mut text, " input ", input);
+            put_field(&mut text, " place ", place);
+        }
+        Line::Has(n, owner, p) => {
+            put_field(&mut text, "has ", n);
+            put_field(&mut text, " owner ", owner);
+            put_field(&mut text, " property ", p.0);
+        }
+        Line::Group(n, owner, l, count) => {
+            put_field(&mut text, "group ", n);
+            put_field(&mut text, " owner ", owner);
+            put_field(&mut text, " link ", l.0);
+            put_field(&mut text, " count ", count);
+        }
     }
-}
-
-// Puts the end of a line.
-fn put_end(buffer: &mut [u8], at: usize) -> usize
-    requires { at < length buffer.old }
-    ensures { (result ≡ at + 1) × (buffer.new ≡ stored buffer.old at (ascii "\n")) }
-{
-    buffer[at] = b'\n';
-    at + 1
+    text
 }
 
 // Line n of an answer whose specimen stands in `blocks`: line 0 is the answer's, and line n that of specimen entry n.
+#[tactic(auto, unfolding(crate::specs::Text::line_of))]
 fn nth_line(answer: Comparison, blocks: &[u8], n: u16) -> Line
     ensures { result ≡ line_of answer blocks.now n }
 {
     if n == 0 {
         return answer_line(answer);
     }
-    specimen_line(blocks, specimen_lines(answer) as usize, n)
+    specimen_line(blocks, usize::from(specimen_lines(answer)), n)
 }
 
 // Puts the text of line n of an answer at the start of the buffer, and returns its length; later bytes stay. Line 0 is the answer's; for
 // `not contained`, line n is that of entry n of the specimen in `blocks`. Entries above the specimen's read as the zero entry.
+#[tactic(auto, unfolding(crate::specs::Text::line_text))]
 pub fn line_text(answer: Comparison, blocks: &[u8], n: u16, buffer: &mut [u8; LINE_BYTES]) -> usize
     ensures { (result ≡ length (line_text (line_of answer blocks.now n))) × (result ≤ length buffer.new)
         × (buffer.new ≡ line_text (line_of answer blocks.now n) ++ drop result buffer.old) }
 {
-    let line = nth_line(answer, blocks, n);
-    let end = put_words(buffer, line);
-    put_end(buffer, end)
+    let mut text = words(nth_line(answer, blocks, n));
+    text.push_str("\n");
+    let length = text.len();
+    buffer[..length].copy_from_slice(text.as_bytes());
+    length
 }

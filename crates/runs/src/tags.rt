@@ -3,7 +3,6 @@ ghost use Rattle.std.specs.Prelude.{◌≡◌, ◌/◌, ◌%◌, ◌<◌};
 ghost use Rattle.runs.specs.code.Chained.{run_in, slot_name};
 ghost use Rattle.runs.specs.code.Tagged.{tag_of};
 
-use base::long;
 use slots::key_in;
 
 // The run of a slot.
@@ -24,7 +23,7 @@ pub(crate) fn name_in(x: u64) -> u64
 pub(crate) fn tag_of(x: u64, s: u16) -> u64
     ensures { result ≡ tag_of x s }
 {
-    1024 * name_in(x) + long(s)
+    1024 * name_in(x) + u64::from(s)
 }
 
 // The name that a tag holds.

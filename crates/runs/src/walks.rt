@@ -1,24 +1,57 @@
 // Walks along the chain of a run, from its last slot to its first. One look before a walk tells that no table ends before the first slot on
 // it; each slot after that is of a lower number, or the walk ends.
-ghost use Rattle.std.specs.Prelude.{◌≡◌, ◌<◌, length};
+ghost use Rattle.std.specs.Prelude.{◌≡◌, ◌-◌, ◌<◌, ◌≤◌, ℕ, List, length};
+ghost use Rattle.std.specs.Iterator.{item_count, YieldsFirst};
 ghost use Rattle.base.specs.Stores.{stored};
-ghost use Rattle.runs.specs.code.Walked.{Starting, TagPushed, gathered, named};
+ghost use Rattle.runs.specs.code.Walked.{Starting, TagPushed, chain_down, gathered, named};
 
 use crate::chains::link_at;
 use crate::tags::{name_in, tag_of};
-use base::{long, wide};
 use slots::low_in;
+use std::marker::Model;
+
+// The slots that are left on a chain, the last first: the next one and those before it, if it is one of the slots 1 to `most`. No slot of a
+// higher number follows, so that every walk ends.
+#[derive(Drop)]
+struct Chain<'a> {
+    before: &'a [u16],
+    next: u16,
+    most: u16,
+}
+
+impl<'a> Model for Chain<'a> {
+    ghost Value = { List ℕ };
+
+    ghost view = { λ c. chain_down c.before.now c.next c.most };
+
+    ghost invariant = { λ c. c.most ≤ length c.before.now - 1 };
+}
+
+impl<'a> Iterator for Chain<'a> {
+    type Item = u16;
+
+    ghost next_gives = { YieldsFirst (λ slots. slots) };
+
+    ghost remaining = { item_count (λ slots. slots) };
+
+    fn next(&mut self) -> Option<u16> {
+        let s = self.next;
+        if s == 0 || self.most < s {
+            return None;
+        }
+        self.next = self.before[usize::from(s)];
+        self.most = s - 1;
+        Some(s)
+    }
+}
 
 // The slot where the walk over a run begins, or 0.
 fn chain_start(table: &[u64], last: &[u16], before: &[u16], run: usize) -> u16
     ensures { Starting table.now last.now before.now run result }
 {
     let s = link_at(last, run);
-    let at = wide(s);
-    if table.len() <= at {
-        return 0;
-    }
-    if before.len() <= at {
+    let at = usize::from(s);
+    if table.len() <= at || before.len() <= at {
         return 0;
     }
     s
@@ -49,42 +82,37 @@ pub fn gather(
     ensures { (result ≡ length (gathered table.now last.now before.now run low (length order.old)))
         × (order.new ≡ stored order.old 0 (gathered table.now last.now before.now run low (length order.old))) }
 {
-    let mut s = chain_start(table, last, before, run);
-    if order.len() < wide(s) {
+    let first = chain_start(table, last, before, run);
+    if order.len() < usize::from(first) {
         return 0;
     }
-    let mut n: usize = 0;
-    loop {
-        if s == 0 {
-            break n;
-        }
-        let at = wide(s);
-        n = push_tag(table[at], s, low, order, n);
-        let b = before[at];
-        if s <= b {
-            break n;
-        }
-        s = b;
+    let chain = Chain {
+        before,
+        next: first,
+        most: first,
+    };
+    let mut n = 0;
+    for s in chain {
+        n = push_tag(table[usize::from(s)], s, low, order, n);
     }
+    n
 }
 
-// The slot of a run that has a name, or 0.
+// The slot of a run that has a name, or 0. That is no slot, and every table reads as empty there, so that a caller needs no case for it.
 pub fn slot_named(table: &[u64], last: &[u16], before: &[u16], run: usize, name: u16) -> usize
     ensures { result ≡ named table.now last.now before.now run name }
 {
-    let mut s = chain_start(table, last, before, run);
-    loop {
-        if s == 0 {
-            break 0;
+    let first = chain_start(table, last, before, run);
+    let chain = Chain {
+        before,
+        next: first,
+        most: first,
+    };
+    for s in chain {
+        let at = usize::from(s);
+        if name_in(table[at]) == u64::from(name) {
+            return at;
         }
-        let at = wide(s);
-        if name_in(table[at]) == long(name) {
-            break at;
-        }
-        let b = before[at];
-        if s <= b {
-            break 0;
-        }
-        s = b;
     }
+    0
 }

@@ -8,11 +8,11 @@ ghost use Rattle.slots.specs.code.Tables.{Building, Built, Exact, Readable, Work
 
 use crate::entries::entry_from;
 use crate::slots::{enter, entry_key};
-use base::{long, wide};
 use blocks::next_count;
 
 // What an entry's number counts for in its bounds, by its kind. Constants only, here and below, which compile to a table: entries come in
 // any order of kinds, and a jump by kind would be guessed wrong.
+#[tactic(auto, unfolding(crate::specs::code::Tables::bounds_times))]
 fn bounds_times(kind: u8) -> u64
     ensures { (result ≡ bounds_times kind) × (result ≤ 131072) }
 {
@@ -24,6 +24,7 @@ fn bounds_times(kind: u8) -> u64
 }
 
 // What stands in the bounds of an entry of this kind beside its number.
+#[tactic(auto, unfolding(crate::specs::code::Tables::bounds_base))]
 fn bounds_base(kind: u8) -> u64
     ensures { (result ≡ bounds_base kind) × (result ≤ 196608) }
 {
@@ -41,19 +42,13 @@ fn bounds_base(kind: u8) -> u64
 fn entry_bounds(kind: u8, number: u16) -> u64
     ensures { (low_part result ≡ low_kind kind number) × (high_part result ≡ high_kind kind number) × (high_part result ≤ no_bound) × (result < 17179869184) }
 {
-    bounds_times(kind) * long(number) + bounds_base(kind)
-}
-
-fn larger(a: usize, b: usize) -> usize
-    ensures { result ≡ max a b }
-{
-    if a < b { b } else { a }
+    bounds_times(kind) * u64::from(number) + bounds_base(kind)
 }
 
 // Enters `count` entries of a description, those after the first `done`, whose bytes start at `from`, into the slots, of which there
 // were `had`; returns how many there are then. What the table and the chains' numbers held does not count: a slot is written before it is
 // read.
-fn build_block(
+fn build_block<const BUCKETS: usize>(
     d: &[u8],
     from: usize,
     count: usize,
@@ -61,7 +56,7 @@ fn build_block(
     had: usize,
     table: &mut [u64],
     next: &mut [u16],
-    head: &mut [u16],
+    head: &mut [u16; BUCKETS],
     node: &mut [u16],
 ) -> usize
     requires { Owned (entries_of d.now) × (length (entries_of d.now) ≤ 1008) × InBlock d.now from count done × Building d.now done had table.old next.old head.old node.old }
@@ -72,7 +67,7 @@ fn build_block(
     let mut i: usize = 0;
     while i < count {
         let e = entry_from(d, from + 8 * i);
-        let place = long(node[wide(e.owner)]);
+        let place = u64::from(node[usize::from(e.owner)]);
         let s = enter(
             table,
             next,
@@ -83,18 +78,18 @@ fn build_block(
         );
         i += 1;
         node[done + i] = s as u16;
-        used = larger(used, s);
+        used = used.max(s);
     }
     used
 }
 
 // Builds the slots of a description with `total` entries, block by block, and returns their number.
-pub(crate) fn build(
+pub(crate) fn build<const BUCKETS: usize>(
     d: &[u8],
     total: usize,
     table: &mut [u64],
     next: &mut [u16],
-    head: &mut [u16],
+    head: &mut [u16; BUCKETS],
     node: &mut [u16],
 ) -> usize
     requires { Readable d.now total × (total < length table.old) × Workspace total next.old head.old node.old }

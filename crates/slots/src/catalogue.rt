@@ -1,6 +1,6 @@
 // A list of descriptions judged by one: the slots of the one are built and settled once, and each of the list is judged by them as soon as it
 // is read, while its bytes are warm. No specimen is written.
-ghost use Rattle.std.specs.Prelude.{◌≡◌, List, ◌<◌, ◌≤◌, ℕ, eqb, length};
+ghost use Rattle.std.specs.Prelude.{◌≡◌, List, ◌<◌, ◌≤◌, ℕ, eqb, length, unwrap_or, IfSome};
 ghost use Rattle.base.specs.Range.{bit};
 ghost use Rattle.blocks.specs.Reading.{reading_of};
 ghost use Rattle.blocks.specs.declared.Reading.{Reading};
@@ -12,11 +12,11 @@ ghost use Rattle.pairs.specs.Pairs.{under};
 ghost use Rattle.pairs.specs.code.Index.{PairsIndexed};
 ghost use Rattle.slots.specs.Catalogue.{answers_after, list_reading};
 ghost use Rattle.slots.specs.Holding.{failing_in};
-ghost use Rattle.slots.specs.code.Judging.{Buffered, DictionaryTaken, JudgesAll, JudgesListed, JudgesSupplied, Supplied, service_judged};
-ghost use Rattle.slots.specs.code.Tables.{Held};
+ghost use Rattle.slots.specs.code.Lent.{HeldIn};
+ghost use Rattle.slots.specs.code.Judging.{Buffered, DictionaryTaken, JudgesAll, JudgesListed, JudgesSupplied, service_judged};
 
 use crate::Judgement;
-use crate::failing::judge_by;
+use crate::failing::Supplier;
 use crate::filling::chained_slots;
 use crate::service::judge_plain;
 use blocks::{Reading, Schema};
@@ -25,10 +25,11 @@ use unfolding::unfold_into;
 use writing::bytes_for;
 
 // 1 where no entry fails, else 0.
-pub(crate) fn bit_of(e: usize) -> u8
-    ensures { result ≡ bit (eqb e 0) }
+pub(crate) fn bit_of(failing: Option<usize>) -> u8
+    requires { IfSome failing (λ n. 1 ≤ n) }
+    ensures { result ≡ bit (eqb (unwrap_or failing 0) 0) }
 {
-    if e == 0 { 1 } else { 0 }
+    u8::from(failing.is_none())
 }
 
 // Reads a description under a dictionary. One of length 0 leaves it as it is sent; otherwise the plain description that it stands for is
@@ -45,76 +46,53 @@ fn read_sent(dictionary: &[u8], d: &[u8], input: u16, buffer: &mut [u8]) -> Read
 }
 
 // The first entry of a description that does not hold by the slots of another, where it is accepted under a dictionary, with m entries, and
-// stands in a buffer unless the dictionary has length 0; 0 where all hold.
+// stands in a buffer unless the dictionary has length 0.
 fn judge_sent(
     pairs: &[u8],
     index: &[u8; 512],
-    table: &[u64],
-    next: &[u16],
-    head: &[u16],
-    used: usize,
-    bad: &[u8],
+    supplier: Supplier<'_, 4093>,
     dictionary: &[u8],
     d: &[u8],
     m: u16,
     buffer: &[u8],
     states: &mut [u16],
-) -> usize
-    requires { PairsIndexed pairs.now index.now × Ruled (under pairs.now) × Supplied (under pairs.now) used table.now next.now head.now bad.now × (0 < length bad.now)
+) -> Option<usize>
+    requires { PairsIndexed pairs.now index.now × Ruled (under pairs.now)
         × (reading_of Schema.Description 2 (sent_of dictionary.now d.now) ≡ Reading.Accepted m) × Buffered dictionary.now d.now m buffer.now × (8192 ≤ length buffer.now) × (1008 < length states.old) }
-    ensures { (c : List ℕ) → Held (under pairs.now) c used table.now next.now head.now bad.now
-        → result ≡ failing_in (under pairs.now) c (sent_of dictionary.now d.now) }
+    ensures { IfSome result (λ n. 1 ≤ n) × ((c : List ℕ) → HeldIn (under pairs.now) c supplier.entry
+        → unwrap_or result 0 ≡ failing_in (under pairs.now) c (sent_of dictionary.now d.now)) }
 {
     if dictionary.len() == 0 {
-        return judge_by(
-            pairs, index, table, next, head, used, bad, d, m as usize, states,
-        );
+        return supplier.judge(pairs, index, d, usize::from(m), states);
     }
     let end = bytes_for(m);
-    judge_by(
-        pairs,
-        index,
-        table,
-        next,
-        head,
-        used,
-        bad,
-        &buffer[0..end],
-        m as usize,
-        states,
-    )
+    supplier.judge(pairs, index, &buffer[0..end], usize::from(m), states)
 }
 
 // Reads a service, an input of any number, and judges it. With a dictionary of length 0 it has no names, and nothing is unfolded.
 fn judge_service(
     pairs: &[u8],
     index: &[u8; 512],
-    table: &[u64],
-    next: &[u16],
-    head: &[u16],
-    used: usize,
-    bad: &[u8],
+    supplier: Supplier<'_, 4093>,
     dictionary: &[u8],
     d: &[u8],
     input: u16,
     buffer: &mut [u8],
     states: &mut [u16],
 ) -> Judgement
-    requires { PairsIndexed pairs.now index.now × Ruled (under pairs.now) × Supplied (under pairs.now) used table.now next.now head.now bad.now × (0 < length bad.now)
+    requires { PairsIndexed pairs.now index.now × Ruled (under pairs.now)
         × DictionaryTaken dictionary.now × (8192 ≤ length buffer.old) × (1008 < length states.old) }
-    ensures { (c : List ℕ) → Held (under pairs.now) c used table.now next.now head.now bad.now
+    ensures { (c : List ℕ) → HeldIn (under pairs.now) c supplier.entry
         → result ≡ service_judged pairs.now dictionary.now c input d.now }
 {
     if dictionary.len() == 0 {
-        return judge_plain(pairs, index, table, next, head, used, bad, d, input, states);
+        return judge_plain(pairs, index, supplier, d, input, states);
     }
     let reading = read_sent(dictionary, d, input, buffer);
     match reading {
         Reading::Refused(number, i, place) => Judgement::Refused(number, i, place),
         Reading::Accepted(m) => {
-            let e = judge_sent(
-                pairs, index, table, next, head, used, bad, dictionary, d, m, buffer, states,
-            );
+            let e = judge_sent(pairs, index, supplier, dictionary, d, m, buffer, states);
             Judgement::Bit(bit_of(e))
         }
     }
@@ -124,38 +102,27 @@ fn judge_service(
 fn judge_parts(
     pairs: &[u8],
     index: &[u8; 512],
-    table: &[u64],
-    next: &[u16],
-    head: &[u16],
-    used: usize,
-    bad: &[u8],
+    supplier: Supplier<'_, 4093>,
     dictionary: &[u8],
     list: &[u8],
     buffer: &mut [u8],
     states: &mut [u16],
     answers: &mut [u8; 64],
 ) -> Reading
-    requires { PairsIndexed pairs.now index.now × Ruled (under pairs.now) × Supplied (under pairs.now) used table.now next.now head.now bad.now × (0 < length bad.now)
+    requires { PairsIndexed pairs.now index.now × Ruled (under pairs.now)
         × DictionaryTaken dictionary.now × (8192 ≤ length buffer.old) × (1008 < length states.old) × (length (parts_of list.now) ≤ 64) }
-    ensures { (c : List ℕ) → Held (under pairs.now) c used table.now next.now head.now bad.now
+    ensures { (c : List ℕ) → HeldIn (under pairs.now) c supplier.entry
         → JudgesAll pairs.now dictionary.now c list.now answers.old result answers.new }
 {
     let mut at: usize = 0;
     let mut n: usize = 0;
-    loop {
-        if list.len() <= at {
-            break Reading::Accepted(n as u16);
-        }
+    while at < list.len() {
         let rest = &list[at..list.len()];
         let len = part_length(rest);
         let judged = judge_service(
             pairs,
             index,
-            table,
-            next,
-            head,
-            used,
-            bad,
+            supplier,
             dictionary,
             &rest[0..len],
             2 + n as u16,
@@ -164,7 +131,7 @@ fn judge_parts(
         );
         match judged {
             Judgement::Refused(number, i, place) => {
-                break Reading::Refused(number, i, place);
+                return Reading::Refused(number, i, place);
             }
             Judgement::Bit(b) => {
                 answers[n] = b;
@@ -173,6 +140,7 @@ fn judge_parts(
             }
         }
     }
+    Reading::Accepted(n as u16)
 }
 
 // Slots and settles the supplier's description, which is accepted, with n entries, and judges a list of at most 64 services by its slots.
@@ -198,16 +166,13 @@ fn judge_all(
     let used = chained_slots(
         pairs, index, c, n, &mut table, &mut next, &mut head, &mut node, &mut bad, &mut full,
     );
+    let supplier = Supplier::new(&table, &next, &head, used, &bad);
     let mut buffer = [0u8; 8192];
     let mut states = [0u16; 1009];
     judge_parts(
         pairs,
         index,
-        &table,
-        &next,
-        &head,
-        used,
-        &bad,
+        supplier,
         dictionary,
         list,
         &mut buffer,
@@ -259,7 +224,7 @@ fn judge_supplied(
         Reading::Refused(number, i, place) => Reading::Refused(number, i, place),
         Reading::Accepted(n) => {
             if dictionary.len() == 0 {
-                return judge_cut(pairs, index, dictionary, c, n as usize, list, answers);
+                return judge_cut(pairs, index, dictionary, c, usize::from(n), list, answers);
             }
             let end = bytes_for(n);
             judge_cut(
@@ -267,7 +232,7 @@ fn judge_supplied(
                 index,
                 dictionary,
                 &buffer[0..end],
-                n as usize,
+                usize::from(n),
                 list,
                 answers,
             )

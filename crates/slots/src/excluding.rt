@@ -3,26 +3,15 @@ ghost use Rattle.std.specs.Prelude.{◌≡◌, ◌&&◌, ◌*◌, ◌<◌, ◌�
 ghost use Rattle.pairs.specs.Pairs.{under};
 ghost use Rattle.pairs.specs.code.Index.{PairsIndexed, beside_at, named_at, named_count};
 ghost use Rattle.passes.specs.code.Restrict.{excluded_at, has_at};
-ghost use Rattle.slots.specs.code.Tables.{Kept, slots_in};
+ghost use Rattle.slots.specs.code.Tables.{slots_in};
 
-use crate::slots::{low_in, property_key, search};
+use crate::slots::{Slots, low_in, property_key};
 use blocks::{Property, word_of_bytes};
 use pairs::{last_naming, naming_before, number_beside};
 
-// Whether a place has a property.
-fn has(table: &[u64], next: &[u16], head: &[u16], used: usize, place: u64, q: Property) -> bool
-    requires { Kept table.now next.now head.now used × (place < 1024) }
-    ensures { result ≡ has_at (slots_in table.now used) place q.0 }
-{
-    let s = search(table, next, head, used, property_key(place, q));
-    if s == 0 {
-        return false;
-    }
-    low_in(table[s]) != 0
-}
-
 // The property that the list names under number k. Its two bytes are known to be there, since the index has only such numbers: a walk, which
 // may have 64 steps at each place, tests no length.
+#[tactic(auto, unfolding(pairs::specs::code::Index::named_at, blocks::specs::Words::word_at))]
 fn named_at(pairs: &[u8], k: usize) -> Property
     requires { (1 ≤ k) × (2 * k ≤ length pairs.now) }
     ensures { result.0 ≡ named_at pairs.now k }
@@ -31,55 +20,41 @@ fn named_at(pairs: &[u8], k: usize) -> Property
     Property(word_of_bytes(pairs[at], pairs[at + 1]))
 }
 
-// Whether the list names p under number k, beside a property that the place has.
-fn has_beside(
-    pairs: &[u8],
-    table: &[u64],
-    next: &[u16],
-    head: &[u16],
-    used: usize,
-    place: u64,
-    p: Property,
-    k: u8,
-) -> bool
-    requires { Kept table.now next.now head.now used × (place < 1024) × (1 ≤ k) × (k ≤ named_count pairs.now) }
-    ensures { result ≡ (eqb (named_at pairs.now k) p.0 && has_at (slots_in table.now used) place (beside_at pairs.now k)) }
-{
-    if named_at(pairs, k as usize).0 != p.0 {
-        return false;
+impl<const BUCKETS: usize> Slots<'_, BUCKETS> {
+    // Whether a place has a property.
+    fn has(self, place: u64, q: Property) -> bool
+        requires { place < 1024 }
+        ensures { result ≡ has_at (slots_in self.entry.table.now self.entry.used) place q.0 }
+    {
+        match self.search(property_key(place, q)) {
+            Some(s) => low_in(self.table[s]) != 0,
+            None => false,
+        }
     }
-    has(
-        table,
-        next,
-        head,
-        used,
-        place,
-        named_at(pairs, number_beside(k)),
-    )
-}
 
-// Whether a place has a property that excludes p. A property that no pair has costs one look.
-pub(crate) fn excluded(
-    pairs: &[u8],
-    index: &[u8; 512],
-    table: &[u64],
-    next: &[u16],
-    head: &[u16],
-    used: usize,
-    place: u64,
-    p: Property,
-) -> bool
-    requires { PairsIndexed pairs.now index.now × Kept table.now next.now head.now used × (place < 1024) }
-    ensures { result ≡ excluded_at (under pairs.now) (slots_in table.now used) place p.0 }
-{
-    let mut k = last_naming(index, p);
-    loop {
-        if k == 0 {
-            break false;
+    // Whether the list names p under number k, beside a property that the place has.
+    fn has_beside(self, pairs: &[u8], place: u64, p: Property, k: u8) -> bool
+        requires { (place < 1024) × (1 ≤ k) × (k ≤ named_count pairs.now) }
+        ensures { result ≡ (eqb (named_at pairs.now k) p.0 && has_at (slots_in self.entry.table.now self.entry.used) place (beside_at pairs.now k)) }
+    {
+        if named_at(pairs, usize::from(k)).0 != p.0 {
+            return false;
         }
-        if has_beside(pairs, table, next, head, used, place, p, k) {
-            break true;
+        self.has(place, named_at(pairs, number_beside(k)))
+    }
+
+    // Whether a place has a property that excludes p. A property that no pair has costs one look.
+    pub(crate) fn excluded(self, pairs: &[u8], index: &[u8; 512], place: u64, p: Property) -> bool
+        requires { PairsIndexed pairs.now index.now × (place < 1024) }
+        ensures { result ≡ excluded_at (under pairs.now) (slots_in self.entry.table.now self.entry.used) place p.0 }
+    {
+        let mut k = last_naming(index, p);
+        while k != 0 {
+            if self.has_beside(pairs, place, p, k) {
+                return true;
+            }
+            k = naming_before(index, k);
         }
-        k = naming_before(index, k);
+        false
     }
 }

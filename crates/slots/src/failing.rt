@@ -1,59 +1,91 @@
 // The first entry of a second description that the normal form of a first does not hold, in a table of slots that the caller lends.
-ghost use Rattle.std.specs.Prelude.{◌≡◌, List, ◌<◌, ◌≤◌, ℕ, length};
+ghost use Rattle.std.specs.Prelude.{◌≡◌, List, ◌<◌, ◌≤◌, ℕ, get_or, length, unwrap_or, IfSome};
 ghost use Rattle.blocks.specs.Reading.{reading_of};
 ghost use Rattle.blocks.specs.declared.Reading.{Reading};
 ghost use Rattle.blocks.specs.declared.Schema.{Schema};
-ghost use Rattle.logic.specs.Background.{Ruled};
+ghost use Rattle.base.specs.Range.{bit};
+ghost use Rattle.logic.specs.Background.{Background, Ruled};
+ghost use Rattle.passes.specs.code.Slots.{inconsistent};
 ghost use Rattle.pairs.specs.Pairs.{pair_count, under};
 ghost use Rattle.pairs.specs.code.Index.{PairsIndexed};
 ghost use Rattle.slots.specs.Holding.{failing_in, holding_by, holding_of};
+ghost use Rattle.slots.specs.code.Lent.{HeldIn};
 ghost use Rattle.slots.specs.code.Standing.{JudgedBy, Judges, table_judged};
-ghost use Rattle.slots.specs.code.Tables.{Blank, Kept, Held, Workspace};
+ghost use Rattle.slots.specs.code.Tables.{Kept, Tabled, slots_of};
 
 use crate::Holding;
 use crate::filling::chained_slots;
-use crate::states::first_failing_entry;
+use crate::slots::Slots;
 use blocks::{Reading, Schema};
 
-// The answer of an entry's number and the number of slots.
-fn answer_of(n: usize, used: usize) -> Holding
-    requires { (n ≤ 1008) × (used ≤ 1008) }
-    ensures { result ≡ holding_by used n }
+// The answer of the number of the entry that fails, if one does, and of the number of slots.
+fn answer_of(failing: Option<usize>, used: usize) -> Holding
+    requires { (unwrap_or failing 0 ≤ 1008) × IfSome failing (λ n. 1 ≤ n) × (used ≤ 1008) }
+    ensures { result ≡ holding_by used (unwrap_or failing 0) }
 {
-    if n == 0 {
-        return Holding::All;
+    match failing {
+        Some(n) => Holding::Fails(n as u16, used as u16),
+        None => Holding::All,
     }
-    Holding::Fails(n as u16, used as u16)
 }
 
-// The first entry of a description with m entries that does not hold by the settled slots of another, which stand in the table; 0 where all
-// hold, as they do where nothing fits the other. This is all that judges, and it leaves the slots: they serve for many descriptions.
-pub(crate) fn judge_by(
-    pairs: &[u8],
-    index: &[u8; 512],
-    table: &[u64],
-    next: &[u16],
-    head: &[u16],
-    used: usize,
-    bad: &[u8],
-    d: &[u8],
-    m: usize,
-    states: &mut [u16],
-) -> usize
-    requires { PairsIndexed pairs.now index.now × Ruled (under pairs.now) × Kept table.now next.now head.now used × (used ≤ 1008) × (0 < length bad.now)
-        × (reading_of Schema.Description 2 d.now ≡ Reading.Accepted m) × (m < length states.old) }
-    ensures { (result ≤ 1008) × ((c : List ℕ) → Held (under pairs.now) c used table.now next.now head.now bad.now
-        → result ≡ failing_in (under pairs.now) c d.now) }
-{
-    if bad[0] != 0 {
-        return 0;
-    }
-    first_failing_entry(pairs, index, table, next, head, used, d, m, states)
+// A description that others are judged by: its settled slots, and whether nothing fits it.
+#[derive(Clone, Copy)]
+pub(crate) struct Supplier<'a, const BUCKETS: usize> {
+    pub slots: Slots<'a, BUCKETS>,
+    pub impossible: bool,
 }
 
-// Slots and settles the first description and judges the second by its slots, where both are accepted, with n and m entries, and all
-// tables are long enough.
-fn judge(
+impl<'a, const BUCKETS: usize> Supplier<'a, BUCKETS> {
+    // The supplier whose settled slots stand in these tables, of which the last marks the places that are impossible.
+    pub(crate) fn new(
+        table: &'a [u64],
+        next: &'a [u16],
+        head: &'a [u16; BUCKETS],
+        used: usize,
+        bad: &[u8],
+    ) -> Self
+        requires { Kept table.now next.now head.now used × (used ≤ 1008) × (0 < length bad.now) }
+        ensures { (b : Background) → (c : List ℕ) → Tabled b c used table.now → get_or bad.now 0 0 ≡ bit (inconsistent 1 (slots_of b c) 0)
+            → (result.slots.used ≡ used) × HeldIn b c result }
+    {
+        let slots = Slots {
+            table: table,
+            next: next,
+            head: head,
+            used: used,
+        };
+        Supplier {
+            slots: slots,
+            impossible: bad[0] != 0,
+        }
+    }
+
+    // The first entry of a description with m entries that does not hold by the supplier; none where nothing fits it. This is all that
+    // judges, and it leaves the slots: they serve for many descriptions.
+    pub(crate) fn judge(
+        self,
+        pairs: &[u8],
+        index: &[u8; 512],
+        d: &[u8],
+        m: usize,
+        states: &mut [u16],
+    ) -> Option<usize>
+        requires { PairsIndexed pairs.now index.now × Ruled (under pairs.now) × (reading_of Schema.Description 2 d.now ≡ Reading.Accepted m) × (m < length states.old) }
+        ensures { (unwrap_or result 0 ≤ 1008) × IfSome result (λ n. 1 ≤ n)
+            × ((c : List ℕ) → HeldIn (under pairs.now) c self.entry
+            → unwrap_or result 0 ≡ failing_in (under pairs.now) c d.now) }
+    {
+        if self.impossible {
+            return None;
+        }
+        self.slots.first_failing_entry(pairs, index, d, m, states)
+    }
+}
+
+// Slots and settles the first description and judges the second by its slots, where both are accepted, with n and m entries, fewer than N.
+// All tables but that of the slots are its own.
+fn judge<const N: usize, const BUCKETS: usize>(
     pairs: &[u8],
     index: &[u8; 512],
     c: &[u8],
@@ -61,92 +93,23 @@ fn judge(
     d: &[u8],
     m: usize,
     table: &mut [u64],
-    next: &mut [u16],
-    head: &mut [u16],
-    node: &mut [u16],
-    bad: &mut [u8],
-    full: &mut [u8],
-    states: &mut [u16],
 ) -> Holding
     requires { PairsIndexed pairs.now index.now × Ruled (under pairs.now) × (reading_of Schema.Description 1 c.now ≡ Reading.Accepted n) × (reading_of Schema.Description 2 d.now ≡ Reading.Accepted m) × (n < length table.old)
-        × Workspace n next.old head.old node.old × Blank n bad.old × Blank n full.old × (m < length states.old) }
+        × (n < N) × (m < N) × (N ≤ 1009) × (61 ≤ BUCKETS) × (BUCKETS ≤ 4093) }
     ensures { Judges (under pairs.now) c.now d.now table.old result table.new }
 {
-    let used = chained_slots(pairs, index, c, n, table, next, head, node, bad, full);
-    let e = judge_by(pairs, index, table, next, head, used, bad, d, m, states);
+    let mut next = [0u16; N];
+    let mut head = [0u16; BUCKETS];
+    let mut node = [0u16; N];
+    let mut bad = [0u8; N];
+    let mut full = [0u8; N];
+    let used = chained_slots(
+        pairs, index, c, n, table, &mut next, &mut head, &mut node, &mut bad, &mut full,
+    );
+    let mut states = [0u16; N];
+    let supplier = Supplier::new(table, &next, &head, used, &bad);
+    let e = supplier.judge(pairs, index, d, m, &mut states);
     answer_of(e, used)
-}
-
-// The same with tables of its own for all but the slots, where both have at most 63 entries.
-fn judge_few(
-    pairs: &[u8],
-    index: &[u8; 512],
-    c: &[u8],
-    n: usize,
-    d: &[u8],
-    m: usize,
-    table: &mut [u64],
-) -> Holding
-    requires { PairsIndexed pairs.now index.now × Ruled (under pairs.now) × (reading_of Schema.Description 1 c.now ≡ Reading.Accepted n) × (reading_of Schema.Description 2 d.now ≡ Reading.Accepted m) × (n < length table.old) × (n < 64) × (m < 64) }
-    ensures { Judges (under pairs.now) c.now d.now table.old result table.new }
-{
-    let mut next = [0u16; 64];
-    let mut head = [0u16; 61];
-    let mut node = [0u16; 64];
-    let mut bad = [0u8; 64];
-    let mut full = [0u8; 64];
-    let mut states = [0u16; 64];
-    judge(
-        pairs,
-        index,
-        c,
-        n,
-        d,
-        m,
-        table,
-        &mut next,
-        &mut head,
-        &mut node,
-        &mut bad,
-        &mut full,
-        &mut states,
-    )
-}
-
-// The same for any two.
-fn judge_many(
-    pairs: &[u8],
-    index: &[u8; 512],
-    c: &[u8],
-    n: usize,
-    d: &[u8],
-    m: usize,
-    table: &mut [u64],
-) -> Holding
-    requires { PairsIndexed pairs.now index.now × Ruled (under pairs.now) × (reading_of Schema.Description 1 c.now ≡ Reading.Accepted n) × (reading_of Schema.Description 2 d.now ≡ Reading.Accepted m) × (n < length table.old) }
-    ensures { Judges (under pairs.now) c.now d.now table.old result table.new }
-{
-    let mut next = [0u16; 1009];
-    let mut head = [0u16; 4093];
-    let mut node = [0u16; 1009];
-    let mut bad = [0u8; 1009];
-    let mut full = [0u8; 1009];
-    let mut states = [0u16; 1009];
-    judge(
-        pairs,
-        index,
-        c,
-        n,
-        d,
-        m,
-        table,
-        &mut next,
-        &mut head,
-        &mut node,
-        &mut bad,
-        &mut full,
-        &mut states,
-    )
 }
 
 // The answer for two accepted descriptions: 7 where the table is too short for the first. Few entries take small tables, which are sooner
@@ -167,9 +130,9 @@ fn judge_read(
         return Holding::Refused(7, 0, 0);
     }
     if n < 64 && m < 64 {
-        return judge_few(pairs, index, c, n, d, m, table);
+        return judge::<64, 61>(pairs, index, c, n, d, m, table);
     }
-    judge_many(pairs, index, c, n, d, m, table)
+    judge::<1009, 4093>(pairs, index, c, n, d, m, table)
 }
 
 // Reads the second description, where the first is accepted, with n entries.
@@ -187,7 +150,7 @@ fn second_failing(
     let reading = reading::read(d, Schema::Description, 2);
     match reading {
         Reading::Refused(number, input, place) => Holding::Refused(number, input, place),
-        Reading::Accepted(m) => judge_read(pairs, index, c, n, d, m as usize, table),
+        Reading::Accepted(m) => judge_read(pairs, index, c, n, d, usize::from(m), table),
     }
 }
 
@@ -205,7 +168,7 @@ fn failing_indexed(
     let reading = reading::read(c, Schema::Description, 1);
     match reading {
         Reading::Refused(number, input, place) => Holding::Refused(number, input, place),
-        Reading::Accepted(n) => second_failing(pairs, index, c, n as usize, d, table),
+        Reading::Accepted(n) => second_failing(pairs, index, c, usize::from(n), d, table),
     }
 }
 

@@ -1,5 +1,5 @@
 // The slots of a description, built and settled, in tables that the caller lends.
-ghost use Rattle.std.specs.Prelude.{◌≡◌, ◌<◌, ◌≤◌, min, ℕ, get_or, length};
+ghost use Rattle.std.specs.Prelude.{◌≡◌, ◌<◌, ◌≤◌, length};
 ghost use Rattle.blocks.specs.Reading.{reading_of};
 ghost use Rattle.pairs.specs.Pairs.{pair_count, under};
 ghost use Rattle.pairs.specs.code.Index.{PairsIndexed};
@@ -13,14 +13,14 @@ use crate::settle::settle;
 use blocks::{Reading, Schema};
 
 // The slots of a description with `total` entries, settled, with the chains that find them; returns their number.
-pub(crate) fn chained_slots(
+pub(crate) fn chained_slots<const BUCKETS: usize>(
     pairs: &[u8],
     index: &[u8; 512],
     d: &[u8],
     total: usize,
     table: &mut [u64],
     next: &mut [u16],
-    head: &mut [u16],
+    head: &mut [u16; BUCKETS],
     node: &mut [u16],
     bad: &mut [u8],
     full: &mut [u8],
@@ -34,8 +34,8 @@ pub(crate) fn chained_slots(
     used
 }
 
-// The slots of a description of at most 63 entries, settled, with tables of their own for what only the passes need.
-fn few_slots(
+// The slots of a description of fewer than N entries, settled, with tables of their own for what only the passes need.
+fn settled_within<const N: usize, const BUCKETS: usize>(
     pairs: &[u8],
     index: &[u8; 512],
     d: &[u8],
@@ -44,33 +44,12 @@ fn few_slots(
     bad: &mut [u8],
     full: &mut [u8],
 ) -> usize
-    requires { PairsIndexed pairs.now index.now × Readable d.now total × (total < 64) × (total < length table.old) × Blank total bad.old × Blank total full.old }
+    requires { PairsIndexed pairs.now index.now × Readable d.now total × (total < N) × (N ≤ 1009) × (61 ≤ BUCKETS) × (BUCKETS ≤ 4093) × (total < length table.old) × Blank total bad.old × Blank total full.old }
     ensures { Settled (under pairs.now) d.now result table.new bad.new full.new × Exact table.old table.new result }
 {
-    let mut next = [0u16; 64];
-    let mut head = [0u16; 61];
-    let mut node = [0u16; 64];
-    chained_slots(
-        pairs, index, d, total, table, &mut next, &mut head, &mut node, bad, full,
-    )
-}
-
-// The slots of any description, in the same way.
-fn many_slots(
-    pairs: &[u8],
-    index: &[u8; 512],
-    d: &[u8],
-    total: usize,
-    table: &mut [u64],
-    bad: &mut [u8],
-    full: &mut [u8],
-) -> usize
-    requires { PairsIndexed pairs.now index.now × Readable d.now total × (total < length table.old) × Blank total bad.old × Blank total full.old }
-    ensures { Settled (under pairs.now) d.now result table.new bad.new full.new × Exact table.old table.new result }
-{
-    let mut next = [0u16; 1009];
-    let mut head = [0u16; 4093];
-    let mut node = [0u16; 1009];
+    let mut next = [0u16; N];
+    let mut head = [0u16; BUCKETS];
+    let mut node = [0u16; N];
     chained_slots(
         pairs, index, d, total, table, &mut next, &mut head, &mut node, bad, full,
     )
@@ -90,26 +69,9 @@ fn settled_slots(
     ensures { Settled (under pairs.now) d.now result table.new bad.new full.new × Exact table.old table.new result }
 {
     if total < 64 {
-        return few_slots(pairs, index, d, total, table, bad, full);
+        return settled_within::<64, 61>(pairs, index, d, total, table, bad, full);
     }
-    many_slots(pairs, index, d, total, table, bad, full)
-}
-
-// Clears a table of marks.
-fn clear(marks: &mut [u8])
-    ensures { (j : ℕ) → get_or marks.new j 0 ≡ 0 }
-{
-    let mut i: usize = 0;
-    while i < marks.len() {
-        marks[i] = 0;
-        i += 1;
-    }
-}
-
-fn smaller(a: usize, b: usize) -> usize
-    ensures { result ≡ min a b }
-{
-    if a < b { a } else { b }
+    settled_within::<1009, 4093>(pairs, index, d, total, table, bad, full)
 }
 
 // Fills the tables with the slots of an accepted description with `total` entries; or 7 where one of them is too short for it.
@@ -125,11 +87,11 @@ fn fill_accepted(
     requires { PairsIndexed pairs.now index.now × (reading_of Schema.Description 1 d.now ≡ Reading.Accepted total) }
     ensures { Fills (under pairs.now) d.now table.old bad.old full.old result table.new bad.new full.new }
 {
-    if smaller(table.len(), smaller(bad.len(), full.len())) <= total {
+    if table.len().min(bad.len().min(full.len())) <= total {
         return Slotting::Refused(7, 0, 0);
     }
-    clear(bad);
-    clear(full);
+    bad.fill(0);
+    full.fill(0);
     Slotting::Filled(settled_slots(pairs, index, d, total, table, bad, full) as u16)
 }
 
@@ -148,7 +110,7 @@ fn fill_indexed(
     let reading = reading::read(d, Schema::Description, 1);
     match reading {
         Reading::Refused(number, input, place) => Slotting::Refused(number, input, place),
-        Reading::Accepted(n) => fill_accepted(pairs, index, d, n as usize, table, bad, full),
+        Reading::Accepted(n) => fill_accepted(pairs, index, d, usize::from(n), table, bad, full),
     }
 }
 

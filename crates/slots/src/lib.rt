@@ -49,10 +49,10 @@ enum Judgement {
     Refused(u8, u16, u16),
 }
 
-// What going over the entries of a service answers: the number of the first that is refused and its place, or the first that does not hold, 0
-// where all do.
+// What going over the entries of a service answers: the number of the first that is refused and its place, or the first that does not hold, if
+// there is one.
 #[derive(Clone, Copy)]
 enum Pass {
     Faulty(u8, u16),
-    Through(usize),
+    Through(Option<usize>),
 }

@@ -4,27 +4,22 @@ ghost use Rattle.std.specs.Prelude.{◌≡◌, ◌&&◌, ◌%◌, ◌/◌, ◌<�
 ghost use Rattle.pairs.specs.code.Index.{PairsIndexed, bucket_of};
 ghost use Rattle.slots.specs.code.Tables.{Kept, Placed, Restricted, excluded_high, excluded_slot, key_in, link_word, no_bound, property_word, restricted_word, single_high};
 
-use crate::excluding::excluded;
-use crate::slots::{NO_BOUND, high_in, key_in, low_in, make_slot};
+use crate::slots::{NO_BOUND, Slots, high_in, key_in, low_in, make_slot};
 use blocks::Property;
 use pairs::last_naming;
 
 // The upper bound of such a link: 0, so that nothing meets the slot, where more than one are asked for; none where one or more are
 // allowed, since every record keeps that.
+#[tactic(auto, unfolding(crate::specs::code::Tables::single_high))]
 fn single_high(lo: u64, hi: u64) -> u64
     ensures { (result ≡ single_high lo hi) × (result ≤ no_bound) }
 {
-    if 1 < lo {
-        return 0;
-    }
-    if hi == 0 {
-        return 0;
-    }
-    NO_BOUND
+    if 1 < lo || hi == 0 { 0 } else { NO_BOUND }
 }
 
 // The upper bound of a property that is excluded at its place: none, since its lack is implied; but 0, so that nothing meets the slot,
 // where the place has it.
+#[tactic(auto, unfolding(crate::specs::code::Tables::excluded_high))]
 fn excluded_high(lo: u64) -> u64
     ensures { (result ≡ excluded_high lo) × (result ≤ no_bound) }
 {
@@ -58,28 +53,6 @@ fn of_property(x: u64) -> bool
     key_in(x) % 131072 < 65536
 }
 
-// A slot under the rule, by its class.
-fn restricted_by_class(
-    pairs: &[u8],
-    index: &[u8; 512],
-    table: &[u64],
-    next: &[u16],
-    head: &[u16],
-    used: usize,
-    x: u64,
-) -> u64
-    requires { PairsIndexed pairs.now index.now × Kept table.now next.now head.now used × (used ≤ 1008) × (key_in x / 131072 < 1024) }
-    ensures { result ≡ restricted_word (excluded_slot pairs.now table.now used x) x }
-{
-    if !of_property(x) {
-        return restricted_link(x);
-    }
-    let k = key_in(x);
-    let p = Property((k % 65536) as u16);
-    let out = excluded(pairs, index, table, next, head, used, k / 131072, p);
-    restricted_property(x, out)
-}
-
 // Whether a slot of this key stays as it is whatever the others are: no pair has a property of its bucket, and it is not that of a link from
 // 32,768 up. Most slots stay, of either class, so that the jump by class, which nothing foretells, is for the few others.
 fn stays(index: &[u8; 512], key: u64) -> bool
@@ -91,40 +64,48 @@ fn stays(index: &[u8; 512], key: u64) -> bool
     key % 131072 < 98304
 }
 
-// A slot under the rule.
-fn restricted(
+// A slot under the rule: a link's by its name, a property's by whether it is excluded.
+fn restricted<const BUCKETS: usize>(
     pairs: &[u8],
     index: &[u8; 512],
-    table: &[u64],
-    next: &[u16],
-    head: &[u16],
-    used: usize,
+    slots: Slots<'_, BUCKETS>,
     x: u64,
 ) -> u64
-    requires { PairsIndexed pairs.now index.now × Kept table.now next.now head.now used × (used ≤ 1008) × (key_in x / 131072 < 1024) }
-    ensures { result ≡ restricted_word (excluded_slot pairs.now table.now used x) x }
+    requires { PairsIndexed pairs.now index.now × (key_in x / 131072 < 1024) }
+    ensures { result ≡ restricted_word (excluded_slot pairs.now slots.entry.table.now slots.entry.used x) x }
 {
-    if stays(index, key_in(x)) {
+    let k = key_in(x);
+    if stays(index, k) {
         return x;
     }
-    restricted_by_class(pairs, index, table, next, head, used, x)
+    if !of_property(x) {
+        return restricted_link(x);
+    }
+    let p = Property((k % 65536) as u16);
+    let out = slots.excluded(pairs, index, k / 131072, p);
+    restricted_property(x, out)
 }
 
 // Puts the slots 1 to `used` under the rule. What a place has does not change on the way.
-pub(crate) fn restrict_slots(
+pub(crate) fn restrict_slots<const BUCKETS: usize>(
     pairs: &[u8],
     index: &[u8; 512],
     table: &mut [u64],
     next: &[u16],
-    head: &[u16],
+    head: &[u16; BUCKETS],
     used: usize,
 )
     requires { PairsIndexed pairs.now index.now × Kept table.old next.now head.now used × (used ≤ 1008) × Placed table.old used }
     ensures { Restricted pairs.now table.old used used table.new }
 {
-    let mut s: usize = 0;
-    while s < used {
-        s += 1;
-        table[s] = restricted(pairs, index, table, next, head, used, table[s]);
+    for s in 1..used + 1 {
+        let slots = Slots {
+            table: table,
+            next: next,
+            head: head,
+            used: used,
+        };
+        let x = restricted(pairs, index, slots, slots.table[s]);
+        table[s] = x;
     }
 }

@@ -25,12 +25,7 @@ pub(crate) fn link_in(x: u64) -> bool
 fn closed(link: bool, bad: u8, hi: u64) -> u64
     ensures { (result ≡ cond (link && not (eqb bad 0)) 0 hi) × (result ≤ hi) }
 {
-    if link {
-        if bad != 0 {
-            return 0;
-        }
-    }
-    hi
+    if link && bad != 0 { 0 } else { hi }
 }
 
 // Whether nothing meets a slot of these bounds.
@@ -50,16 +45,7 @@ fn is_broken(link: bool, lo: u64, hi: u64) -> bool
 fn asks(link: bool, lo: u64, hi: u64, full: u8) -> bool
     ensures { result ≡ not (eqb lo 0) || (found (high_in hi) || (link && not (eqb full 0))) }
 {
-    if lo != 0 {
-        return true;
-    }
-    if hi < NO_BOUND {
-        return true;
-    }
-    if link {
-        return full != 0;
-    }
-    false
+    lo != 0 || hi < NO_BOUND || (link && full != 0)
 }
 
 // Marks place v where the test holds.
@@ -94,9 +80,7 @@ pub(crate) fn settle(table: &mut [u64], bad: &mut [u8], full: &mut [u8], used: u
     requires { (used < length table.old) × Placed table.old used × Blank used bad.old × Blank used full.old }
     ensures { Settling table.old used 0 table.new bad.new full.new }
 {
-    let mut s = used;
-    while 0 < s {
+    for s in (1..used + 1).rev() {
         settle_slot(table, bad, full, s);
-        s -= 1;
     }
 }

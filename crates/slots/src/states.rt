@@ -1,6 +1,6 @@
 // Which entries of a second description hold: one pass over them, with the state of each 'every' in a table, and one look at the slots for
 // an entry. The slots are not sorted.
-ghost use Rattle.std.specs.Prelude.{◌≡◌, cond, List, ◌+◌, ◌*◌, ◌≤◌, ◌<◌, eqb, get_or, length};
+ghost use Rattle.std.specs.Prelude.{◌≡◌, cond, List, ◌+◌, ◌*◌, ◌≤◌, ◌<◌, eqb, get_or, length, unwrap_or, IfSome, ◌||◌, is_some};
 ghost use Rattle.blocks.specs.Entries.{entries_of};
 ghost use Rattle.blocks.specs.code.Blockwise.{InBlock};
 ghost use Rattle.base.specs.Range.{bit};
@@ -12,17 +12,16 @@ ghost use Rattle.pairs.specs.Pairs.{under};
 ghost use Rattle.pairs.specs.code.Index.{PairsIndexed};
 ghost use Rattle.passes.specs.code.Restrict.{excluded_at};
 ghost use Rattle.passes.specs.code.Slots.{Slot};
-ghost use Rattle.slots.specs.code.States.{Indexed, Searched, Stated, beside_bounds, bounds_support, entry_slot, holds_in_state, holds_by_slots, least_asked, most_asked, nowhere, passed, state_below};
-ghost use Rattle.slots.specs.code.Tables.{Kept, Readable, high_in, high_part, low_part, no_bound, slots_in};
+ghost use Rattle.slots.specs.code.Lent.{IndexedIn, SearchedIn, StatedIn};
+ghost use Rattle.slots.specs.code.States.{beside_bounds, bounds_support, entry_slot, holds_in_state, holds_by_slots, least_asked, most_asked, nowhere, passed, state_below};
+ghost use Rattle.slots.specs.code.Tables.{Readable, high_in, high_part, low_part, no_bound, slots_in};
 
 use crate::entries::entry_from;
-use crate::excluding::excluded;
-use crate::slots::{NO_BOUND, entry_key, high_in, low_in, search};
-use base::{long, wide};
+use crate::slots::{NO_BOUND, Slots, entry_key, high_in, low_in};
 use blocks::{Entry, next_count};
 
 // Two states that are no place of the normal form: below NOWHERE nothing stands, and after PASSED, an at most 0, all holds. A slot has
-// neither number.
+// neither number. They stay numbers and no enum, since a state is looked up as a place: there is no slot at NOWHERE, which needs no test.
 const NOWHERE: u16 = 1023;
 
 const PASSED: u16 = 1024;
@@ -34,29 +33,11 @@ const ANY: u64 = 131071;
 
 const NEVER: u64 = 131072;
 
-// The slot of an entry at a place, or 0.
-fn entry_slot(table: &[u64], next: &[u16], head: &[u16], used: usize, place: u64, e: Entry) -> usize
-    requires { Kept table.now next.now head.now used × (used ≤ 1008) × (place < 1024) }
-    ensures { (result ≤ used) × ((ss : List Slot) → Indexed ss table.now next.now head.now used → result ≡ entry_slot ss place e) }
-{
-    search(table, next, head, used, entry_key(place, e))
-}
-
-// The bounds of a slot, as a slot; none where there is no slot.
-fn bounds(table: &[u64], s: usize) -> u64
-    requires { s < length table.now }
-    ensures { result ≡ cond (eqb s 0) no_bound (get_or table.now s 0) }
-{
-    if s == 0 {
-        return NO_BOUND;
-    }
-    table[s]
-}
-
 // What an entry asks of the bounds of its slot, kind by kind: "Kinds 1 and 2 need the same entry; kind 3 needs n = 0 or at least m with
 // m ≥ n; kind 4 needs at most m with m ≤ n; kind 5 always holds; kind 6 never does." There are no other kinds. The entry's own number comes
 // on top where it counts. All that a kind decides is a number known beforehand, so that it takes no jump: services come in any order
 // of kinds, and a jump by kind would be guessed wrong.
+#[tactic(auto, unfolding(crate::specs::code::States::least_asked))]
 fn least_asked(kind: u8) -> u64
     ensures { (result ≡ least_asked kind) × (result ≤ 131072) }
 {
@@ -70,6 +51,7 @@ fn least_asked(kind: u8) -> u64
     }
 }
 
+#[tactic(auto, unfolding(crate::specs::code::States::most_asked))]
 fn most_asked(kind: u8) -> u64
     ensures { (result ≡ most_asked kind) × (result ≤ 131071) }
 {
@@ -87,7 +69,7 @@ fn most_asked(kind: u8) -> u64
 fn number_of(kind: u8, other: u8, number: u16) -> u64
     ensures { (result ≡ bit (eqb kind other) * number) × (result < 65536) }
 {
-    if kind == other { long(number) } else { 0 }
+    if kind == other { u64::from(number) } else { 0 }
 }
 
 // Whether a slot's bounds support an entry of this kind and number.
@@ -107,149 +89,142 @@ fn always(link: u16, number: u16) -> bool
     32768 <= link && 1 <= number
 }
 
-// Whether an entry holds at a place that does not list it: an at most that every record keeps, or a lack that the place implies, since it
-// has a property that excludes the entry's.
-fn holds_beside(
-    pairs: &[u8],
-    index: &[u8; 512],
-    table: &[u64],
-    next: &[u16],
-    head: &[u16],
-    used: usize,
-    place: u64,
-    e: Entry,
-) -> bool
-    requires { PairsIndexed pairs.now index.now × Kept table.now next.now head.now used × (place < 1024) }
-    ensures { result ≡ beside_bounds standing (excluded_at (under pairs.now) (slots_in table.now used) place e.name) e.kind e.name e.number }
+// The state below an entry of this slot, if it is an 'every', whose link has at most `hi` there.
+fn state_below(found: Option<usize>, hi: u64) -> u16
+    requires { (unwrap_or found 0 ≤ 1008) × IfSome found (λ s. 1 ≤ s) }
+    ensures { (result ≡ cond (eqb (unwrap_or found 0) 0) nowhere (cond (eqb hi 0) passed (unwrap_or found 0))) × (result ≤ passed) }
 {
-    let kind = e.kind;
-    match kind {
-        2 => excluded(pairs, index, table, next, head, used, place, e.property()),
-        4 => always(e.name, e.number),
-        _ => false,
+    match found {
+        Some(s) => if hi == 0 { PASSED } else { s as u16 },
+        None => NOWHERE,
     }
 }
 
-// The state below an entry of slot s, if it is an 'every', whose link has at most `hi` there.
-fn state_below(s: usize, hi: u64) -> u16
-    requires { s ≤ 1008 }
-    ensures { (result ≡ cond (eqb s 0) nowhere (cond (eqb hi 0) passed s)) × (result ≤ passed) }
-{
-    if s == 0 {
-        return NOWHERE;
+impl<const BUCKETS: usize> Slots<'_, BUCKETS> {
+    // The slot of an entry at a place.
+    fn entry_slot(self, place: u64, e: Entry) -> Option<usize>
+        requires { place < 1024 }
+        ensures { (unwrap_or result 0 ≤ self.entry.used) × IfSome result (λ s. 1 ≤ s)
+            × ((ss : List Slot) → IndexedIn ss self.entry → unwrap_or result 0 ≡ entry_slot ss place e) }
+    {
+        self.search(entry_key(place, e))
     }
-    if hi == 0 { PASSED } else { s as u16 }
-}
 
-// Whether an entry holds, and the state of the place that it owns, if it is an 'every'.
-#[derive(Clone, Copy)]
-pub(crate) struct Looked {
-    pub holds: bool,
-    pub below: u16,
-}
-
-// Looks an entry up in a place of this state: once, for both.
-pub(crate) fn look(
-    pairs: &[u8],
-    index: &[u8; 512],
-    table: &[u64],
-    next: &[u16],
-    head: &[u16],
-    used: usize,
-    state: u16,
-    e: Entry,
-) -> Looked
-    requires { PairsIndexed pairs.now index.now × Kept table.now next.now head.now used × (used ≤ 1008) × (state ≤ passed) }
-    ensures { (result.below ≤ passed) × ((ss : List Slot) → Indexed ss table.now next.now head.now used → result.holds ≡ holds_in_state (under pairs.now) ss state e)
-        × (e.kind ≡ 5 → (ss : List Slot) → Indexed ss table.now next.now head.now used → result.below ≡ state_below ss state e.name) }
-{
-    if state == PASSED {
-        return Looked {
-            holds: true,
-            below: PASSED,
-        };
-    }
-    let place = long(state);
-    let s = entry_slot(table, next, head, used, place, e);
-    let x = bounds(table, s);
-    let below = state_below(s, high_in(x));
-    if supported(e.kind, e.number, x) {
-        return Looked {
-            holds: true,
-            below: below,
-        };
-    }
-    Looked {
-        holds: holds_beside(pairs, index, table, next, head, used, place, e),
-        below: below,
-    }
-}
-
-// The number of the first that fails of `count` entries, those after the first `done`, whose bytes start at `from`; 0 where all hold.
-fn failing_in_block(
-    pairs: &[u8],
-    index: &[u8; 512],
-    table: &[u64],
-    next: &[u16],
-    head: &[u16],
-    used: usize,
-    d: &[u8],
-    from: usize,
-    count: usize,
-    done: usize,
-    states: &mut [u16],
-) -> usize
-    requires { PairsIndexed pairs.now index.now × Kept table.now next.now head.now used × (used ≤ 1008) × Owned (entries_of d.now) × (length (entries_of d.now) ≤ 1008)
-        × InBlock d.now from count done × Stated d.now table.now next.now head.now used done states.old }
-    ensures { Searched (under pairs.now) d.now table.now next.now head.now used done count states.new result }
-{
-    let mut i: usize = 0;
-    loop {
-        if count <= i {
-            break 0;
+    // The bounds of a slot, as a slot; none where there is no slot.
+    fn bounds(self, found: Option<usize>) -> u64
+        requires { (unwrap_or found 0 ≤ self.used) × IfSome found (λ s. 1 ≤ s) }
+        ensures { result ≡ cond (eqb (unwrap_or found 0) 0) no_bound (get_or self.entry.table.now (unwrap_or found 0) 0) }
+    {
+        match found {
+            Some(s) => self.table[s],
+            None => NO_BOUND,
         }
-        let e = entry_from(d, from + 8 * i);
-        let s = states[wide(e.owner)];
-        i += 1;
-        let v = look(pairs, index, table, next, head, used, s, e);
-        if !v.holds {
-            break done + i;
-        }
-        states[done + i] = v.below;
     }
-}
 
-// The number of the first entry of a description with `total` entries that fails; 0 where all hold. Block by block. What the lent states
-// held does not count, so that one table of them serves for many descriptions.
-pub(crate) fn first_failing_entry(
-    pairs: &[u8],
-    index: &[u8; 512],
-    table: &[u64],
-    next: &[u16],
-    head: &[u16],
-    used: usize,
-    d: &[u8],
-    total: usize,
-    states: &mut [u16],
-) -> usize
-    requires { PairsIndexed pairs.now index.now × Kept table.now next.now head.now used × (used ≤ 1008) × Readable d.now total × (total < length states.old) }
-    ensures { (result ≤ total) × ((ss : List Slot) → Indexed ss table.now next.now head.now used → result ≡ first_from (holds_by_slots (under pairs.now) ss (entries_of d.now)) 1 total) }
-{
-    states[0] = 0;
-    let mut n: usize = 0;
-    let mut at: usize = 4;
-    loop {
-        if total <= n {
-            break 0;
+    // Whether an entry holds at a place that does not list it: an at most that every record keeps, or a lack that the place implies, since it
+    // has a property that excludes the entry's.
+    fn holds_beside(self, pairs: &[u8], index: &[u8; 512], place: u64, e: Entry) -> bool
+        requires { PairsIndexed pairs.now index.now × (place < 1024) }
+        ensures { result ≡ beside_bounds standing (excluded_at (under pairs.now) (slots_in self.entry.table.now self.entry.used) place e.name) e.kind e.name e.number }
+    {
+        let kind = e.kind;
+        match kind {
+            2 => self.excluded(pairs, index, place, e.property()),
+            4 => always(e.name, e.number),
+            _ => false,
         }
-        let count = next_count(total - n);
-        let e = failing_in_block(
-            pairs, index, table, next, head, used, d, at, count, n, states,
-        );
-        if e != 0 {
-            break e;
+    }
+
+    // Whether an entry holds at a place, by the bounds of its slot or beside them.
+    fn holds_at(self, pairs: &[u8], index: &[u8; 512], place: u64, e: Entry, x: u64) -> bool
+        requires { PairsIndexed pairs.now index.now × (place < 1024) }
+        ensures { result ≡ (bounds_support e.kind e.number (low_part x) (high_in (high_part x))
+            || beside_bounds standing (excluded_at (under pairs.now) (slots_in self.entry.table.now self.entry.used) place e.name) e.kind e.name e.number) }
+    {
+        supported(e.kind, e.number, x) || self.holds_beside(pairs, index, place, e)
+    }
+
+    // Looks an entry up in a place of this state: if it holds there, the state of the place that it owns, should it be an 'every'.
+    pub(crate) fn look(self, pairs: &[u8], index: &[u8; 512], state: u16, e: Entry) -> Option<u16>
+        requires { PairsIndexed pairs.now index.now × (state ≤ passed) }
+        ensures { IfSome result (λ y. y ≤ passed)
+            × ((ss : List Slot) → IndexedIn ss self.entry → is_some result ≡ holds_in_state (under pairs.now) ss state e)
+            × (e.kind ≡ 5 → (ss : List Slot) → IndexedIn ss self.entry
+            → IfSome result (λ y. y ≡ state_below ss state e.name)) }
+    {
+        if state == PASSED {
+            return Some(PASSED);
         }
-        n += count;
-        at += 512;
+        let place = u64::from(state);
+        let s = self.entry_slot(place, e);
+        let x = self.bounds(s);
+        if !self.holds_at(pairs, index, place, e, x) {
+            return None;
+        }
+        Some(state_below(s, high_in(x)))
+    }
+
+    // The number of the first that fails of `count` entries, those after the first `done`, whose bytes start at `from`.
+    fn failing_in_block(
+        self,
+        pairs: &[u8],
+        index: &[u8; 512],
+        d: &[u8],
+        from: usize,
+        count: usize,
+        done: usize,
+        states: &mut [u16],
+    ) -> Option<usize>
+        requires { PairsIndexed pairs.now index.now × Owned (entries_of d.now) × (length (entries_of d.now) ≤ 1008)
+            × InBlock d.now from count done × StatedIn d.now self done states.old }
+        ensures { SearchedIn (under pairs.now) d.now self.entry done count states.new (unwrap_or result 0)
+            × IfSome result (λ n. 1 ≤ n) }
+    {
+        let mut i: usize = 0;
+        loop {
+            if count <= i {
+                break None;
+            }
+            let e = entry_from(d, from + 8 * i);
+            let s = states[usize::from(e.owner)];
+            i += 1;
+            match self.look(pairs, index, s, e) {
+                Some(below) => states[done + i] = below,
+                None => break Some(done + i),
+            }
+        }
+    }
+
+    // The number of the first entry of a description with `total` entries that fails. Block by block. What the lent states held does not
+    // count, so that one table of them serves for many descriptions.
+    pub(crate) fn first_failing_entry(
+        self,
+        pairs: &[u8],
+        index: &[u8; 512],
+        d: &[u8],
+        total: usize,
+        states: &mut [u16],
+    ) -> Option<usize>
+        requires { PairsIndexed pairs.now index.now × Readable d.now total × (total < length states.old) }
+        ensures { (unwrap_or result 0 ≤ total) × IfSome result (λ n. 1 ≤ n)
+            × ((ss : List Slot) → IndexedIn ss self.entry
+            → unwrap_or result 0 ≡ first_from (holds_by_slots (under pairs.now) ss (entries_of d.now)) 1 total) }
+    {
+        states[0] = 0;
+        let mut n: usize = 0;
+        let mut at: usize = 4;
+        loop {
+            if total <= n {
+                break None;
+            }
+            let count = next_count(total - n);
+            match self.failing_in_block(pairs, index, d, at, count, n, states) {
+                Some(e) => break Some(e),
+                None => {
+                    n += count;
+                    at += 512;
+                }
+            }
+        }
     }
 }

@@ -2,6 +2,7 @@
 -- Assumes nothing.
 use Prim.Native.Nat.{◌*◌, ◌<◌, ◌≤◌, ℕ}
 use lib.Dec.{eqb, leb}
+use lib.Seq.{take_all}
 use lib.ListN.{length, length-map, take}
 use mathlib.Core.Bool.{cond, false, true}
 use mathlib.Core.List.{List, [], ◌∷◌, map}
@@ -20,7 +21,6 @@ use Rattle.blocks.specs.code.Blockwise.{Whole}
 use Rattle.blocks.specs.declared.Entry.{Entry}
 use Rattle.blocks.specs.declared.Reading.TheVariants as reading
 use Rattle.blocks.specs.declared.Reading.{Reading}
-use Rattle.lists.specs.Parts.{parts_of}
 use Rattle.names.proofs.Legality.NamedReadings.{small_of, taken-not-large}
 use Rattle.names.specs.NamedReading.{dictionary_of, dictionary_reading, named_reading, named_unfolding, plain_of, unfolding_of}
 use Rattle.names.specs.Promise.{LegalNamed}
@@ -107,28 +107,28 @@ module _ (out rows : List ℕ) (n : ℕ) (given : n ≤ length rows) (few : n �
           rw (some, ← size, entries-bytes (take n rows)),
         )
 
+-- the whole of a table
+pub all-rows : (rows : List ℕ) {es : List Entry} → map entry_of_row rows ≡ es → (entries_in rows (length rows) ≡ es) × (length rows ≡ length es)
+all-rows rows q = (ap (map entry_of_row) (take_all (length rows) rows (omega arith)) ∙ q, sym (length-map rows entry_of_row) ∙ ap length q)
+
 -- ---- the answer of a call that writes
 
 module _ (K : List (List Entry)) (i : ℕ) (s out : List ℕ) {r : Reading} (e : r ≡ named_unfolding K i s) where
-  pub writes-refused : {k j p : ℕ} → r ≡ reading.Refused k j p → reading.Refused k j p ≡ short_by out (named_unfolding K i s)
-  writes-refused q = rw (← e, q)
-
   pub writes_short : {n : ℕ} → r ≡ reading.Accepted n → length out < 512 * blocks_for plain n → reading.Refused 7 0 0 ≡ short_by out (named_unfolding K i s)
   writes_short q l = rw (← e, q, lt-ltb l)
 
   pub writes-all : {n : ℕ} → r ≡ reading.Accepted n → 512 * blocks_for plain n ≤ length out → reading.Accepted n ≡ short_by out (named_unfolding K i s)
   writes-all q l = rw (← e, q, ge-ltb l)
 
--- what is unfolded has at most 1,008 entries
-pub unfolds-few : (K : List (List Entry)) (i : ℕ) (s : List ℕ) {r : Reading} {n : ℕ} → r ≡ named_unfolding K i s → r ≡ reading.Accepted n → n ≤ 1008
+-- what is unfolded has as many entries as is answered
+pub unfolds-many : (K : List (List Entry)) (i : ℕ) (s : List ℕ) {r : Reading} {n : ℕ} → r ≡ named_unfolding K i s → r ≡ reading.Accepted n → n ≡ length (unfolded_by K (entries_of s))
 unfolding named_unfolding
-unfolds-few K i s {r} {n} e q =
+unfolds-many K i s {r} {n} e q =
     reading-cases (named_reading K i s)
     (λ k j p h. let f : reading.Accepted n ≡ reading.Refused k j p = sym q ∙ e ∙ rw h in let z : ◌≡◌ {A = ℕ} 0 1 = cc in absurd (omega arith))
     (λ m h.
     let f : reading.Accepted n ≡ reading.Accepted (length (unfolded_by K (entries_of s))) = sym q ∙ e ∙ rw h in
-    let z : n ≡ length (unfolded_by K (entries_of s)) = cc in
-    omega (arith, (small_of (unfolded_by K (entries_of s)) (taken-not-large K i s h)).size))
+    cc)
 
 -- ---- a dictionary, and what comes after it
 
@@ -154,10 +154,6 @@ module _ (D : List ℕ) (i : ℕ) (s out : List ℕ) where
   unfold-goes {r} e q w =
       let a : r ≡ unfold_at D i s out = q ∙ ap (short_by out) (sym e) in
       (a, w ∙ ap (λ (x : Reading). unless_refused (λ k i p. out) x (over (plain_of D s) out)) a)
-
--- how many descriptions there are
-pub dictionary-count : (D : List ℕ) {n : ℕ} → n ≡ length (parts_of D) → n ≡ length (dictionary_of D)
-dictionary-count D e = e ∙ sym (length-map (parts_of D) entries_of)
 
 -- ---- two descriptions
 

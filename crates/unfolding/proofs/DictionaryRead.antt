@@ -4,9 +4,9 @@ use Prim.Native.Nat.{◌+◌, ◌<◌, ◌≤◌, suc, ℕ}
 use lib.ListN.{drop, drop_of_length-le, get_or, length, length-map, length-replicate, length-set, replicate, set, take}
 use lib.Seq.{get_or-set_other, get_or-set_same, length-take-le, take_all, take-suc}
 use mathlib.Core.List.{List, [], ◌++◌, ◌∷◌, map, map-append}
-use mathlib.Core.Path.{◌∙◌, ◌≡◌, ap, refl, subst}
+use mathlib.Core.Path.{◌∙◌, ◌≡◌, ap, refl, subst, sym}
 use native.Mathlib.Omega.{arith}
-use Rattle.base.proofs.Parts.{high_of, low_of}
+use Rattle.base.proofs.Parts.{high_of, low-is}
 use Rattle.base.proofs.Tests.{eq-cases}
 use Rattle.blocks.proofs.RoundTrip.Unbroken.{Unbroken}
 use Rattle.blocks.specs.Entries.{entries_of}
@@ -19,9 +19,11 @@ use Rattle.lists.specs.Parts.{first_length, parts_of, start_of}
 use Rattle.names.proofs.Legality.NamedReadings.{taken-within}
 use Rattle.names.specs.NamedReading.{dictionary_of, named_reading, parts_reading}
 use Rattle.unfolding.proofs.KnownLaws.{known_more, known_start}
-use Rattle.unfolding.specs.code.Known.{Known, MeasuredBy, Ready}
+use Rattle.unfolding.specs.code.Known.{Known, MeasuredBy, Ready, blank, start_in}
 use Rattle.unfolding.specs.declared.Measured.TheVariants as measured
 use Rattle.unfolding.specs.declared.Measured.{Measured}
+use Rattle.unfolding.specs.declared.tables.Described.{Described}
+use Rattle.unfolding.specs.declared.tables.Tables.{Tables}
 
 -- the first n descriptions
 abbrev pub earlier : List ℕ → ℕ → List (List Entry)
@@ -38,27 +40,30 @@ earlier_more D n h = ap (map entries_of) (take-suc (parts_of D) n [] h) ∙ map-
 measured-as : (K : List (List Entry)) (i : ℕ) (s : List ℕ) {r r' : Measured} → r ≡ r' → MeasuredBy K i s r → MeasuredBy K i s r'
 measured-as K i s q M = subst (MeasuredBy K i s) q M
 
--- n descriptions are read and taken: the tables have where they begin, their sizes and levels, and the answer is what the others give
-pub record Passed (D start size levels : List ℕ) (at n : ℕ) : Type 0 where
-  pub reached : Reached D at n
-  pub long : (length size ≡ 65) × (length levels ≡ 65) × (length start ≡ 65)
-  pub starts : (k : ℕ) → k < n → get_or start k 0 ≡ start_of k D
-  pub known : Known (earlier D n) size levels
-  pub same : parts_reading [] (parts_of D) ≡ parts_reading (earlier D n) (drop n (parts_of D))
-  pub sound : (k : ℕ) → k < n → Unbroken plain (Named k) (get_or (parts_of D) k [])
+-- some descriptions are read and taken: the tables have where they begin, their sizes and levels, and the answer is what the others give
+pub record Passed (D : List ℕ) (t : Tables) (at : ℕ) : Type 0 where
+  pub reached : Reached D at t.count
+  pub long : length t.of ≡ 65
+  pub starts : (k : ℕ) → k < t.count → start_in t.of (k + 1) ≡ start_of k D
+  pub known : Known (earlier D t.count) t
+  pub same : parts_reading [] (parts_of D) ≡ parts_reading (earlier D t.count) (drop t.count (parts_of D))
+  pub sound : (k : ℕ) → k < t.count → Unbroken plain (Named k) (get_or (parts_of D) k [])
 
 -- before the first
-pub passed_start : (D start size levels : List ℕ) → start ≡ replicate 65 0 → size ≡ replicate 65 0 → levels ≡ replicate 65 0 → Passed D start size levels 0 0
-passed_start D start size levels b s l = record {
-  reached = reached-start D;
-  long = (ap length s ∙ length-replicate {A = ℕ} 65 0, ap length l ∙ length-replicate {A = ℕ} 65 0, ap length b ∙ length-replicate {A = ℕ} 65 0);
+pub passed_start : (D : List ℕ) (t : Tables) → t.of ≡ replicate 65 blank → t.count ≡ 0 → Passed D t 0
+passed_start D t s c = record {
+  reached = rw c (reached-start D);
+  long = ap length s ∙ length-replicate {A = Described} 65 blank;
   starts = λ k h. absurd (omega arith);
-  known = known_start size levels s l;
-  same = refl;
+  known = let K : earlier D t.count ≡ [] = rw c in rw K (known_start t s c);
+  same = rw c;
   sound = λ k h. absurd (omega arith);
 }
 
-module _ {D start size levels : List ℕ} {at n : ℕ} (P : Passed D start size levels at n) where
+module _ {D : List ℕ} {t : Tables} {at : ℕ} (P : Passed D t at) where
+  abbrev n : ℕ
+  n = t.count
+
   -- how many there are
   pub passed-many : length (earlier D n) ≡ n
   passed-many = length-earlier D n P.reached.few
@@ -75,15 +80,16 @@ module _ {D start size levels : List ℕ} {at n : ℕ} (P : Passed D start size 
 
     -- where it is taken, the tables have its size and its levels
     known_next : length (parts_of D) ≤ 64 → {m z l : ℕ} → MeasuredBy (earlier D n) (101 + n) (get_or (parts_of D) n []) (measured.Taken m z l)
-        → Known (earlier D (n + 1)) (set size (n + 1) z) (set levels (n + 1) l)
-    known_next few M =
+        → (t' : Tables) → t'.count ≡ n + 1 → t'.of ≡ set t.of (n + 1) (record { start = at; size = z; levels = l }) → Known (earlier D (n + 1)) t'
+    known_next few {z = z} {l = l} M t' c q =
         let K = earlier D n in
         let s = get_or (parts_of D) n [] in
         let one : n + 1 ≡ suc n = omega arith in
         let W = taken-within K (101 + n) s P.known.sized.each M.5 M.0 in
-        let more = known_more K (entries_of s) P.known M.5 W (omega (arith, passed-many, some)) P.long.0 P.long.1 in
+        let d : Described = record { start = at; size = z; levels = l } in
+        let more = known_more K (entries_of s) {t' = t'} P.known M.5 W (omega (arith, passed-many, some)) P.long d M.3 M.4 (omega (arith, passed-many)) (rw passed-many q) in
         let list : earlier D (n + 1) ≡ K ++ (entries_of s ∷ []) = ap (earlier D) one ∙ earlier_more D n some in
-        rw (list, M.3, M.4) (rw passed-many at more)
+        rw list more
 
     -- the answer is what the others give
     same_next : {m z l : ℕ} → MeasuredBy (earlier D n) (101 + n) (get_or (parts_of D) n []) (measured.Taken m z l)
@@ -100,36 +106,36 @@ module _ {D start size levels : List ℕ} {at n : ℕ} (P : Passed D start size 
         (λ q. P.sound k (omega arith))
 
     -- the table has where it begins
-    starts-next : length (parts_of D) ≤ 64 → (k : ℕ) → k < n + 1 → get_or (set start n at) k 0 ≡ start_of k D
-    starts-next few k b =
+    starts-next : length (parts_of D) ≤ 64 → (d : Described) → d.start ≡ at → (k : ℕ) → k < n + 1 → start_in (set t.of (n + 1) d) (k + 1) ≡ start_of k D
+    starts-next few d e k b =
         eq-cases k n
-        (λ q. rw q (get_or-set_same start n at 0 (omega (arith, P.long.2, some)) ∙ P.reached.start))
-        (λ q. get_or-set_other start n k at 0 q ∙ P.starts k (omega arith))
+        (λ q. rw q (ap (λ (x : Described). x.start) (get_or-set_same t.of (n + 1) d blank (omega (arith, P.long, some))) ∙ e ∙ P.reached.start))
+        (λ q. ap (λ (x : Described). x.start) (get_or-set_other t.of (n + 1) (k + 1) d blank (omega arith)) ∙ P.starts k (omega arith))
 
     module _ {f : ℕ} (e : f ≡ first_length (high_of at D)) where
-      part-is : low_of f (high_of at D) ≡ get_or (parts_of D) n []
-      part-is = reached-part P.reached h e
+      part-is : take f (high_of at D) ≡ get_or (parts_of D) n []
+      part-is = sym (low-is f (high_of at D)) ∙ reached-part P.reached h e
 
       -- refused, it is the answer
-      pub passed-refused : {r : Measured} {k j p : ℕ} → r ≡ measured.Refused k j p → MeasuredBy (earlier D n) (101 + n) (low_of f (high_of at D)) r → parts_reading [] (parts_of D) ≡ Refused k j p
+      pub passed-refused : {r : Measured} {k j p : ℕ} → r ≡ measured.Refused k j p → MeasuredBy (earlier D n) (101 + n) (take f (high_of at D)) r → parts_reading [] (parts_of D) ≡ Refused k j p
       unfolding parts_reading
       passed-refused {k = k} {j = j} {p = p} q M =
-          let R : named_reading (earlier D n) (101 + n) (get_or (parts_of D) n []) ≡ Refused k j p = rw part-is at (measured-as (earlier D n) (101 + n) (low_of f (high_of at D)) q M) in
+          let R : named_reading (earlier D n) (101 + n) (get_or (parts_of D) n []) ≡ Refused k j p = rw part-is at (measured-as (earlier D n) (101 + n) (take f (high_of at D)) q M) in
           P.same ∙ rw (left, parts_reading, passed-many, R)
 
       -- taken, it is one of those that are passed
-      pub passed-more : length (parts_of D) ≤ 64 → {r : Measured} {m z l : ℕ} → r ≡ measured.Taken m z l → MeasuredBy (earlier D n) (101 + n) (low_of f (high_of at D)) r
-          → Passed D (set start n at) (set size (n + 1) z) (set levels (n + 1) l) (at + f) (n + 1)
-      passed-more few {m = m} {z = z} {l = l} q given =
-          let M : MeasuredBy (earlier D n) (101 + n) (get_or (parts_of D) n []) (measured.Taken m z l) = rw part-is at (measured-as (earlier D n) (101 + n) (low_of f (high_of at D)) q given) in
+      pub passed-more : length (parts_of D) ≤ 64 → {r : Measured} {m z l : ℕ} → r ≡ measured.Taken m z l → MeasuredBy (earlier D n) (101 + n) (take f (high_of at D)) r
+          → {t' : Tables} → t'.count ≡ n + 1 → t'.of ≡ set t.of (n + 1) (record { start = at; size = z; levels = l }) → Passed D t' (at + f)
+      passed-more few {m = m} {z = z} {l = l} q given {t'} c w =
+          let M : MeasuredBy (earlier D n) (101 + n) (get_or (parts_of D) n []) (measured.Taken m z l) = rw part-is at (measured-as (earlier D n) (101 + n) (take f (high_of at D)) q given) in
           let one : n + 1 ≡ suc n = omega arith in
           record {
-            reached = reached-more P.reached h e;
-            long = (length-set size (n + 1) z ∙ P.long.0, length-set levels (n + 1) l ∙ P.long.1, length-set start n at ∙ P.long.2);
-            starts = starts-next few;
-            known = known_next few M;
-            same = rw one (same_next M);
-            sound = sound-next M;
+            reached = rw c (reached-more P.reached h e);
+            long = ap length w ∙ length-set t.of (n + 1) _ ∙ P.long;
+            starts = rw (w, c) (starts-next few (record { start = at; size = z; levels = l }) refl);
+            known = let K : earlier D t'.count ≡ earlier D (n + 1) = ap (earlier D) c in rw K (known_next few M t' c w);
+            same = rw (c, one) (same_next M);
+            sound = rw c (sound-next M);
           }
 
   -- ---- the end
@@ -147,8 +153,8 @@ module _ {D start size levels : List ℕ} {at n : ℕ} (P : Passed D start size 
         let none : drop n (parts_of D) ≡ [] = drop_of_length-le (parts_of D) {i = n} (omega (arith, passed-all)) in
         P.same ∙ rw (none, parts_reading, passed-many)
 
-    pub passed-known : Known (dictionary_of D) size levels
+    pub passed-known : Known (dictionary_of D) t
     passed-known = rw (← whole) P.known
 
-    pub passed-ready : Ready D start size
-    passed-ready = record { sized = passed-known.sized; starts = λ k l. P.starts k (omega (arith, passed-all)); sound = λ k l. P.sound k (omega (arith, passed-all)) }
+    pub passed-ready : Ready D t
+    passed-ready = record { known = passed-known; starts = λ k l. P.starts k (omega (arith, passed-all)); sound = λ k l. P.sound k (omega (arith, passed-all)) }

@@ -1,14 +1,13 @@
--- The tables of sizes and levels: blank for no description, with one description more, and what they say of a description that is read.
+-- What is kept of descriptions: nothing at first, with one description more, and what they say of a description that is read.
 -- Assumes nothing.
 use Prim.Native.Nat.{◌+◌, ◌<◌, ◌≤◌, ℕ}
 use lib.Dec.{eqb}
-use lib.ListN.{length, length-append, replicate, set}
+use lib.ListN.{get_or, length, length-append, replicate, set}
 use lib.Seq.{get_or-set_other, get_or-set_same}
 use mathlib.Core.Bool.{true}
 use mathlib.Core.List.{List, [], ◌++◌, ◌∷◌}
-use mathlib.Core.Path.{◌∙◌, ◌≡◌, subst, sym}
+use mathlib.Core.Path.{◌∙◌, ◌≡◌, ap, subst, sym}
 use native.Mathlib.Omega.{arith}
-use Rattle.base.proofs.Lists.{zeros-read}
 use Rattle.base.proofs.Tests.{bool_cases, eq-cases, eqb-self, ne_eqb}
 use Rattle.blocks.proofs.Refusing.SingleFirst.{named-first}
 use Rattle.blocks.proofs.RoundTrip.Accepting.{none-of-accepted, sound-of-accepted}
@@ -30,8 +29,11 @@ use Rattle.names.specs.Measures.{levels_by, levels_named, levels_nth, size_by, s
 use Rattle.names.specs.NamedReading.{named_reading}
 use Rattle.names.specs.Promise.{LegalNamed, Within}
 use Rattle.names.specs.Unfold.{in_turn, noted}
+use Rattle.unfolding.proofs.Alike.{alike-read}
 use Rattle.unfolding.specs.code.Checking.{CheckedAll}
-use Rattle.unfolding.specs.code.Known.{Known, MeasuredBy, tabled}
+use Rattle.unfolding.specs.code.Known.{Known, MeasuredBy, blank, levels_in, size_in}
+use Rattle.unfolding.specs.declared.tables.Described.{Described}
+use Rattle.unfolding.specs.declared.tables.Tables.{Tables}
 use Rattle.unfolding.specs.declared.Checked.TheVariants as checked
 use Rattle.unfolding.specs.declared.Checked.{Checked}
 use Rattle.unfolding.specs.declared.Measured.TheVariants as measured
@@ -39,25 +41,26 @@ use Rattle.unfolding.specs.declared.Measured.TheVariants as measured
 -- ---- the tables
 
 -- blank ones, for no description
-pub known_start : (size levels : List ℕ) → size ≡ replicate 65 0 → levels ≡ replicate 65 0 → Known [] size levels
+pub known_start : (t : Tables) → t.of ≡ replicate 65 blank → t.count ≡ 0 → Known [] t
 unfolding size_nth levels_nth in_turn
-known_start size levels s l = record {
+known_start t s c = record {
   sized = record {
     few = omega arith;
     each = tt;
     within = λ n. record { few = omega arith; shallow = omega arith };
-    sizes = λ n h. zeros-read 65 s n;
+    sizes = λ n h. rw s (ap (λ (d : Described). d.size) (alike-read blank 65 n));
   };
-  deep = λ n h. zeros-read 65 l n;
+  deep = λ n h. rw s (ap (λ (d : Described). d.levels) (alike-read blank 65 n));
+  many = c;
 }
 
--- one number more in a table
-table_more : (t : List ℕ) (f : ℕ → ℕ) (k v : ℕ) → ((n : ℕ) → n ≤ 64 → tabled t n ≡ f n) → k < length t
-    → (n : ℕ) → n ≤ 64 → tabled (set t k v) n ≡ noted f k v n
-table_more t f k v h b n l =
+-- one description more in a table, and a number that is kept of each
+table_more : (of : List Described) (f : ℕ → ℕ) (g : Described → ℕ) (k : ℕ) (d : Described) → ((n : ℕ) → n ≤ 64 → g (get_or of n blank) ≡ f n) → k < length of
+    → (n : ℕ) → n ≤ 64 → g (get_or (set of k d) n blank) ≡ noted f k (g d) n
+table_more of f g k d h b n l =
     eq-cases n k
-    (λ q. rw (q, eqb-self k) (get_or-set_same t k v 0 b))
-    (λ q. rw (ne_eqb q) (get_or-set_other t k n v 0 q ∙ h n l))
+    (λ q. rw (q, eqb-self k) (ap g (get_or-set_same of k d blank b)))
+    (λ q. rw (ne_eqb q) (ap g (get_or-set_other of k n d blank q) ∙ h n l))
 
 module _ (K : List (List Entry)) (es : List Entry) where
   -- one description more: its size and its levels
@@ -74,17 +77,18 @@ module _ (K : List (List Entry)) (es : List Entry) where
   within_more h W n = bool_cases (eqb n (length K + 1)) (λ q. rw q W) (λ q. rw q (h n))
 
   -- and the tables with them
-  pub known_more : {size levels : List ℕ} → Known K size levels → LegalNamed (length K) es → Within (size_named K es) (levels_named K es)
-      → length K < 64 → length size ≡ 65 → length levels ≡ 65
-      → Known (K ++ (es ∷ [])) (set size (length K + 1) (size_named K es)) (set levels (length K + 1) (levels_named K es))
-  known_more {size} {levels} k N W b s l = record {
+  pub known_more : {t t' : Tables} → Known K t → LegalNamed (length K) es → Within (size_named K es) (levels_named K es)
+      → length K < 64 → length t.of ≡ 65 → (d : Described) → d.size ≡ size_named K es → d.levels ≡ levels_named K es
+      → t'.count ≡ length K + 1 → t'.of ≡ set t.of (length K + 1) d → Known (K ++ (es ∷ [])) t'
+  known_more {t} {t'} k N W b l d z v c q = record {
     sized = record {
       few = omega (arith, length-append K (es ∷ []));
       each = each_more LegalNamed 0 K es k.sized.each (let z : 0 + length K ≡ length K = omega arith in rw z N);
       within = rw (size-more, levels-more) (within_more k.sized.within W);
-      sizes = rw size-more (table_more size (size_nth K) (length K + 1) (size_named K es) k.sized.sizes (omega arith));
+      sizes = rw (size-more, q, ← z) (table_more t.of (size_nth K) (λ (d : Described). d.size) (length K + 1) d k.sized.sizes (omega arith));
     };
-    deep = rw levels-more (table_more levels (levels_nth K) (length K + 1) (levels_named K es) k.deep (omega arith));
+    deep = rw (levels-more, q, ← v) (table_more t.of (levels_nth K) (λ (d : Described). d.levels) (length K + 1) d k.deep (omega arith));
+    many = omega (arith, length-append K (es ∷ []));
   }
 
 -- ---- a description that is read
@@ -103,18 +107,18 @@ module _ (most i : ℕ) (s : List ℕ) (total : ℕ) (e : reading_of (Named most
       let f = subst (CheckedAll most S L (entries_of s) total) q C in
       (e ∙ rw (sym (named-first most (entries_of s) total) ∙ f.0), (f.1, f.2))
 
-module _ {K : List (List Entry)} {size levels : List ℕ} (k : Known K size levels) (es : List Entry) (N : LegalNamed (length K) es) where
+module _ {K : List (List Entry)} {t : Tables} (k : Known K t) (es : List Entry) (N : LegalNamed (length K) es) where
   -- what is worked out by the tables is its size, and its levels
-  tabled-size : size_by (tabled size) es ≡ size_named K es
+  tabled-size : size_by (size_in t.of) es ≡ size_named K es
   unfolding size_named
   tabled-size =
-      size-given (tabled size) (size_nth K) (length K) (λ n h. k.sized.sizes n (omega (arith, k.sized.few))) es
+      size-given (size_in t.of) (size_nth K) (length K) (λ n h. k.sized.sizes n (omega (arith, k.sized.few))) es
       (each-of-numbers (λ e. name_given (length K) e ≡ true) es N.name)
 
-  tabled-levels : levels_by (tabled levels) es ≡ levels_named K es
+  tabled-levels : levels_by (levels_in t.of) es ≡ levels_named K es
   unfolding levels_named
   tabled-levels =
-      levels-given (tabled levels) (levels_nth K) (length K) (λ n h. k.deep n (omega (arith, k.sized.few))) (λ j. 0) 1 es
+      levels-given (levels_in t.of) (levels_nth K) (length K) (λ n h. k.deep n (omega (arith, k.sized.few))) (λ j. 0) 1 es
       (each-of-numbers (λ e. name_given (length K) e ≡ true) es N.name)
 
 module _ (most i : ℕ) (s : List ℕ) {total : ℕ} (e : reading_of (Named most) i s ≡ Accepted total) where
@@ -128,7 +132,7 @@ module _ (most i : ℕ) (s : List ℕ) {total : ℕ} (e : reading_of (Named most
   pub read-legal : LegalNamed most (entries_of s)
   read-legal = accepted-legal most i s e
 
-module _ {K : List (List Entry)} {size levels : List ℕ} (k : Known K size levels) (i : ℕ) (s : List ℕ) {total : ℕ}
+module _ {K : List (List Entry)} {t : Tables} (k : Known K t) (i : ℕ) (s : List ℕ) {total : ℕ}
     (e : reading_of (Named (length K)) i s ≡ Accepted total) where
   abbrev legal : LegalNamed (length K) (entries_of s)
   legal = read-legal (length K) i s e
@@ -137,14 +141,14 @@ module _ {K : List (List Entry)} {size levels : List ℕ} (k : Known K size leve
   beyond : (Within (size_named K (entries_of s)) (levels_named K (entries_of s)) → ⊥) → named_reading K i s ≡ Refused 14 i 0
   beyond h = named-large K i s e (beyond-large K k.sized.each (length K) (entries_of s) legal h)
 
-  pub read-too-many : {z : ℕ} → z ≡ size_by (tabled size) (entries_of s) → 1008 < z → named_reading K i s ≡ Refused 14 i 0
+  pub read-too-many : {z : ℕ} → z ≡ size_by (size_in t.of) (entries_of s) → 1008 < z → named_reading K i s ≡ Refused 14 i 0
   read-too-many ze h = beyond (λ W. let t = tabled-size k (entries_of s) legal in omega (arith, W.few))
 
-  pub read-too-deep : {l : ℕ} → l ≡ levels_by (tabled levels) (entries_of s) → 33 < l → named_reading K i s ≡ Refused 14 i 0
+  pub read-too-deep : {l : ℕ} → l ≡ levels_by (levels_in t.of) (entries_of s) → 33 < l → named_reading K i s ≡ Refused 14 i 0
   read-too-deep le h = beyond (λ W. let t = tabled-levels k (entries_of s) legal in omega (arith, W.shallow))
 
   -- else it is taken
-  pub read_taken : {z l : ℕ} → z ≡ size_by (tabled size) (entries_of s) → l ≡ levels_by (tabled levels) (entries_of s) → z ≤ 1008 → l ≤ 33
+  pub read_taken : {z l : ℕ} → z ≡ size_by (size_in t.of) (entries_of s) → l ≡ levels_by (levels_in t.of) (entries_of s) → z ≤ 1008 → l ≤ 33
       → MeasuredBy K i s (measured.Taken total z l)
   read_taken {z} {l} ze le zb lb =
       let zs : z ≡ size_named K (entries_of s) = ze ∙ tabled-size k (entries_of s) legal in

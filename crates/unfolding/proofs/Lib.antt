@@ -1,8 +1,10 @@
+-- A table that has the same value at every place.
+pub mod Alike
 -- Laws of entries as numbers in a lent table.
 pub mod RowLaws
 -- Rules, sizes and levels, worked out in one pass over the entries.
 pub mod Measuring
--- The tables of sizes and levels: blank for no description, with one description more, and what they say of a description that is read.
+-- What is kept of descriptions: nothing at first, with one description more, and what it says of a description that is read.
 pub mod KnownLaws
 -- The descriptions of a dictionary, read in turn: how far reading has come, one description more, and the end.
 pub mod DictionaryRead

@@ -104,11 +104,11 @@ module _ (most : ℕ) (S L : ℕ → ℕ) (es : List Entry) (n count : ℕ) (t :
 
 module _ (most : ℕ) (e : Entry) (l : ℕ) where
   -- those of a name
-  pub name-rules : is_named e ≡ true
+  pub name_rules : is_named e ≡ true
       → entry_refusal (Named most) e l
       ≡ cond (eqb e.reserved 0 && eqb e.number 0) (cond (ltb 0 e.name && leb e.name most) (cond (eqb l 0) 5 (cond (ltb 33 l) 6 0)) 13) 4
   unfolding entry_refusal named_form_ok name_given
-  name-rules q = rw (entry_refusal, form-named most e, named_form_ok, name_given, q)
+  name_rules q = rw (entry_refusal, form-named most e, named_form_ok, name_given, q)
 
   -- those of any other entry are those of a description without names
   pub other-rules : is_named e ≡ false → entry_refusal (Named most) e l ≡ entry_refusal Description e l

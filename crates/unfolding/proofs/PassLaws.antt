@@ -2,12 +2,13 @@
 -- Assumes nothing.
 use Prim.Native.Nat.{◌*◌, ◌+◌, ◌-◌, ◌/◌, ◌<◌, ◌≤◌, suc, zero, ℕ}
 use lib.Dec.{eqb, leb, ltb}
-use lib.ListN.{drop, get_or, length, length-drop, length-map, length-take, take}
-use lib.Seq.{take_all}
+use lib.ListN.{drop, get_or, length, length-map, take}
 use mathlib.Core.Bool.{◌&&◌, false, true}
-use mathlib.Core.List.{List, [], ◌∷◌, map}
+use mathlib.Core.List.{List, [], ◌∷◌}
 use mathlib.Core.Path.{◌∙◌, ◌≡◌, ap, refl, subst, sym}
 use native.Mathlib.Omega.{arith}
+use Rattle.base.proofs.Lists.{get_d-map-in}
+use Rattle.base.proofs.Parts.{high_is, high_of}
 use Rattle.base.proofs.Tests.{and_left, eq-cases, eq-eqb, tests}
 use Rattle.blocks.proofs.Format.EntryBytes.{length-entries}
 use Rattle.blocks.proofs.Format.Lengths.{few-blocks, some_block}
@@ -19,22 +20,24 @@ use Rattle.blocks.specs.Words.{word_at}
 use Rattle.blocks.specs.code.Blockwise.{Whole}
 use Rattle.blocks.specs.declared.Entry.{Entry}
 use Rattle.blocks.specs.declared.Schema.TheVariants.{Named}
-use Rattle.lists.proofs.FirstPart.{first-bound}
 use Rattle.lists.proofs.PartLaws.{part_at, start-within}
 use Rattle.lists.specs.Parts.{first_length, parts_of, start_of}
 use Rattle.names.proofs.Dictionary.ByAllValues.{Given, described-given, each-given-more, given-name}
 use Rattle.names.proofs.Dictionary.ContentsUnfold.{described-forms, described-owners, given-same}
 use Rattle.names.proofs.Entries.EachEntry.{numbers-of-each}
-use Rattle.names.proofs.InPasses.PassStages.{stage-lower, stage-next, stage-room, zero-empty}
+use Rattle.names.proofs.InPasses.PassStages.{stage-last, stage-lower, stage-next, stage-room, zero-empty}
 use Rattle.names.specs.Measures.{size_nth}
+use Rattle.std.specs.List.{list_any}
 use Rattle.names.specs.NamedReading.{dictionary_of}
 use Rattle.names.specs.Promise.{FormsOk, LegalNamed, OwnersOk}
 use Rattle.names.specs.Unfold.{described, in_turn, noted, unfolded, unfolded_by}
 use Rattle.names.specs.code.Passes.{Stage, inside, kept_by}
-use Rattle.unfolding.proofs.RowLaws.{greatest-bounds, greatest-least}
-use Rattle.unfolding.specs.code.Known.{Ready, Sized, tabled}
+use Rattle.unfolding.proofs.RowLaws.{greatest-bounds, greatest-least, greatest-none, greatest-some}
+use Rattle.unfolding.specs.code.Known.{Ready, Sized, size_in, start_in}
 use Rattle.unfolding.specs.code.Replacing.{NamesFew, NamesOf}
 use Rattle.unfolding.specs.code.Rows.{greatest_name}
+use Rattle.unfolding.specs.declared.tables.Described.{Described}
+use Rattle.unfolding.specs.declared.tables.Tables.{Tables}
 
 -- ---- the n-th description
 
@@ -55,70 +58,55 @@ pub described-nth : (K : List (List Entry)) (n : ℕ) → 1 ≤ n → n ≤ leng
 unfolding described
 described-nth K n lo hi = (described-from 0 (λ n. []) K n).1 lo (omega arith)
 
-get_d_map : (f : List ℕ → List Entry) (l : List (List ℕ)) (i : ℕ) → i < length l → get_or (map f l) i [] ≡ f (get_or l i [])
-get_d_map f [] i h = absurd (omega arith)
-get_d_map f (x ∷ l) zero h = refl
-get_d_map f (x ∷ l) (suc i) h = get_d_map f l i (omega arith)
-
 -- ---- its bytes
 
 -- where it begins, by the table
-pub ready-start : (D : List ℕ) {start size : List ℕ} → Ready D start size → (n : ℕ) → 1 ≤ n → n ≤ length (dictionary_of D) → {i at : ℕ} → i ≡ n
-    → at ≡ get_or start (i - 1) 0 → (at ≡ start_of (n - 1) D) × (at ≤ length D)
-ready-start D {start} R n lo hi {i} q e =
+pub ready-start : (D : List ℕ) {t : Tables} → Ready D t → (n : ℕ) → 1 ≤ n → n ≤ length (dictionary_of D) → {at : ℕ}
+    → at ≡ start_in t.of n → (at ≡ start_of (n - 1) D) × (at ≤ length D)
+ready-start D {t} R n lo hi e =
     let b : n - 1 < length (parts_of D) = omega (arith, length-map (parts_of D) entries_of) in
-    let s = e ∙ ap (λ (k : ℕ). get_or start (k - 1) 0) q ∙ R.starts (n - 1) b in
+    let one : n - 1 + 1 ≡ n = omega arith in
+    let s = e ∙ ap (start_in t.of) (sym one) ∙ R.starts (n - 1) b in
     (s, omega (arith, s, start-within D (n - 1)))
 
-module _ (D : List ℕ) {start size : List ℕ} (R : Ready D start size) (n : ℕ) (lo : 1 ≤ n) (hi : n ≤ length (dictionary_of D)) {at len : ℕ}
-    (a : at ≡ start_of (n - 1) D) (f : len ≡ first_length (take (length D - at) (drop at D))) where
-  -- how the code cuts it out
-  abbrev cut : List ℕ
-  cut = take (len - 0) (take (length D - at) (drop at D))
+-- how the code cuts it out
+pub cut-is : (D : List ℕ) {t : Tables} → Ready D t → (n : ℕ) → 1 ≤ n → n ≤ length (dictionary_of D) → {at len : ℕ} → at ≡ start_in t.of n
+    → len ≡ first_length (high_of at D) → take len (high_of at D) ≡ get_or (parts_of D) (n - 1) []
+cut-is D R n lo hi {at} {len} e f =
+    let s = (ready-start D R n lo hi e).0 in
+    let g : len ≡ first_length (drop at D) = f ∙ ap first_length (high_is at D) in
+    rw (high_is at D, g, s) (part_at D (n - 1))
 
+module _ (D : List ℕ) {t : Tables} (R : Ready D t) (n : ℕ) (lo : 1 ≤ n) (hi : n ≤ length (dictionary_of D)) {part : List ℕ}
+    (p : part ≡ get_or (parts_of D) (n - 1) []) where
   parts-long : n - 1 < length (parts_of D)
   parts-long = omega (arith, length-map (parts_of D) entries_of)
 
-  rest-is : take (length D - at) (drop at D) ≡ drop at D
-  rest-is = take_all (length D - at) (drop at D) (omega (arith, length-drop at D))
-
-  cut-is : cut ≡ get_or (parts_of D) (n - 1) []
-  cut-is =
-      let z : len - 0 ≡ len = omega arith in
-      let e : len ≡ first_length (drop at D) = f ∙ ap first_length rest-is in
-      rw (z, rest-is, e, a) (part_at D (n - 1))
-
   -- they are those of the description
-  pub cut-described : entries_of cut ≡ described (dictionary_of D) n
-  cut-described = ap entries_of cut-is ∙ sym (described-nth (dictionary_of D) n lo hi ∙ get_d_map entries_of (parts_of D) (n - 1) parts-long)
+  pub cut-described : entries_of part ≡ described (dictionary_of D) n
+  cut-described = ap entries_of p ∙ sym (described-nth (dictionary_of D) n lo hi ∙ get_d-map-in entries_of (parts_of D) [] [] (n - 1) parts-long)
 
-  cut-sound : Unbroken plain (Named (n - 1)) cut
-  cut-sound = subst (λ (s : List ℕ). Unbroken plain (Named (n - 1)) s) (sym cut-is) (R.sound (n - 1) parts-long)
-
-  cut-long : length cut ≡ len
-  cut-long =
-      let b = first-bound (take (length D - at) (drop at D)) in
-      length-take (len - 0) (take (length D - at) (drop at D)) ∙ omega arith
+  cut-sound : Unbroken plain (Named (n - 1)) part
+  cut-sound = subst (λ (s : List ℕ). Unbroken plain (Named (n - 1)) s) (sym p) (R.sound (n - 1) parts-long)
 
   -- its length is in blocks
-  pub cut-blocks : (len / 512 ≡ blocks_in cut) × ((0 < len / 512) × (len / 512 ≤ 16))
+  pub cut-blocks : (0 < length part / 512) × (length part / 512 ≤ 16)
   unfolding blocks_in
   cut-blocks =
-      let some = some_block (Named (n - 1)) cut cut-sound.length in
-      let few = few-blocks (Named (n - 1)) cut cut-sound.length in
-      let e : len / 512 ≡ blocks_in cut = ap (λ (k : ℕ). k / 512) (sym cut-long) in
-      (e, (omega arith, omega arith))
+      let some = some_block (Named (n - 1)) part cut-sound.length in
+      let few = few-blocks (Named (n - 1)) part cut-sound.length in
+      (omega arith, omega arith)
 
   -- the used counts give its number of entries
-  module _ {w : ℕ} (u : w ≡ word_at cut (512 * (len / 512 - 1) + 2)) where
-    cut-total : 63 * (len / 512 - 1) + w ≡ length (entries_of cut)
-    unfolding total_in used_in
-    cut-total = let t : 63 * (len / 512 - 1) + w ≡ total_in plain cut = rw (u, cut-blocks.0) in t ∙ sym (length-entries cut)
+  module _ {w : ℕ} (u : w ≡ word_at part (512 * (length part / 512 - 1) + 2)) where
+    cut-total : 63 * (length part / 512 - 1) + w ≡ length (entries_of part)
+    unfolding total_in used_in blocks_in
+    cut-total = let t : 63 * (length part / 512 - 1) + w ≡ total_in plain part = rw u in t ∙ sym (length-entries part)
 
-    pub cut-loads : (63 * (len / 512 - 1) + w ≡ length (entries_of cut)) × (Whole cut (63 * (len / 512 - 1) + w) × (63 * (len / 512 - 1) + w ≤ 1008))
+    pub cut-loads : (63 * (length part / 512 - 1) + w ≡ length (entries_of part)) × (Whole part (63 * (length part / 512 - 1) + w) × (63 * (length part / 512 - 1) + w ≤ 1008))
     cut-loads =
         let t = cut-total in
-        let m : length (entries_of cut) ≤ 1008 = entries-limit cut-sound in
+        let m : length (entries_of part) ≤ 1008 = entries-limit cut-sound in
         (t, (rw t (entries-whole cut-sound), omega arith))
 
 -- ---- stages
@@ -151,7 +139,7 @@ stage-names {K} {whole} {es} G h n lo hi q =
     (λ z. omega arith) in
     (some, omega (arith, l.1))
 
-module _ {K : List (List Entry)} {size : List ℕ} (Z : Sized K size) where
+module _ {K : List (List Entry)} {of : List Described} (Z : Sized K of) where
   -- ---- what a pass puts in
 
   module _ (n : ℕ) (hi : n ≤ length K) where
@@ -163,9 +151,9 @@ module _ {K : List (List Entry)} {size : List ℕ} (Z : Sized K size) where
     raw-ready q = rw q (described-forms K Z.each n, (described-owners K Z.each n, given-few (described K n) described-few))
 
     -- without names that stand for nothing: the table serves for names that it has
-    pub inside-same : {es : List Entry} → es ≡ described K n → unfolded (kept_by (tabled size)) es ≡ inside K n
+    pub inside-same : {es : List Entry} → es ≡ described K n → unfolded (kept_by (size_in of)) es ≡ inside K n
     unfolding unfolded kept_by
-    inside-same q = rw q (given-same (kept_by (tabled size)) (kept_by (size_nth K)) 64 (λ x h. rw (Z.sizes x h)) (λ j. j) 1 0 (described K n) described-few)
+    inside-same q = rw q (given-same (kept_by (size_in of)) (kept_by (size_nth K)) 64 (λ x h. rw (Z.sizes x h)) (λ j. j) 1 0 (described K n) described-few)
 
   -- ---- from pass to pass
 
@@ -195,11 +183,19 @@ module _ {K : List (List Entry)} {size : List ℕ} (Z : Sized K size) where
       record { owner = G.owner; names = stage-names G h; stage = I; room = stage-room K whole (r - 1) (unfolded (inside K) es) I }
 
 -- after a pass, the greatest name that is left bounds them
-module _ {K : List (List Entry)} {whole es fs : List Entry} {r most : ℕ} (G : Stage K whole r es) (e : fs ≡ es) (g : most ≡ greatest_name fs) where
-  pub next-stage : Stage K whole most fs
+module _ {K : List (List Entry)} {whole es fs : List Entry} {r : ℕ} (G : Stage K whole r es) (e : fs ≡ es) where
+  pub next-stage : Stage K whole (greatest_name fs) fs
   next-stage =
       let there = subst (λ (l : List Entry). Stage K whole r l) (sym e) G in
-      subst (λ (k : ℕ). Stage K whole k fs) (sym g) (stage-lower K whole r (greatest_name fs) fs there (greatest-bounds fs))
+      stage-lower K whole r (greatest_name fs) fs there (greatest-bounds fs)
 
-  pub next-least : most ≤ r
-  next-least = omega (arith, g, ap greatest_name e, greatest-least es r (λ n lo hi q. (G.left n lo hi q).1))
+  pub next-least : greatest_name fs ≤ r
+  next-least = omega (arith, ap greatest_name e, greatest-least es r (λ n lo hi q. (G.left n lo hi q).1))
+
+-- while a name is left, the greatest is one of a description
+pub stage-some : {K : List (List Entry)} {whole es : List Entry} {r : ℕ} → Stage K whole r es → r ≤ length K → list_any is_named es ≡ true → 1 ≤ greatest_name es
+stage-some {es = es} G h q = greatest-some es (λ n lo hi p. (stage-names G h n lo hi p).0) q
+
+-- and where none is left, all is unfolded
+pub stage-over : {K : List (List Entry)} {whole es : List Entry} → Stage K whole (greatest_name es) es → list_any is_named es ≡ false → es ≡ whole
+stage-over {K} {whole} {es} G q = stage-last K whole es (subst (λ (n : ℕ). Stage K whole n es) (greatest-none es q) G)

@@ -2,11 +2,12 @@
 -- Assumes nothing.
 use Prim.Native.Nat.{◌+◌, ◌-◌, ◌<◌, ◌≤◌, suc, zero, ℕ}
 use lib.Dec.{eqb, leb, ltb}
-use lib.ListN.{get_or-append, drop, drop_of_length-le, get_or, length, length-append, length-map, set}
+use lib.ListN.{get_or-append, drop, drop_of_length-le, get_or, length, length-append, length-map, replicate, set}
 use lib.Seq.{drop-cons, get_or-append-add, get_or-set_other, get_or-set_same}
 use mathlib.Core.Bool.{◌&&◌, cond, false, true}
 use mathlib.Core.List.{List, [], ◌++◌, ◌∷◌, append_assoc, append-nil, map}
 use mathlib.Core.Logic.{◌≢◌}
+use Rattle.std.proofs.Common.{None, Option, Some}
 use mathlib.Core.Path.{◌∙◌, ◌≡◌, ap, fun_ext, refl, sym}
 use native.Mathlib.Omega.{arith}
 use Rattle.base.proofs.Lists.{get_d-map-in, listed, listed-eq, listed-last}
@@ -21,9 +22,10 @@ use Rattle.names.specs.NamedForm.{named_form_ok}
 use Rattle.names.specs.Promise.{FormsOk, OwnersOk}
 use Rattle.names.specs.Unfold.{noted, owned_by, relocate, shifted, unfold_from, unfolded}
 use Rattle.names.specs.code.Passes.{inside, kept_by, name_again}
-use Rattle.unfolding.proofs.RowLaws.{rows_at}
+use Rattle.unfolding.proofs.Alike.{alike-read}
 use Rattle.unfolding.specs.code.Replacing.{NamesFew, NamesOf, Passing, StandsAt, Stood, again, pending}
-use Rattle.unfolding.specs.code.Rows.{entries_in, entry_of_row}
+use Rattle.unfolding.specs.code.Rows.{entry_of_row}
+use Rattle.unfolding.specs.declared.passes.Place.{Place}
 
 -- ---- a name that stands for nothing goes, any other stays
 
@@ -47,78 +49,89 @@ tabled-more t k v l =
 
 module _ {T : ℕ → List Entry} {es : List Entry} where
   -- before the first entry only the top owns
-  pub pass-starts : (number : List ℕ) → get_or number 0 0 ≡ 0 → OwnersOk es → Passing T es (unfolded T es) number 0 0 []
+  pub pass-starts : (number : List ℕ) → get_or number 0 0 ≡ 0 → OwnersOk es → Passing T es (unfolded T es) number 0 []
   unfolding unfolded
   pass-starts number z w =
-      record {
-        all = sym (unfold-ext T _ (λ j. j) (λ j. get_or number j 0) 1 0 es (owners-of-numbers es w) (λ j o. let q : j ≡ 0 = eqb-eq o in rw q (sym z)));
-        count = refl;
-      }
+      record { all = sym (unfold-ext T _ (λ j. j) (λ j. get_or number j 0) 1 0 es (owners-of-numbers es w) (λ j o. let q : j ≡ 0 = eqb-eq o in rw q (sym z))) }
 
   -- or what the top stands for
-  pub pass-starts-at : (number : List ℕ) (m o : ℕ) (out : List Entry) → length out ≡ m → get_or number 0 0 ≡ o → OwnersOk es
-      → Passing T es (out ++ map (relocate m o) (unfolded T es)) number 0 m out
+  pub pass-starts-at : (number : List ℕ) (o : ℕ) (out : List Entry) → get_or number 0 0 ≡ o → OwnersOk es
+      → Passing T es (out ++ map (relocate (length out) o) (unfolded T es)) number 0 out
   unfolding unfolded
-  pass-starts-at number m o out c z w =
+  pass-starts-at number o out z w =
+      let m = length out in
       let s : m ≡ m + 0 = omega arith in
       let there : unfold_from T (λ j. get_or number j 0) 1 m es ≡ map (relocate m o) (unfold_from T (λ j. j) 1 0 es) =
       unfold-ext T _ (λ j. get_or number j 0) (λ j. shifted m o j) 1 m es (owners-of-numbers es w) (λ j g. let q : j ≡ 0 = eqb-eq g in rw q z)
       ∙ ap (λ (i : ℕ). unfold_from T (λ j. shifted m o j) 1 i es) s
       ∙ unfold-out T m o (λ j. j) 1 0 es in
-      record { all = ap (λ (l : List Entry). out ++ l) there; count = c }
+      record { all = ap (λ (l : List Entry). out ++ l) there }
 
-  module _ {whole : List Entry} {number : List ℕ} {i m : ℕ} {out : List Entry} (P : Passing T es whole number i m out) where
+  module _ {whole : List Entry} {number : List ℕ} {i : ℕ} {out : List Entry} (P : Passing T es whole number i out) where
     -- no more is written than all
-    pub passed-within : m ≤ length whole
+    pub passed-within : length out ≤ length whole
     passed-within =
-        let parts = length-append out (unfold_from T (λ j. get_or number j 0) (suc i) m (drop i es)) in
-        omega (arith, P.count, ap length P.all)
+        let parts = length-append out (unfold_from T (λ j. get_or number j 0) (suc i) (length out) (drop i es)) in
+        omega (arith, ap length P.all)
 
     -- a pass over some of the entries that are left
-    pub pass_on : {number' : List ℕ} {i' m' : ℕ} {out' : List Entry} → Passing T es (pending T es number i m out) number' i' m' out'
-        → Passing T es whole number' i' m' out'
-    pass_on Q = record { all = Q.all ∙ P.all; count = Q.count }
+    pub pass_on : {number' : List ℕ} {i' : ℕ} {out' : List Entry} → Passing T es (pending T es number i out) number' i' out'
+        → Passing T es whole number' i' out'
+    pass_on Q = record { all = Q.all ∙ P.all }
 
     -- after the last entry
-    pub pass-ends : length es ≤ i → (out ≡ whole) × (m ≡ length whole)
+    pub pass-ends : length es ≤ i → out ≡ whole
     unfolding unfold_from
     pass-ends h =
         let z = drop_of_length-le es h in
-        let all : out ≡ whole = sym (append-nil out) ∙ rw z at P.all in
-        (all, sym P.count ∙ ap length all)
+        sym (append-nil out) ∙ rw z at P.all
 
     module _ {e : Entry} (next : drop i es ≡ e ∷ drop (suc i) es) where
       -- a name
-      pub pass-name : {xs ys : List Entry} {n : ℕ} → is_named e ≡ true → n ≡ m + length (T e.name)
-          → xs ≡ map (relocate m (get_or number e.owner 0)) (T e.name) → ys ≡ out ++ xs → Passing T es whole number (i + 1) n ys
-      pass-name {xs} {ys} q z x y =
+      pub pass-name : {xs ys : List Entry} → is_named e ≡ true
+          → xs ≡ map (relocate (length out) (get_or number e.owner 0)) (T e.name) → ys ≡ out ++ xs → Passing T es whole number (i + 1) ys
+      pass-name {xs} {ys} q x y =
           let s : i + 1 ≡ suc i = omega arith in
+          let m = length out in
+          let n : length (out ++ xs) ≡ m + length (T e.name) = length-append out xs ∙ rw (x, length-map (T e.name) (relocate m (get_or number e.owner 0))) in
           let here = unfold-name T (λ j. get_or number j 0) (suc i) m e (drop (suc i) es) q in
           let all : out ++ unfold_from T (λ j. get_or number j 0) (suc i) m (e ∷ drop (suc i) es) ≡ whole = rw next at P.all in
-          record {
-            all = rw (s, z, y, x) (append_assoc out _ _ ∙ ap (λ (l : List Entry). out ++ l) (sym here) ∙ all);
-            count = ap length y ∙ length-append out xs ∙ rw (x, P.count, length-map (T e.name) (relocate m (get_or number e.owner 0)), z);
-          }
+          record { all = rw (s, y, n, x) (append_assoc out _ _ ∙ ap (λ (l : List Entry). out ++ l) (sym here) ∙ all) }
 
       -- any other entry
-      pub pass-entry : {r : Entry} {ys : List Entry} → is_named e ≡ false → i + 1 < length number → r ≡ owned_by (get_or number e.owner 0) e
-          → ys ≡ out ++ (r ∷ []) → Passing T es whole (set number (i + 1) (m + 1)) (i + 1) (m + 1) ys
-      pass-entry {r} {ys} q l x y =
+      pub pass-entry : {r : Entry} {ys : List Entry} {n : ℕ} → is_named e ≡ false → i + 1 < length number → r ≡ owned_by (get_or number e.owner 0) e
+          → ys ≡ out ++ (r ∷ []) → n ≡ length ys → Passing T es whole (set number (i + 1) n) (i + 1) ys
+      pass-entry {r} {ys} {n} q l x y z =
           let s : i + 1 ≡ suc i = omega arith in
-          let t : m + 1 ≡ suc m = omega arith in
+          let m = length out in
+          let t : length (out ++ (r ∷ [])) ≡ suc m = length-append out (r ∷ []) ∙ omega arith in
+          let w : n ≡ suc m = z ∙ ap length y ∙ t in
           let here = unfold-entry T (λ j. get_or number j 0) (suc i) m e (drop (suc i) es) q in
           let all : out ++ unfold_from T (λ j. get_or number j 0) (suc i) m (e ∷ drop (suc i) es) ≡ whole = rw next at P.all in
-          record {
-            all = rw (tabled-more number (i + 1) (m + 1) l, s, t, y, x) (append_assoc out _ _ ∙ ap (λ (l : List Entry). out ++ l) (sym here) ∙ all);
-            count = ap length y ∙ length-append out (r ∷ []) ∙ rw P.count;
-          }
+          record { all = rw (tabled-more number (i + 1) n l, s, w, y, t, x) (append_assoc out _ _ ∙ ap (λ (l : List Entry). out ++ l) (sym here) ∙ all) }
+
+-- there is room for what is written next
+module _ {T : ℕ → List Entry} {es whole : List Entry} {number : List ℕ} {i : ℕ} {out : List Entry} (P : Passing T es whole number i out) {e : Entry}
+    (next : drop i es ≡ e ∷ drop (suc i) es) where
+  pub room-name : is_named e ≡ true → length out + length (T e.name) ≤ length whole
+  room-name q =
+      let xs = map (relocate (length out) (get_or number e.owner 0)) (T e.name) in
+      let w = passed-within (pass-name P next {xs = xs} q refl refl) in
+      omega (arith, w, length-append out xs, length-map (T e.name) (relocate (length out) (get_or number e.owner 0)))
+
+  pub room-entry : is_named e ≡ false → length out < length whole
+  room-entry q =
+      let here = unfold-entry T (λ j. get_or number j 0) (suc i) (length out) e (drop (suc i) es) q in
+      let all : out ++ unfold_from T (λ j. get_or number j 0) (suc i) (length out) (e ∷ drop (suc i) es) ≡ whole = rw next at P.all in
+      omega (arith, ap length all, ap length here, length-append out (unfold_from T (λ j. get_or number j 0) (suc i) (length out) (e ∷ drop (suc i) es)))
 
 -- ---- an entry that is read
 
 -- from a table
-pub entry_read : (rows : List ℕ) (count i : ℕ) {e : Entry} → i < count → count ≤ length rows → e ≡ entry_of_row (get_or rows i 0) → e ≡ nth (entries_in rows count) (i + 1)
+pub entry_read : (numbers : List ℕ) {es : List Entry} → map entry_of_row numbers ≡ es → (i : ℕ) {e : Entry} → i < length numbers → e ≡ entry_of_row (get_or numbers i 0)
+    → e ≡ nth es (i + 1)
 unfolding nth
-entry_read rows count i l h q = let s : i + 1 ≡ suc i = omega arith in rw s (q ∙ sym (rows_at rows count i l h))
+entry_read numbers m i l q = let s : i + 1 ≡ suc i = omega arith in rw (s, ← m) (q ∙ sym (get_d-map-in entry_of_row numbers 0 zero_entry i l))
 
 module _ (es : List Entry) (i : ℕ) {e : Entry} (l : i < length es) (q : e ≡ nth es (i + 1)) where
   -- what is left of them from number i on: that entry, and those after it
@@ -171,10 +184,8 @@ again-moved p t m o h e = ap (λ (q : ℕ). owned_by q e) (by e.owner)
         rw (z, s)
 
 -- an entry that is read from a table that grows
-pub grown-entry : (es xs : List Entry) (rows : List ℕ) (n i : ℕ) {e : Entry} → i < length es → i < n → n ≤ length rows → entries_in rows n ≡ es ++ xs
-    → e ≡ entry_of_row (get_or rows i 0) → e ≡ get_or es i zero_entry
-grown-entry es xs rows n i l b h g q =
-    q ∙ sym (rows_at rows n i b h) ∙ ap (λ (ys : List Entry). get_or ys i zero_entry) g ∙ get_or-append es xs zero_entry i l
+pub grown-entry : (es xs : List Entry) (i : ℕ) {ys : List Entry} {e : Entry} → i < length es → ys ≡ es ++ xs → e ≡ get_or ys i zero_entry → e ≡ get_or es i zero_entry
+grown-entry es xs i l g q = q ∙ ap (λ (ys : List Entry). get_or ys i zero_entry) g ∙ get_or-append es xs zero_entry i l
 
 -- one entry more of those put in again
 pub again-more : (f : ℕ → Entry) (p j : ℕ) (ws : List Entry) {xs ys : List Entry} {r : Entry} → xs ≡ ws ++ listed f p j → r ≡ f (p + j) → ys ≡ xs ++ (r ∷ [])
@@ -228,40 +239,31 @@ stands-new inner es o h = record {
   there = λ j l. get_or-append-add es (map (relocate (length es) o) inner) j zero_entry ∙ get_d-map-in (relocate (length es) o) inner zero_entry zero_entry j l;
 }
 
-module _ {K : List (List Entry)} {first count : List ℕ} {es : List Entry} where
+module _ {K : List (List Entry)} where
   -- before anything is put in
-  pub stood-none : ((n : ℕ) → get_or count n 0 ≡ 0) → Stood K first count es
-  stood-none z = record { put = λ n h. absurd (h (z n)) }
+  pub stood-none : {es : List Entry} → Stood K (replicate 65 None) es
+  stood-none = record { put = λ n p q. let z : None ≡ Some p = sym (alike-read None 65 n) ∙ q in cc }
 
-  module _ (S : Stood K first count es) where
-    pub stood-more : (xs : List Entry) {ys : List Entry} → ys ≡ es ++ xs → Stood K first count ys
-    stood-more xs e = record { put = λ n h. rw e (stands-more (S.put n h) xs) }
+  module _ {places : List (Option Place)} {es : List Entry} (S : Stood K places es) where
+    pub stood-more : (xs : List Entry) {ys : List Entry} → ys ≡ es ++ xs → Stood K places ys
+    stood-more xs e = record { put = λ n p h. rw e (stands-more (S.put n p h) xs) }
 
     -- what one more name becomes
-    stood-put : (x o : ℕ) {ys : List Entry} {m k : ℕ} → x < length first → x < length count → m ≡ length es → o ≤ m → k ≡ length (inside K x)
-        → ys ≡ es ++ map (relocate m o) (inside K x) → Stood K (set first x m) (set count x k) ys
-    stood-put x o {ys} {m} {k} a b c l d e =
+    pub stood-now : (x o : ℕ) {ys : List Entry} {p : Place} → x < length places → p.first ≡ length es → o ≤ length es → p.count ≡ length (inside K x)
+        → ys ≡ es ++ map (relocate (length es) o) (inside K x) → Stood K (set places x (Some p)) ys
+    stood-now x o {ys} {p} b c l d e =
         record {
-          put = λ n h. eq-cases n x
+          put = λ n r h. eq-cases n x
               (λ q.
-              let f : get_or (set first x m) n 0 ≡ length es = ap (λ (i : ℕ). get_or (set first x m) i 0) q ∙ get_or-set_same first x m 0 a ∙ c in
-              let g : get_or (set count x k) n 0 ≡ length (inside K n) = ap (λ (i : ℕ). get_or (set count x k) i 0) q ∙ get_or-set_same count x k 0 b ∙ d ∙ ap (λ (i : ℕ). length (inside K i)) (sym q) in
-              let y : ys ≡ es ++ map (relocate (length es) o) (inside K n) = e ∙ rw (c, q) in
-              rw (f, g, y) (stands-new (inside K n) es o (omega arith)))
+              let f : Some r ≡ Some p = sym h ∙ ap (λ (i : ℕ). get_or (set places x (Some p)) i None) q ∙ get_or-set_same places x (Some p) None b in
+              let g : r ≡ p = cc in
+              let y : ys ≡ es ++ map (relocate (length es) o) (inside K n) = e ∙ rw q in
+              let k : p.count ≡ length (inside K n) = d ∙ rw q in
+              rw (g, c, k, y) (stands-new (inside K n) es o l))
               (λ q.
-              let f : get_or (set first x m) n 0 ≡ get_or first n 0 = get_or-set_other first x n m 0 q in
-              let g : get_or (set count x k) n 0 ≡ get_or count n 0 = get_or-set_other count x n k 0 q in
-              rw (f, g, e) (stands-more (S.put n (λ z. h (g ∙ z))) (map (relocate m o) (inside K x))));
+              let f : get_or places n None ≡ Some r = sym (get_or-set_other places x n (Some p) None q) ∙ h in
+              rw e (stands-more (S.put n r f) (map (relocate (length es) o) (inside K x))));
         }
-
-    -- the code's numbers for a name
-    pub stood-at : (n : ℕ) {i p k : ℕ} → i ≡ n → k ≡ get_or count i 0 → k ≢ 0 → p ≡ get_or first i 0 → StandsAt (inside K n) p k es
-    stood-at n w e z f =
-        let g = e ∙ ap (λ (x : ℕ). get_or count x 0) w in let h = f ∙ ap (λ (x : ℕ). get_or first x 0) w in rw (g, h) (S.put n (λ y. z (g ∙ y)))
-
-    pub stood-now : (n o : ℕ) {i m k : ℕ} {ys : List Entry} → i ≡ n → i < length first → i < length count → m ≡ length es → o ≤ m → k ≡ length (inside K n)
-        → ys ≡ es ++ map (relocate m o) (inside K n) → Stood K (set first i m) (set count i k) ys
-    stood-now n o {i} w a b c l d e = stood-put i o a b c l (d ∙ ap (λ (x : ℕ). length (inside K x)) (sym w)) (e ∙ rw w)
 
 -- ---- numbers in the table
 

@@ -1,14 +1,17 @@
 -- Laws of entries as numbers in a lent table.
 -- Assumes nothing.
 use Prim.Native.Nat.{◌%◌, ◌*◌, ◌+◌, ◌/◌, ◌<◌, ◌≤◌, suc, zero, ℕ}
-use lib.ListN.{drop, get_or, length, length-map, set, take}
-use lib.Seq.{drop-cons, take-suc, take-suc-set}
-use mathlib.Core.Bool.{true}
-use mathlib.Core.List.{List, [], ◌++◌, ◌∷◌, map}
+use lib.ListN.{length, length-map, set, take}
+use lib.Seq.{length-take-le, take-suc, take-suc-set}
+use lib.Dec.{eqb}
+use mathlib.Core.Bool.{◌||◌, Bool, false, true}
+use mathlib.Core.List.{List, [], ◌++◌, ◌∷◌, map, map-append}
 use mathlib.Core.Path.{◌∙◌, ◌≡◌, ap, refl, sym}
 use native.Mathlib.Omega.{arith}
 use Rattle.base.proofs.Split.{place_of, row_of}
 use Rattle.base.proofs.Tests.{bool_cases}
+use Rattle.std.proofs.lemmas.Bool.{or_parts}
+use Rattle.std.specs.List.{list_any}
 use Rattle.blocks.specs.Encoding.{row_bytes}
 use Rattle.blocks.specs.Entries.{Bounded, entry_bytes, is_named, nth, packed, zero_entry}
 use Rattle.blocks.specs.Words.{word_bytes}
@@ -47,38 +50,13 @@ row-bytes x = let e : x % 65536 % 256 ≡ x % 256 = omega arith in rw e
 
 -- ---- tables
 
-module _ (f : ℕ → Entry) where
-  taken_more : (l : List ℕ) (n x : ℕ) → n < length l → map f (take (suc n) (set l n x)) ≡ map f (take n l) ++ (f x ∷ [])
-  taken_more [] n x h = absurd (omega arith)
-  taken_more (y ∷ l) zero x h = refl
-  taken_more (y ∷ l) (suc n) x h = ap (λ (r : List Entry). f y ∷ r) (taken_more l n x (omega arith))
-
 -- one number more
 pub row_more : (rows : List ℕ) (n x : ℕ) → n < length rows → entries_in (set rows n x) (n + 1) ≡ entries_in rows n ++ (entry_of_row x ∷ [])
-row_more rows n x h = let e : n + 1 ≡ suc n = omega arith in rw e (taken_more entry_of_row rows n x h)
+row_more rows n x h = let e : n + 1 ≡ suc n = omega arith in rw e (ap (map entry_of_row) (take-suc-set rows n x h) ∙ map-append entry_of_row (take n rows) (x ∷ []))
 
 -- how many entries there are
 pub rows-length : (rows : List ℕ) (n : ℕ) → n ≤ length rows → length (entries_in rows n) ≡ n
-rows-length rows n h = length-map (take n rows) entry_of_row ∙ taken-length rows n h
-  where
-    taken-length : (l : List ℕ) (n : ℕ) → n ≤ length l → length (take n l) ≡ n
-    taken-length l zero h = refl
-    taken-length [] (suc n) h = absurd (omega arith)
-    taken-length (x ∷ l) (suc n) h = ap suc (taken-length l n (omega arith))
-
--- the entry of a number is that of the table's list
-pub rows_at : (rows : List ℕ) (n i : ℕ) → i < n → n ≤ length rows → get_or (entries_in rows n) i zero_entry ≡ entry_of_row (get_or rows i 0)
-rows_at rows zero i l h = absurd (omega arith)
-rows_at [] (suc n) i l h = absurd (omega arith)
-rows_at (x ∷ rows) (suc n) zero l h = refl
-rows_at (x ∷ rows) (suc n) (suc i) l h = rows_at rows n i (omega arith) (omega arith)
-
--- what is left of them from number i on: that entry, and those after it
-pub rows_next : (rows : List ℕ) (n i : ℕ) {e : Entry} → i < n → n ≤ length rows → e ≡ entry_of_row (get_or rows i 0)
-    → drop i (entries_in rows n) ≡ e ∷ drop (suc i) (entries_in rows n)
-rows_next rows n i l h q =
-    let size = rows-length rows n h in
-    drop-cons (entries_in rows n) i zero_entry (omega arith) ∙ rw (rows_at rows n i l h, q)
+rows-length rows n h = length-map (take n rows) entry_of_row ∙ length-take-le n rows h
 
 -- the first entries of a list, one more
 pub front-more : (es : List Entry) (j : ℕ) {xs ys : List Entry} {e : Entry} → j < length es → xs ≡ take j es → e ≡ nth es (j + 1) → ys ≡ xs ++ (e ∷ [])
@@ -86,11 +64,10 @@ pub front-more : (es : List Entry) (j : ℕ) {xs ys : List Entry} {e : Entry} �
 unfolding nth
 front-more es j l p q r = let s : j + 1 ≡ suc j = omega arith in r ∙ rw (p, q, s) (sym (take-suc es j zero_entry l))
 
--- the first numbers of a table put into another, one more
-pub copied_more : (from to : List ℕ) (i : ℕ) → i < length from → i < length to → take i to ≡ take i from
-    → take (i + 1) (set to i (get_or from i 0)) ≡ take (i + 1) from
-copied_more from to i f t h =
-    let s : i + 1 ≡ suc i = omega arith in rw (s, take-suc-set to i (get_or from i 0) t, h) (sym (take-suc from i 0 f))
+-- whether one of them is a name
+pub any-row : (rows : List ℕ) → list_any (λ x. eqb (entry_of_row x).kind 9) rows ≡ list_any is_named (map entry_of_row rows)
+any-row [] = refl
+any-row (x ∷ rows) = ap (λ (b : Bool). is_named (entry_of_row x) || b) (any-row rows)
 
 -- ---- the greatest name
 
@@ -111,3 +88,22 @@ greatest-least (e ∷ es) b h =
     later : (n : ℕ) → 1 ≤ n → n ≤ length es → is_named (nth es n) ≡ true → (nth es n).name ≤ b
     later zero lo hi q = absurd (omega arith)
     later (suc i) lo hi q = h (suc (suc i)) (omega arith) (omega arith) q
+
+-- it is 0 where there is none
+pub greatest-none : (es : List Entry) → list_any is_named es ≡ false → greatest_name es ≡ 0
+unfolding greatest_name
+greatest-none [] h = refl
+greatest-none (e ∷ es) h = let o = or_parts (is_named e) (list_any is_named es) h in let ih = greatest-none es o.1 in rw (o.0, ih)
+
+-- and more where there is one, and each has a number from 1
+pub greatest-some : (es : List Entry) → ((n : ℕ) → 1 ≤ n → n ≤ length es → is_named (nth es n) ≡ true → 1 ≤ (nth es n).name) → list_any is_named es ≡ true → 1 ≤ greatest_name es
+unfolding nth greatest_name
+greatest-some [] f h = cc
+greatest-some (e ∷ es) f h =
+    bool_cases (is_named e)
+    (λ q. let one = f 1 (omega arith) (omega arith) q in rw q (omega arith))
+    (λ q. let ih = greatest-some es (λ n lo hi g. later n lo hi g) (rw q at h) in omega arith)
+  where
+    later : (n : ℕ) → 1 ≤ n → n ≤ length es → is_named (nth es n) ≡ true → 1 ≤ (nth es n).name
+    later zero lo hi q = absurd (omega arith)
+    later (suc i) lo hi q = f (suc (suc i)) (omega arith) (omega arith) q

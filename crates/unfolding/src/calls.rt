@@ -1,86 +1,67 @@
 // The calls: one description, and two under one dictionary.
-ghost use Rattle.std.specs.Prelude.{◌≡◌, ℕ, length};
-ghost use Rattle.blocks.specs.Encoding.{bytes_written, written};
+ghost use Rattle.std.specs.Prelude.{◌≡◌, ℕ, ◌*◌, ◌≤◌, ◌<◌, false, length, true};
+ghost use Rattle.blocks.specs.Encoding.{blocks_for, encode};
 ghost use Rattle.blocks.specs.Entries.{entries_of};
+ghost use Rattle.blocks.specs.Frame.{plain};
 ghost use Rattle.blocks.specs.Reading.{unless_refused};
 ghost use Rattle.blocks.specs.declared.Reading.{Reading};
 ghost use Rattle.names.specs.NamedReading.{dictionary_of, dictionary_reading, named_unfolding, plain_of};
 ghost use Rattle.names.specs.Unfold.{unfolded_by};
 ghost use Rattle.unfolding.specs.Answer.{both_of, over, second_after, short_by, unfold_at, unfolded_at};
-ghost use Rattle.unfolding.specs.code.Known.{Known, Ready};
-ghost use Rattle.unfolding.specs.code.Rows.{entries_in};
 
-use crate::dictionary::{read_dictionary, read_named};
+use crate::dictionary::{Dictionary, read_dictionary, read_named};
 use crate::passes::unfold_rows;
-use crate::rows::load;
+use crate::rows::{Rows, load};
+use crate::tables::{BLANK, Tables};
 use crate::{Measured, Unfolded};
 use blocks::Reading;
 use writing::write_entries;
 
-// Reads a description, under a dictionary that is accepted and has `most` descriptions, and leaves its entries, unfolded, in a table.
-fn unfold_read(
-    dictionary: &[u8],
-    most: u16,
-    start: &[usize; 65],
-    size: &[u16; 65],
-    levels: &[u8; 65],
-    d: &[u8],
-    input: u16,
-    rows: &mut [u64; 1008],
-) -> Reading
-    requires { Known (dictionary_of dictionary.now) size.now levels.now × Ready dictionary.now start.now size.now × (most ≡ length (dictionary_of dictionary.now)) }
-    ensures { (result ≡ named_unfolding (dictionary_of dictionary.now) input d.now)
-        × ((n : ℕ) → result ≡ Reading.Accepted n → entries_in rows.new n ≡ unfolded_by (dictionary_of dictionary.now) (entries_of d.now)) }
+// Reads a description, under a dictionary, and leaves its entries, unfolded, in a table.
+fn unfold_read(dictionary: Dictionary, d: &[u8], input: u16, rows: &mut Rows) -> Reading
+    ensures { (result ≡ named_unfolding (dictionary_of dictionary.entry.bytes.now) input d.now)
+        × ((n : ℕ) → result ≡ Reading.Accepted n → rows.new ≡ unfolded_by (dictionary_of dictionary.entry.bytes.now) (entries_of d.now)) }
 {
-    let mut next = [0u64; 1008];
+    let mut next = Rows {
+        numbers: [0; 1008],
+        len: 0,
+    };
     let mut inner = [0u16; 1009];
-    let m = read_named(d, most, input, size, levels);
+    let m = read_named(d, input, dictionary.tables);
     match m {
         Measured::Refused(number, i, place) => Reading::Refused(number, i, place),
         Measured::Taken(total, _, _) => {
-            load(d, total as usize, &mut next);
-            Reading::Accepted(unfold_rows(
-                dictionary,
-                start,
-                size,
-                total as usize,
-                rows,
-                &mut next,
-                &mut inner,
-            ) as u16)
+            load(d, usize::from(total), &mut next);
+            unfold_rows(dictionary, rows, &mut next, &mut inner);
+            Reading::Accepted(rows.len() as u16)
         }
     }
 }
 
-// Writes the first n entries of a table as blocks from the start of an output, and returns the number of bytes written; 0, and no byte
-// changes, where it is too short.
-fn write_rows(out: &mut [u8], rows: &[u64; 1008], n: usize) -> usize
-    ensures { (length rows.now ≡ 1008) × (result ≡ bytes_written (length out.old) (length rows.now) n) × (out.new ≡ written out.old rows.now n) }
+// Writes the entries of a table as blocks from the start of an output; false, and no byte changes, where it is too short.
+fn write_rows(out: &mut [u8], rows: &Rows) -> bool
+    ensures few { length rows.now ≤ 1008 }
+    ensures short { result ≡ false → (length out.old < 512 * blocks_for plain (length rows.now)) × (out.new ≡ out.old) }
+    ensures long { result ≡ true → (512 * blocks_for plain (length rows.now) ≤ length out.old) × (out.new ≡ over (encode rows.now) out.old) }
 {
-    write_entries(out, rows, n)
+    let numbers = rows.numbers();
+    write_entries(out, numbers, numbers.len()) != 0
 }
 
 // The same, written from the start of an output; 7 where it is too short.
-fn write_unfolded(
-    dictionary: &[u8],
-    most: u16,
-    start: &[usize; 65],
-    size: &[u16; 65],
-    levels: &[u8; 65],
-    d: &[u8],
-    input: u16,
-    out: &mut [u8],
-) -> Reading
-    requires { Known (dictionary_of dictionary.now) size.now levels.now × Ready dictionary.now start.now size.now × (most ≡ length (dictionary_of dictionary.now)) }
-    ensures { (result ≡ short_by out.old (named_unfolding (dictionary_of dictionary.now) input d.now))
-        × (out.new ≡ unless_refused (λ k i p. out.old) result (over (plain_of dictionary.now d.now) out.old)) }
+fn write_unfolded(dictionary: Dictionary, d: &[u8], input: u16, out: &mut [u8]) -> Reading
+    ensures { (result ≡ short_by out.old (named_unfolding (dictionary_of dictionary.entry.bytes.now) input d.now))
+        × (out.new ≡ unless_refused (λ k i p. out.old) result (over (plain_of dictionary.entry.bytes.now d.now) out.old)) }
 {
-    let mut rows = [0u64; 1008];
-    let reading = unfold_read(dictionary, most, start, size, levels, d, input, &mut rows);
+    let mut rows = Rows {
+        numbers: [0; 1008],
+        len: 0,
+    };
+    let reading = unfold_read(dictionary, d, input, &mut rows);
     match reading {
         Reading::Refused(number, i, place) => Reading::Refused(number, i, place),
         Reading::Accepted(n) => {
-            if write_rows(out, &rows, n as usize) == 0 {
+            if !write_rows(out, &rows) {
                 return Reading::Refused(7, 0, 0);
             }
             Reading::Accepted(n)
@@ -94,14 +75,19 @@ fn write_unfolded(
 pub fn unfold_into(dictionary: &[u8], d: &[u8], input: u16, out: &mut [u8]) -> Reading
     ensures { (result ≡ unfold_at dictionary.now input d.now out.old) × (out.new ≡ unfolded_at dictionary.now input d.now out.old) }
 {
-    let mut start = [0usize; 65];
-    let mut size = [0u16; 65];
-    let mut levels = [0u8; 65];
-    let reading = read_dictionary(dictionary, &mut start, &mut size, &mut levels);
+    let mut tables = Tables {
+        of: [BLANK; 65],
+        count: 0,
+    };
+    let reading = read_dictionary(dictionary, &mut tables);
     match reading {
         Reading::Refused(number, i, place) => Reading::Refused(number, i, place),
-        Reading::Accepted(most) => {
-            write_unfolded(dictionary, most, &start, &size, &levels, d, input, out)
+        Reading::Accepted(_) => {
+            let dictionary = Dictionary {
+                bytes: dictionary,
+                tables: &tables,
+            };
+            write_unfolded(dictionary, d, input, out)
         }
     }
 }
@@ -113,28 +99,17 @@ pub fn unfold(dictionary: &[u8], d: &[u8], out: &mut [u8]) -> Reading
     unfold_into(dictionary, d, 1, out)
 }
 
-// Two descriptions, inputs 1 and 2, under a dictionary that is accepted.
-fn unfold_two(
-    dictionary: &[u8],
-    most: u16,
-    start: &[usize; 65],
-    size: &[u16; 65],
-    levels: &[u8; 65],
-    c: &[u8],
-    d: &[u8],
-    a: &mut [u8],
-    b: &mut [u8],
-) -> Unfolded
-    requires { Known (dictionary_of dictionary.now) size.now levels.now × Ready dictionary.now start.now size.now × (most ≡ length (dictionary_of dictionary.now))
-        × (dictionary_reading dictionary.now ≡ Reading.Accepted most) }
-    ensures { (result ≡ both_of dictionary.now c.now d.now a.old b.old) × (a.new ≡ unfolded_at dictionary.now 1 c.now a.old)
-        × (b.new ≡ second_after dictionary.now c.now d.now a.old b.old) }
+// Two descriptions, inputs 1 and 2, under one dictionary.
+fn unfold_two(dictionary: Dictionary, c: &[u8], d: &[u8], a: &mut [u8], b: &mut [u8]) -> Unfolded
+    requires { dictionary_reading dictionary.bytes.now ≡ Reading.Accepted dictionary.tables.now.count }
+    ensures { (result ≡ both_of dictionary.entry.bytes.now c.now d.now a.old b.old) × (a.new ≡ unfolded_at dictionary.entry.bytes.now 1 c.now a.old)
+        × (b.new ≡ second_after dictionary.entry.bytes.now c.now d.now a.old b.old) }
 {
-    let first = write_unfolded(dictionary, most, start, size, levels, c, 1, a);
+    let first = write_unfolded(dictionary, c, 1, a);
     match first {
         Reading::Refused(number, i, place) => Unfolded::Refused(number, i, place),
         Reading::Accepted(n) => {
-            let second = write_unfolded(dictionary, most, start, size, levels, d, 2, b);
+            let second = write_unfolded(dictionary, d, 2, b);
             match second {
                 Reading::Refused(number, i, place) => Unfolded::Refused(number, i, place),
                 Reading::Accepted(m) => Unfolded::Both(n, m),
@@ -148,12 +123,19 @@ pub fn unfold_both(dictionary: &[u8], c: &[u8], d: &[u8], a: &mut [u8], b: &mut 
     ensures { (result ≡ both_of dictionary.now c.now d.now a.old b.old) × (a.new ≡ unfolded_at dictionary.now 1 c.now a.old)
         × (b.new ≡ second_after dictionary.now c.now d.now a.old b.old) }
 {
-    let mut start = [0usize; 65];
-    let mut size = [0u16; 65];
-    let mut levels = [0u8; 65];
-    let reading = read_dictionary(dictionary, &mut start, &mut size, &mut levels);
+    let mut tables = Tables {
+        of: [BLANK; 65],
+        count: 0,
+    };
+    let reading = read_dictionary(dictionary, &mut tables);
     match reading {
         Reading::Refused(number, i, place) => Unfolded::Refused(number, i, place),
-        Reading::Accepted(most) => unfold_two(dictionary, most, &start, &size, &levels, c, d, a, b),
+        Reading::Accepted(_) => {
+            let dictionary = Dictionary {
+                bytes: dictionary,
+                tables: &tables,
+            };
+            unfold_two(dictionary, c, d, a, b)
+        }
     }
 }

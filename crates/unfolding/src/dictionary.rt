@@ -1,5 +1,5 @@
 // Reading: a description that may name those of a dictionary, and a dictionary, description by description.
-ghost use Rattle.std.specs.Prelude.{◌≡◌, List, [], ◌+◌, ◌≤◌, ◌<◌, ℕ, length, replicate};
+ghost use Rattle.std.specs.Prelude.{◌≡◌, List, [], ◌+◌, ◌-◌, ◌≤◌, ◌<◌, ℕ, get_or, length, replicate};
 ghost use Rattle.blocks.specs.Entries.{entries_of};
 ghost use Rattle.blocks.specs.Faults.{entry_faults, first};
 ghost use Rattle.blocks.specs.Reading.{answer, reading_of};
@@ -9,29 +9,43 @@ ghost use Rattle.blocks.specs.declared.Reading.{Reading};
 ghost use Rattle.blocks.specs.declared.Schema.{Schema};
 ghost use Rattle.lists.specs.Parts.{parts_of};
 ghost use Rattle.names.specs.NamedReading.{dictionary_of, dictionary_reading, parts_reading};
-ghost use Rattle.unfolding.specs.code.Known.{Known, MeasuredBy, Ready};
+ghost use Rattle.unfolding.specs.code.Known.{Known, MeasuredBy, Ready, Ready-prop, blank};
 
 use crate::measure::check;
+use crate::tables::{Described, Tables};
 use crate::{Checked, Measured};
 use blocks::{Reading, Schema};
 use lists::{part_length, parts_in};
 use reading::read_blocks;
 
+// A dictionary that is read and accepted: its bytes, and what is kept of its descriptions.
+#[derive(Clone, Copy)]
+pub(crate) struct Dictionary<'a> {
+    pub(crate) bytes: &'a [u8],
+    pub(crate) tables: &'a Tables,
+    ghost ready: { Ready bytes.now tables.now } by { Ready-prop bytes.now tables.now },
+}
+
+impl<'a> Dictionary<'a> {
+    // The bytes of description n.
+    pub(crate) fn description(self, n: u16) -> &'a [u8]
+        requires { (1 ≤ n) × (n ≤ length (dictionary_of self.bytes.now)) }
+        ensures { result.now ≡ get_or (parts_of self.entry.bytes.now) (n - 1) [] }
+    {
+        let at = self.tables.start(n);
+        let rest = &self.bytes[at..];
+        &rest[..part_length(rest)]
+    }
+}
+
 // The answer for a description whose blocks are sound, with `total` entries: the refusal of the first that breaks a rule, else 14, or that it
 // is taken.
-fn take_entries(
-    s: &[u8],
-    total: u16,
-    most: u16,
-    input: u16,
-    size: &[u16; 65],
-    levels: &[u8; 65],
-) -> Measured
-    requires { (most ≤ 64) × (total ≡ length (entries_of s.now)) × (total ≤ 1008) × Whole s.now total
-        × (reading_of (Schema.Named most) input s.now ≡ answer input total (first (entry_faults (Schema.Named most) (entries_of s.now) 1 total))) }
-    ensures { (K : List (List Entry)) → Known K size.now levels.now → most ≡ length K → MeasuredBy K input s.now result }
+fn take_entries(s: &[u8], total: u16, input: u16, tables: &Tables) -> Measured
+    requires { (total ≡ length (entries_of s.now)) × (total ≤ 1008) × Whole s.now total
+        × (reading_of (Schema.Named tables.now.count) input s.now ≡ answer input total (first (entry_faults (Schema.Named tables.now.count) (entries_of s.now) 1 total))) }
+    ensures { (K : List (List Entry)) → Known K tables.now → MeasuredBy K input s.now result }
 {
-    let found = check(s, most, total as usize, size, levels);
+    let found = check(s, usize::from(total), tables);
     match found {
         Checked::Faulty(number, place) => Measured::Refused(number, input, place),
         Checked::Sound(z, l) => {
@@ -46,74 +60,54 @@ fn take_entries(
     }
 }
 
-// Reads a description that may name the first `most` of a dictionary, whose sizes and levels stand in tables.
-pub(crate) fn read_named(
-    s: &[u8],
-    most: u16,
-    input: u16,
-    size: &[u16; 65],
-    levels: &[u8; 65],
-) -> Measured
-    requires { most ≤ 64 }
-    ensures { (K : List (List Entry)) → Known K size.now levels.now → most ≡ length K → MeasuredBy K input s.now result }
+// Reads a description that may name those of a dictionary that are read.
+pub(crate) fn read_named(s: &[u8], input: u16, tables: &Tables) -> Measured
+    ensures { (K : List (List Entry)) → Known K tables.now → MeasuredBy K input s.now result }
 {
-    let reading = read_blocks(s, Schema::Named(most), input);
+    let reading = read_blocks(s, Schema::Named(tables.count), input);
     match reading {
         Reading::Refused(number, i, place) => Measured::Refused(number, i, place),
-        Reading::Accepted(total) => take_entries(s, total, most, input, size, levels),
+        Reading::Accepted(total) => take_entries(s, total, input, tables),
     }
 }
 
-// Reads the descriptions of a dictionary in turn: each may name the earlier ones. Tables get where each begins, its size and its levels.
-fn read_parts(
-    dictionary: &[u8],
-    start: &mut [usize; 65],
-    size: &mut [u16; 65],
-    levels: &mut [u8; 65],
-) -> Reading
-    requires { (length (parts_of dictionary.now) ≤ 64) × (start.old ≡ replicate 65 0) × (size.old ≡ replicate 65 0) × (levels.old ≡ replicate 65 0) }
-    ensures { (result ≡ parts_reading [] (parts_of dictionary.now))
-        × ((n : ℕ) → result ≡ Reading.Accepted n → Known (dictionary_of dictionary.now) size.new levels.new × Ready dictionary.now start.new size.new) }
+// Reads the descriptions of a dictionary in turn: each may name the earlier ones.
+fn read_parts(bytes: &[u8], tables: &mut Tables) -> Reading
+    requires { (length (parts_of bytes.now) ≤ 64) × (tables.old.of ≡ replicate 65 blank) × (tables.old.count ≡ 0) }
+    ensures { (result ≡ parts_reading [] (parts_of bytes.now))
+        × ((n : ℕ) → result ≡ Reading.Accepted n → (n ≡ tables.new.count) × Ready bytes.now tables.new) }
 {
     let mut at: usize = 0;
-    let mut n: usize = 0;
-    loop {
-        if dictionary.len() <= at {
-            break Reading::Accepted(n as u16);
-        }
-        let rest = &dictionary[at..dictionary.len()];
+    while at < bytes.len() {
+        let rest = &bytes[at..];
         let len = part_length(rest);
-        let m = read_named(&rest[0..len], n as u16, 101 + n as u16, size, levels);
+        let m = read_named(&rest[..len], 101 + tables.count, tables);
         match m {
-            Measured::Refused(number, i, place) => break Reading::Refused(number, i, place),
-            Measured::Taken(_, s, l) => {
-                start[n] = at;
-                n += 1;
+            Measured::Refused(number, i, place) => return Reading::Refused(number, i, place),
+            Measured::Taken(_, size, levels) => {
+                tables.add(Described {
+                    start: at,
+                    size,
+                    levels,
+                });
                 at += len;
-                size[n] = s;
-                levels[n] = l;
             }
         }
     }
+    Reading::Accepted(tables.count)
 }
 
-// Reads a dictionary: how many descriptions it has, or the refusal. Leaves in tables, which are blank before, where each begins, its size and its
-// levels.
-pub(crate) fn read_dictionary(
-    dictionary: &[u8],
-    start: &mut [usize; 65],
-    size: &mut [u16; 65],
-    levels: &mut [u8; 65],
-) -> Reading
-    requires { (start.old ≡ replicate 65 0) × (size.old ≡ replicate 65 0) × (levels.old ≡ replicate 65 0) }
-    ensures { (result ≡ dictionary_reading dictionary.now)
-        × ((n : ℕ) → result ≡ Reading.Accepted n → (n ≡ length (parts_of dictionary.now)) × Known (dictionary_of dictionary.now) size.new levels.new × Ready dictionary.now start.new size.new) }
+// Reads a dictionary: how many descriptions it has, or the refusal. What is kept of each is left in tables that are blank before.
+pub(crate) fn read_dictionary(bytes: &[u8], tables: &mut Tables) -> Reading
+    requires { (tables.old.of ≡ replicate 65 blank) × (tables.old.count ≡ 0) }
+    ensures { (result ≡ dictionary_reading bytes.now)
+        × ((n : ℕ) → result ≡ Reading.Accepted n → (n ≡ tables.new.count) × Ready bytes.now tables.new) }
 {
-    if dictionary.len() % 512 != 0 {
+    if bytes.len() % 512 != 0 {
         return Reading::Refused(1, 100, 0);
     }
-    if 64 < parts_in(dictionary) {
+    if 64 < parts_in(bytes) {
         return Reading::Refused(8, 100, 0);
     }
-    read_parts(dictionary, start, size, levels)
+    read_parts(bytes, tables)
 }

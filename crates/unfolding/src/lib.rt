@@ -15,6 +15,7 @@ mod measure;
 mod passes;
 mod replace;
 mod rows;
+mod tables;
 
 pub use calls::{unfold, unfold_both, unfold_into};
 

@@ -1,37 +1,109 @@
-// Entries as numbers in a lent table, 8 bytes each, as they are packed for writing.
-ghost use Rattle.std.specs.Prelude.{◌≡◌, ◌++◌, ◌∷◌, [], ◌+◌, ◌*◌, ◌/◌, ◌≤◌, ◌<◌, max, cond, length, take};
-ghost use Rattle.blocks.specs.Entries.{entries_of, entry_from, is_named};
+// Entries in a lent table, each as one number of its 8 bytes, as they are packed for writing.
+ghost use Rattle.std.specs.Prelude.{◌≡◌, ◌++◌, ◌∷◌, [], ◌+◌, ◌≤◌, ◌<◌, List, get_or, length, map, take};
+ghost use Rattle.std.specs.List.{list_any};
+ghost use Rattle.blocks.specs.Entries.{entries_of, entry_from, is_named, zero_entry};
 ghost use Rattle.blocks.specs.code.Blockwise.{InBlock, Whole};
-ghost use Rattle.unfolding.specs.code.Rows.{entries_in, entry_of_row, greatest_name};
+ghost use Rattle.blocks.specs.declared.Entry.{Entry};
+ghost use Rattle.unfolding.specs.code.Rows.{entries_in, entry_of_row};
 
 use blocks::{Entry, entry_of_bytes, next_count, pack};
+use std::marker::Model;
 
-// The number of an entry.
-pub(crate) fn row_of(e: Entry) -> u64
-    ensures { entry_of_row result ≡ e }
-{
-    pack(e)
+// A table of at most 1,008 entries, which a contract sees as their list.
+#[derive(Drop)]
+pub(crate) struct Rows {
+    pub(crate) numbers: [u64; 1008],
+    pub(crate) len: usize,
+}
+
+impl Model for Rows {
+    ghost Value = { List Entry };
+
+    ghost view = { λ r. entries_in r.numbers r.len };
+
+    ghost invariant = { λ r. r.len ≤ 1008 };
+}
+
+impl Rows {
+    // How many entries it has.
+    pub(crate) fn len(&self) -> usize
+        ensures { (result ≡ length self.now) × (result ≤ 1008) }
+    {
+        self.len
+    }
+
+    // Its entries, each as a number.
+    pub(crate) fn numbers(&self) -> &[u64]
+        ensures { (map entry_of_row result.now ≡ self.now) × (length result.now ≤ 1008) }
+    {
+        &self.numbers[..self.len]
+    }
+
+    // Entry i, counted from 0.
+    pub(crate) fn at(&self, i: usize) -> Entry
+        requires { i < length self.now }
+        ensures { result ≡ get_or self.now i zero_entry }
+    {
+        entry_of_row(self.numbers()[i])
+    }
+
+    // Whether one of its entries is a name.
+    pub(crate) fn has_names(&self) -> bool
+        ensures { result ≡ list_any is_named self.now }
+    {
+        self.numbers().iter().any(|x| entry_of_row(*x).kind == 9)
+    }
+
+    // Takes all entries out.
+    pub(crate) fn clear(&mut self)
+        ensures { self.new ≡ [] }
+    {
+        self.len = 0;
+    }
+
+    // Puts in one entry more.
+    pub(crate) fn push(&mut self, e: Entry)
+        requires { length self.old < 1008 }
+        ensures { self.new ≡ self.old ++ e ∷ [] }
+    {
+        self.numbers[self.len] = pack(e);
+        self.len += 1;
+    }
+
+    // Puts in the entries of another table in place of its own.
+    pub(crate) fn copy_from(&mut self, from: &Rows)
+        ensures { self.new ≡ from.now }
+    {
+        let n = from.len;
+        self.numbers[..n].copy_from_slice(&from.numbers[..n]);
+        self.len = n;
+    }
 }
 
 // The entry of a number.
 pub(crate) fn entry_of_row(x: u64) -> Entry
     ensures { result ≡ entry_of_row x }
 {
-    Entry {
-        kind: (x % 256) as u8,
-        reserved: (x % 65536 / 256) as u8,
-        owner: (x / 65536 % 65536) as u16,
-        name: (x / 4294967296 % 65536) as u16,
-        number: (x / 281474976710656) as u16,
-    }
-}
-
-// Puts an entry behind the first n of a table.
-pub(crate) fn push(rows: &mut [u64], n: usize, e: Entry)
-    requires { n < length rows.old }
-    ensures { (entries_in rows.new (n + 1) ≡ entries_in rows.old n ++ (e ∷ [])) × (length rows.new ≡ length rows.old) }
-{
-    rows[n] = row_of(e);
+    let [
+        kind,
+        reserved,
+        owner,
+        owner_high,
+        name,
+        name_high,
+        number,
+        number_high,
+    ] = x.to_le_bytes();
+    entry_of_bytes(
+        kind,
+        reserved,
+        owner,
+        owner_high,
+        name,
+        name_high,
+        number,
+        number_high,
+    )
 }
 
 // The entry whose 8 bytes start at an index: a pass over a block knows that they are there.
@@ -51,22 +123,21 @@ pub(crate) fn entry_from(s: &[u8], at: usize) -> Entry
     )
 }
 
-// Puts `count` entries of a description, those after the first `done`, whose bytes start at `from`, behind these in the table.
-fn load_block(s: &[u8], from: usize, count: usize, done: usize, rows: &mut [u64])
-    requires { InBlock s.now from count done × (done + count ≤ length rows.old) × (length rows.old ≤ 1008) × (entries_in rows.old done ≡ take done (entries_of s.now)) }
-    ensures { (entries_in rows.new (done + count) ≡ take (done + count) (entries_of s.now)) × (length rows.new ≡ length rows.old) }
+// Puts in `count` entries of a description, those after the first `done`, whose bytes start at `from`.
+fn load_block(s: &[u8], from: usize, count: usize, done: usize, rows: &mut Rows)
+    requires { InBlock s.now from count done × (done + count ≤ 1008) × (rows.old ≡ take done (entries_of s.now)) }
+    ensures { rows.new ≡ take (done + count) (entries_of s.now) }
 {
-    let mut i: usize = 0;
-    while i < count {
-        push(rows, done + i, entry_from(s, from + 8 * i));
-        i += 1;
+    for i in 0..count {
+        rows.push(entry_from(s, from + 8 * i));
     }
 }
 
 // Puts the `total` entries of a description into a table, block by block.
-pub(crate) fn load(s: &[u8], total: usize, rows: &mut [u64])
-    requires { (total ≡ length (entries_of s.now)) × Whole s.now total × (total ≤ length rows.old) × (length rows.old ≤ 1008) }
-    ensures { (entries_in rows.new total ≡ entries_of s.now) × (length rows.new ≡ length rows.old) }
+#[tactic(auto, using(blocks::proofs::Refusing::Blockwise::in_block, blocks::proofs::Refusing::Blockwise::at_next), unfolding(blocks::specs::code::Blockwise::next_count))]
+pub(crate) fn load(s: &[u8], total: usize, rows: &mut Rows)
+    requires { (total ≡ length (entries_of s.now)) × Whole s.now total × (total ≤ 1008) × (rows.old ≡ []) }
+    ensures { rows.new ≡ entries_of s.now }
 {
     let mut n: usize = 0;
     let mut at: usize = 4;
@@ -76,43 +147,4 @@ pub(crate) fn load(s: &[u8], total: usize, rows: &mut [u64])
         n += count;
         at += 512;
     }
-}
-
-// Puts the first n numbers of one table into another.
-pub(crate) fn copy_rows(from: &[u64], n: usize, to: &mut [u64])
-    requires { (n ≤ length from.now) × (n ≤ length to.old) }
-    ensures { (entries_in to.new n ≡ entries_in from.now n) × (length to.new ≡ length to.old) }
-{
-    let mut i: usize = 0;
-    while i < n {
-        to[i] = from[i];
-        i += 1;
-    }
-}
-
-fn larger(a: u16, b: u16) -> u16
-    ensures { result ≡ max a b }
-{
-    if a < b { b } else { a }
-}
-
-// The name of an entry, if it is one, else 0.
-fn name_in(e: Entry) -> u16
-    ensures { result ≡ cond (is_named e) e.name 0 }
-{
-    if e.kind == 9 { e.name } else { 0 }
-}
-
-// The greatest name among the first n entries of a table; 0 if there is none.
-pub(crate) fn greatest_name(rows: &[u64], n: usize) -> u16
-    requires { n ≤ length rows.now }
-    ensures { result ≡ greatest_name (entries_in rows.now n) }
-{
-    let mut most: u16 = 0;
-    let mut i = n;
-    while 0 < i {
-        i -= 1;
-        most = larger(name_in(entry_of_row(rows[i])), most);
-    }
-    most
 }

@@ -1,28 +1,30 @@
 -- Laws of writing, one for each store or run of stores.
 -- Assumes nothing.
-use Prim.Native.Nat.{◌%◌, ◌*◌, ◌+◌, ◌-◌, ◌/◌, ◌<◌, ◌≤◌, min, suc, zero, ℕ}
+use Prim.Native.Nat.{◌%◌, ◌*◌, ◌+◌, ◌-◌, ◌/◌, ◌^◌, ◌<◌, ◌≤◌, min, suc, zero, ℕ}
+use borrow.Rule.Slice.PartMut.{mid_of, put_mid}
 use lib.Dec.{eqb, leb}
-use lib.ListN.{drop, get_or, length, length-append, length-drop, length-map, length-replicate, length-take, replicate, replicate-append-replicate, set, take}
-use lib.Seq.{ext_get_or, get_or-drop, get_or-take, length-take-le, take-suc}
+use lib.ListN.{drop, drop_of_length-le, get_or, length, length-append, length-drop, length-map, length-replicate, length-take, replicate, take}
+use lib.Seq.{drop-drop, sets-eq, take_all, take-suc}
 use mathlib.Core.Bool.{false, true}
 use mathlib.Core.List.{List, [], ◌++◌, ◌∷◌, append_assoc, append-nil, map}
 use mathlib.Core.Path.{◌∙◌, ◌≡◌, ap, ap₂, refl, sym}
 use native.Mathlib.Nat.{zero-add}
 use native.Mathlib.Numerals.{add-one}
 use native.Mathlib.Omega.{arith}
-use Rattle.base.proofs.Lists.{Holds, get_d-map-in, listed, listed-last}
-use Rattle.base.proofs.StoresLaws.{holds-stored, stored-front, stored-none, stored_one, stored-then}
-use Rattle.base.proofs.Tests.{gt-leb, le-leb, tests}
+use Rattle.std.specs.Int.{to_le_bytes, w16, w64}
+use Rattle.std.proofs.lemmas.List.{drop-map, take-map}
+use Rattle.base.proofs.Lists.{Holds, listed, listed-last}
+use Rattle.base.proofs.StoresLaws.{holds-stored, stored-front, stored-none, stored-then}
+use Rattle.base.proofs.Tests.{gt-leb, le-leb, lt-cases, tests}
 use Rattle.base.specs.Stores.{stored}
-use Rattle.blocks.proofs.Format.Blocks.{length-body, length_front}
+use Rattle.blocks.proofs.Format.Blocks.{length-block, length-body, length_front}
 use Rattle.blocks.proofs.Format.ByteRows.{Rows, length-joined, more, none}
 use Rattle.blocks.proofs.Format.Lawful.{plain-lawful}
-use Rattle.blocks.proofs.Format.Sequence.{all-joined, block_of, length-blocks, row_in, rows_in}
+use Rattle.blocks.proofs.Format.Sequence.{all-joined, block_of, length-blocks, rows_in}
 use Rattle.blocks.proofs.Format.WordBytes.{check-within, length-word, second-within}
 use Rattle.blocks.specs.Encoding.{block_body, block_bytes, block_front, blocks_for, bytes_written, encode_from, encode_rows, joined, row_bytes, written}
 use Rattle.blocks.specs.Frame.{plain}
 use Rattle.blocks.specs.Words.{check_of, second_of, word_bytes}
-use Rattle.writing.specs.code.WritingSteps.{used_for}
 
 -- ---- rows
 
@@ -30,13 +32,34 @@ pub length-row : (x : ℕ) → length (row_bytes x) ≡ 8
 unfolding row_bytes word_bytes
 length-row x = refl
 
--- four words in a row are the bytes of a packed entry
-pub row_done : (x : ℕ) (l : List ℕ) (at : ℕ) {l₁ l₂ l₃ l₄ : List ℕ} → l₁ ≡ stored l at (word_bytes (x % 65536)) → l₂ ≡ stored l₁ (at + 2) (word_bytes (x / 65536 % 65536))
-    → l₃ ≡ stored l₂ (at + 4) (word_bytes (x / 4294967296 % 65536)) → l₄ ≡ stored l₃ (at + 6) (word_bytes (x / 281474976710656))
-    → l₄ ≡ stored l at (row_bytes x)
+-- what std makes of a number
+pub row-le : {x : ℕ} {l : List ℕ} → x < 2 ^ 64 → l ≡ to_le_bytes w64 x → l ≡ row_bytes x
 unfolding row_bytes word_bytes
-row_done x l at p q r s =
-    stored-then _ _ _ _ _ (stored-then _ _ _ _ _ (stored-then _ _ _ _ _ p q refl) r refl) s refl
+row-le {x} h e =
+    let b₀ : x % 65536 % 256 ≡ x % 256 = omega arith in
+    let b₁ : x % 65536 / 256 ≡ x / 256 % 256 = omega arith in
+    let b₂ : x / 65536 % 65536 % 256 ≡ x / 65536 % 256 = omega arith in
+    let b₃ : x / 65536 % 65536 / 256 ≡ x / 16777216 % 256 = omega arith in
+    let b₄ : x / 4294967296 % 65536 % 256 ≡ x / 4294967296 % 256 = omega arith in
+    let b₅ : x / 4294967296 % 65536 / 256 ≡ x / 1099511627776 % 256 = omega arith in
+    let b₇ : x / 281474976710656 / 256 ≡ x / 72057594037927936 % 256 = omega arith in
+    rw (b₀, b₁, b₂, b₃, b₄, b₅, b₇) e
+
+pub word-le : {x : ℕ} {l : List ℕ} → x < 65536 → l ≡ to_le_bytes w16 x → l ≡ word_bytes x
+unfolding word_bytes
+word-le {x} h e = let f : x / 256 % 256 ≡ x / 256 = omega arith in e ∙ rw f
+
+-- a part of a slice, once it is back
+pub mid-stored : (l X : List ℕ) (at k : ℕ) → length X ≡ k → at + k ≤ length l → put_mid at k l X ≡ stored l at X
+unfolding stored
+mid-stored l X at k e h =
+    rw (drop-drop, sets-eq X l at (omega arith), e) (sym (append_assoc (take at l) X (drop (at + k) l)))
+
+pub zeros-stored : (l : List ℕ) (at end : ℕ) {z : List ℕ} → at ≤ end → end ≤ length l → z ≡ replicate (length (mid_of at (end - at) l)) 0
+    → put_mid at (end - at) l z ≡ stored l at (replicate (end - at) 0)
+zeros-stored l at end a b e =
+    let n : length (mid_of at (end - at) l) ≡ end - at = simp (length-take, length-drop) (omega arith) in
+    rw (e, n) (mid-stored l (replicate (end - at) 0) at (end - at) (length-replicate (end - at) 0) (omega arith))
 
 -- ---- a run of rows
 
@@ -68,20 +91,16 @@ pub rows_start : (rows l : List ℕ) (at : ℕ) → l ≡ stored l at (joined (m
 unfolding joined
 rows_start rows l at = stored-none l at
 
-pub rows_step : (rows l : List ℕ) (at from j : ℕ) {l₁ l₂ : List ℕ} → from + j < length rows
-    → l₁ ≡ stored l at (joined (map row_bytes (take j (drop from rows)))) → l₂ ≡ stored l₁ (at + 8 * j) (row_bytes (get_or rows (from + j) 0))
-    → l₂ ≡ stored l at (joined (map row_bytes (take (j + 1) (drop from rows))))
-rows_step rows l at from j h p q =
-    let n : length (drop from rows) ≡ length rows - from = length-drop from rows in
-    rw (add-one j, rows_more (drop from rows) j (omega arith), get_or-drop)
-    (stored-then _ _ _ _ _ p q (ap (λ (k : ℕ). at + k) (sym (length-rows (drop from rows) j (omega arith)))))
+pub rows_step : (rows l : List ℕ) (at j : ℕ) {l₁ l₂ : List ℕ} → j < length rows
+    → l₁ ≡ stored l at (joined (map row_bytes (take j rows))) → l₂ ≡ stored l₁ (at + 8 * j) (row_bytes (get_or rows j 0))
+    → l₂ ≡ stored l at (joined (map row_bytes (take (j + 1) rows)))
+rows_step rows l at j h p q =
+    rw (add-one j, rows_more rows j h)
+    (stored-then _ _ _ _ _ p q (ap (λ (k : ℕ). at + k) (sym (length-rows rows j (omega arith)))))
 
--- ---- zeros
-
-pub zeros-step : (l : List ℕ) (at i : ℕ) {l₁ : List ℕ} → l₁ ≡ stored l at (replicate i 0) → set l₁ (at + i) 0 ≡ stored l at (replicate (i + 1) 0)
-zeros-step l at i {l₁} e =
-    stored-then l (replicate i 0) (0 ∷ []) at (at + i) {l₁ = l₁} e (stored_one l₁ (at + i) 0) (ap (λ (k : ℕ). at + k) (sym (length-replicate {A = ℕ} i 0)))
-    ∙ ap (stored l at) (replicate-append-replicate i 1 0)
+pub rows_all : (rows l : List ℕ) (at : ℕ) {j : ℕ} {l₁ : List ℕ} → length rows ≤ j → l₁ ≡ stored l at (joined (map row_bytes (take j rows)))
+    → l₁ ≡ stored l at (joined (map row_bytes rows))
+rows_all rows l at {j} h e = e ∙ ap (λ (r : List ℕ). stored l at (joined (map row_bytes r))) (take_all j rows h)
 
 -- ---- a block
 
@@ -90,48 +109,50 @@ rows-packed [] = none
 rows-packed (x ∷ rows) = more (length-row x) (rows-packed rows)
 
 -- the stores of a block, up to its two sums
-body-done : (i used : ℕ) (R : List (List ℕ)) (l : List ℕ) {l₁ l₂ l₃ l₄ : List ℕ} → length R ≡ used → Rows 8 R → used ≤ 63
-    → l₁ ≡ stored l (512 * i) (word_bytes (i + 1)) → l₂ ≡ stored l₁ (512 * i + 2) (word_bytes used) → l₃ ≡ stored l₂ (512 * i + 4) (joined R)
-    → l₄ ≡ stored l₃ (512 * i + 4 + 8 * used) (replicate (504 - 8 * used) 0) → l₄ ≡ stored l (512 * i) (block_body plain i R)
+body-done : (i : ℕ) (R : List (List ℕ)) (l : List ℕ) {l₁ l₂ l₃ l₄ : List ℕ} → Rows 8 R → length R ≤ 63
+    → l₁ ≡ stored l 0 (word_bytes (i + 1)) → l₂ ≡ stored l₁ 2 (word_bytes (length R)) → l₃ ≡ stored l₂ 4 (joined R)
+    → l₄ ≡ stored l₃ (4 + 8 * length R) (replicate (508 - (4 + 8 * length R)) 0) → l₄ ≡ stored l 0 (block_body plain i R)
 unfolding block_body
-body-done i used R l {l₄ = l₄} n wide small p q r s =
+body-done i R l {l₄ = l₄} wide small p q r s =
     let A = word_bytes (i + 1) in
-    let B = word_bytes used in
-    let D : List ℕ = replicate (504 - 8 * used) 0 in
+    let B = word_bytes (length R) in
+    let D : List ℕ = replicate (504 - 8 * length R) 0 in
+    let d : 508 - (4 + 8 * length R) ≡ 504 - 8 * length R = omega arith in
     let la = length-word (i + 1) in
-    let lb = length-word used in
+    let lb = length-word (length R) in
     let lc = length-joined wide in
-    let all : l₄ ≡ stored l (512 * i) (((A ++ B) ++ joined R) ++ D) =
+    let all : l₄ ≡ stored l 0 (((A ++ B) ++ joined R) ++ D) =
     stored-then _ _ _ _ _
     (stored-then _ _ _ _ _ (stored-then _ _ _ _ _ p q (omega arith)) r (simp length-append (omega arith)))
-    s (simp length-append (omega arith)) in
-    all ∙ ap (stored l (512 * i)) (rw (add-one i, n) (simp append_assoc))
+    (rw d at s) (simp length-append (omega arith)) in
+    all ∙ ap (stored l 0) (rw (add-one i) (simp append_assoc))
 
 -- a sum of the bytes stored so far, stored after them
-sum_done : (at : ℕ) (X l : List ℕ) {l₁ l₂ : List ℕ} {c : ℕ} (sum_of : List ℕ → ℕ → ℕ)
-    → ((s : List ℕ) (a : ℕ) → Holds s a X → sum_of s a ≡ sum_of X 0) → at + length X ≤ length l → l₁ ≡ stored l at X → c ≡ sum_of l₁ at
-    → l₂ ≡ stored l₁ (at + length X) (word_bytes c) → l₂ ≡ stored l at (X ++ word_bytes (sum_of X 0))
-sum_done at X l {c = c} sum_of within fits front e u =
-    let same : c ≡ sum_of X 0 = e ∙ ap (λ (x : List ℕ). sum_of x at) front ∙ within (stored l at X) at (holds-stored l X at fits) in
-    stored-then _ _ _ _ _ front (rw same at u) refl
+sum_done : (X l : List ℕ) {l₁ l₂ : List ℕ} {c : ℕ} (sum_of : List ℕ → ℕ → ℕ)
+    → ((s : List ℕ) (a : ℕ) → Holds s a X → sum_of s a ≡ sum_of X 0) → 0 + length X ≤ length l → l₁ ≡ stored l 0 X → c ≡ sum_of l₁ 0
+    → l₂ ≡ stored l₁ (length X) (word_bytes c) → l₂ ≡ stored l 0 (X ++ word_bytes (sum_of X 0))
+sum_done X l {c = c} sum_of within fits front e u =
+    let same : c ≡ sum_of X 0 = e ∙ ap (λ (x : List ℕ). sum_of x 0) front ∙ within (stored l 0 X) 0 (holds-stored l X 0 fits) in
+    stored-then _ _ _ _ _ front (rw same at u) (omega arith)
 
--- the stores of a block
-pub block-done : (i used : ℕ) (R : List (List ℕ)) (l : List ℕ) {l₁ l₂ l₃ l₄ l₅ l₆ : List ℕ} {d c : ℕ} → length R ≡ used → Rows 8 R → used ≤ 63
-    → 512 * i + 512 ≤ length l
-    → l₁ ≡ stored l (512 * i) (word_bytes (i + 1)) → l₂ ≡ stored l₁ (512 * i + 2) (word_bytes used) → l₃ ≡ stored l₂ (512 * i + 4) (joined R)
-    → l₄ ≡ stored l₃ (512 * i + 4 + 8 * used) (replicate (504 - 8 * used) 0)
-    → d ≡ second_of l₄ (512 * i) → l₅ ≡ stored l₄ (512 * i + 508) (word_bytes d)
-    → c ≡ check_of l₅ (512 * i) → l₆ ≡ stored l₅ (512 * i + 510) (word_bytes c)
-    → l₆ ≡ stored l (512 * i) (block_bytes plain i R)
+-- the stores of a block fill it
+pub block-done : (i : ℕ) (R : List (List ℕ)) (l : List ℕ) {l₁ l₂ l₃ l₄ l₅ l₆ : List ℕ} {d c : ℕ} → Rows 8 R → length R ≤ 63 → length l ≡ 512
+    → l₁ ≡ stored l 0 (word_bytes (i + 1)) → l₂ ≡ stored l₁ 2 (word_bytes (length R)) → l₃ ≡ stored l₂ 4 (joined R)
+    → l₄ ≡ stored l₃ (4 + 8 * length R) (replicate (508 - (4 + 8 * length R)) 0)
+    → d ≡ second_of l₄ 0 → l₅ ≡ stored l₄ 508 (word_bytes d)
+    → c ≡ check_of l₅ 0 → l₆ ≡ stored l₅ 510 (word_bytes c)
+    → l₆ ≡ block_bytes plain i R
 unfolding block_bytes block_front
-block-done i used R l n wide small fits p q r s d t c u =
+block-done i R l {l₆ = l₆} wide small n p q r s d t c u =
     let body : ℕ = length (block_body plain i R) in
     let front : ℕ = length (block_front plain i R) in
     let b : body ≡ 508 = length-body plain plain-lawful i wide (omega arith) in
     let f : front ≡ 510 = length_front plain plain-lawful i wide (omega arith) in
-    sum_done (512 * i) (block_front plain i R) l check_of (λ x a h. check-within f h) (omega arith)
-    (sum_done (512 * i) (block_body plain i R) l second_of (λ x a h. second-within b h) (omega arith) (body-done i used R l n wide small p q r s) d (rw b t))
-    c (rw f u)
+    let all : l₆ ≡ stored l 0 (block_bytes plain i R) = sum_done (block_front plain i R) l check_of (λ x a h. check-within f h) (omega arith)
+    (sum_done (block_body plain i R) l second_of (λ x a h. second-within b h) (omega arith) (body-done i R l wide small p q r s) d (rw b t))
+    c (rw f u) in
+    let whole : length (block_bytes plain i R) ≡ 512 = length-block plain plain-lawful i wide (omega arith) in
+    all ∙ stored-front l (block_bytes plain i R) (omega arith) ∙ rw (drop_of_length-le l {i = length (block_bytes plain i R)} (omega arith), append-nil)
 
 -- ---- the blocks
 
@@ -142,43 +163,30 @@ encode-more R n wide =
     ∙ ap₂ (λ (x y : List ℕ). x ++ y) (sym (all-joined plain plain-lawful wide n)) (unfold joined in (append-nil (block_of plain R (0 + n)) ∙ ap (block_of plain R) (zero-add n)))
 
 -- the rows of block i
-block-rows : (rows : List ℕ) (count i : ℕ) → count ≤ length rows
-    → map row_bytes (take (used_for count i) (drop (63 * i) rows)) ≡ rows_in plain (map row_bytes (take count rows)) i
-unfolding used_for
-block-rows rows count i h =
+block-rows : (rows : List ℕ) (i : ℕ) {X : List ℕ} → X ≡ take (min (length rows) (63 * i + 63) - 63 * i) (drop (63 * i) rows)
+    → map row_bytes X ≡ rows_in plain (map row_bytes rows) i
+block-rows rows i {X} e =
     let k = 63 * i in
-    let u = min 63 (count - k) in
-    let few : u ≤ count - k = omega arith in
     let rest : length (drop k rows) ≡ length rows - k = length-drop k rows in
-    let here : length (take u (drop k rows)) ≡ u = length-take-le u (drop k rows) (omega arith) in
-    let all : length (take count rows) ≡ count = length-take-le count rows h in
-    let there : length (rows_in plain (map row_bytes (take count rows)) i) ≡ u = rw (length-take, length-drop, length-map, all) in
-    ext_get_or [] _ _
-    (simp length-map here ∙ sym there)
-    (λ j b.
-    let m : j < u = rw (← here) (simp length-map at b) in
-    let left : get_or (map row_bytes (take u (drop k rows))) j [] ≡ row_bytes (get_or rows (k + j) 0) =
-    get_d-map-in row_bytes (take u (drop k rows)) 0 [] j (omega arith)
-    ∙ ap row_bytes (get_or-take u (drop k rows) j 0 m ∙ get_or-drop k rows j 0) in
-    let right : get_or (rows_in plain (map row_bytes (take count rows)) i) j [] ≡ row_bytes (get_or rows (k + j) 0) =
-    row_in plain (map row_bytes (take count rows)) i j (omega arith)
-    ∙ get_d-map-in row_bytes (take count rows) 0 [] (k + j) (omega arith)
-    ∙ ap row_bytes (get_or-take count rows (k + j) 0 (omega arith)) in
-    left ∙ sym right)
+    let few : X ≡ take 63 (drop k rows) =
+    e ∙ lt-cases (length rows) (k + 63)
+    (λ h. take_all (min (length rows) (k + 63) - k) (drop k rows) (omega arith) ∙ sym (take_all 63 (drop k rows) (omega arith)))
+    (λ h. let n : min (length rows) (k + 63) - k ≡ 63 = omega arith in rw n) in
+    ap (map row_bytes) few ∙ rw (drop-map, take-map)
 
-pub blocks_start : (rows l : List ℕ) (count : ℕ) → l ≡ stored l 0 (encode_from plain 0 0 (map row_bytes (take count rows)))
+pub blocks_start : (rows l : List ℕ) → l ≡ stored l 0 (encode_from plain 0 0 (map row_bytes rows))
 unfolding encode_from
-blocks_start rows l count = stored-none l 0
+blocks_start rows l = stored-none l 0
 
-pub blocks_step : (rows l : List ℕ) (count i : ℕ) {l₁ l₂ : List ℕ} {used : ℕ} → count ≤ length rows
-    → l₁ ≡ stored l 0 (encode_from plain i 0 (map row_bytes (take count rows))) → used ≡ used_for count i
-    → l₂ ≡ stored l₁ (512 * i) (block_bytes plain i (map row_bytes (take used (drop (63 * i) rows))))
-    → l₂ ≡ stored l 0 (encode_from plain (i + 1) 0 (map row_bytes (take count rows)))
-blocks_step rows l count i {l₁} {l₂} {used} h p u q =
-    let R = map row_bytes (take count rows) in
-    let wide = rows-packed (take count rows) in
-    let e : map row_bytes (take used (drop (63 * i) rows)) ≡ rows_in plain R i = ap (λ (x : ℕ). map row_bytes (take x (drop (63 * i) rows))) u ∙ block-rows rows count i h in
-    let q' : l₂ ≡ stored l₁ (512 * i) (block_of plain R i) = q ∙ ap (λ (x : List (List ℕ)). stored l₁ (512 * i) (block_bytes plain i x)) e in
+pub blocks_step : (rows l : List ℕ) (i : ℕ) {l₁ X b : List ℕ} → 512 * i + 512 ≤ length l₁ → length b ≡ 512
+    → l₁ ≡ stored l 0 (encode_from plain i 0 (map row_bytes rows)) → X ≡ take (min (length rows) (63 * i + 63) - 63 * i) (drop (63 * i) rows)
+    → b ≡ block_bytes plain i (map row_bytes X)
+    → put_mid (512 * i) 512 l₁ b ≡ stored l 0 (encode_from plain (i + 1) 0 (map row_bytes rows))
+blocks_step rows l i {l₁} {X} {b} h n p e q =
+    let R = map row_bytes rows in
+    let wide = rows-packed rows in
+    let q' : put_mid (512 * i) 512 l₁ b ≡ stored l₁ (512 * i) (block_of plain R i) =
+    mid-stored l₁ b (512 * i) 512 n h ∙ ap (stored l₁ (512 * i)) (q ∙ ap (block_bytes plain i) (block-rows rows i e)) in
     rw (add-one i, encode-more R i wide)
     (stored-then _ _ _ _ _ p q' (sym (length-blocks plain plain-lawful wide i) ∙ sym (zero-add _)))
 

@@ -1,7 +1,6 @@
 // The writer: packed entries are written as blocks from the start of an output, or nothing is written where they do not fit.
 //
-// The contracts cite Encoding of `blocks`; Steps in specs/ mirrors the code, and no public promise names it. That reading undoes writing
-// is proved in `blocks`.
+// The contracts cite Encoding of `blocks`. That reading undoes writing is proved in `blocks`.
 #![tactic(auto)]
 
 mod writer;

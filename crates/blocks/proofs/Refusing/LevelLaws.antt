@@ -1,6 +1,8 @@
 -- Owners, depths, and the table of levels that stands in for them.
 -- Assumes nothing.
-use Rattle.std.proofs.Common.{◌≡◌, ℕ, zero, suc, ◌+◌, ◌-◌, ◌<◌, ◌≤◌, true, false, cond, eqb, leb, ◌≢◌, List, [], ◌∷◌, ◌++◌, length, get_or, set, sym, refl, ap, ◌∙◌, append_assoc, ne_of_lt, add-one, arith, length-set, get_or-set_other, get_or-set_same, below_more}
+use Rattle.std.proofs.Common.{◌≡◌, ℕ, zero, suc, ◌+◌, ◌-◌, ◌<◌, ◌≤◌, true, false, cond, eqb, leb, ◌≢◌, List, [], ◌∷◌, ◌++◌, length, get_or, take, set, sym, refl, ap, ◌∙◌, append_assoc, ne_of_lt, add-one, arith, length-set, length-take, get_or-set_other, get_or-set_same, below_more}
+use lib.ListN.{get_or-eq_default}
+use Rattle.std.proofs.lemmas.List.{get_or-take}
 use Rattle.base.proofs.RangeLaws.{none_left, one_left}
 use Rattle.base.proofs.Tests.{bool_cases, both_ways, eq-cases, eq-eqb, ge-ltb, lt-cases, lt-ltb, ne_eqb, tests}
 use Rattle.blocks.proofs.Refusing.FirstFault.{first-append, or_else, step, step-found, step-more}
@@ -97,6 +99,14 @@ unfolding first
 names-refused Description es n fs h = both_ways refl h
 names-refused Specimen es n fs h = both_ways refl h
 names-refused (Named most) es n fs h = rw h
+
+-- the level of an owner read from the levels of the entries before n
+pub level-passed : (t : List ℕ) (n o : ℕ) → get_or (take n t) o 0 ≡ level_by t n o
+unfolding level_by
+level-passed t n o =
+    lt-cases o n
+    (λ h. get_or-take n t o 0 h ∙ sym (rw (lt-ltb h)))
+    (λ h. get_or-eq_default (take n t) 0 {n = o} (omega (arith, length-take n t)) ∙ sym (rw (ge-ltb h)))
 
 -- ---- entries, by the table
 

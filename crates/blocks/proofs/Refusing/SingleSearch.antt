@@ -1,45 +1,31 @@
--- The search for number 9 begins at the first block that has a group by a link that leads to one item only: no entry before it breaks the
--- number.
+-- The search for number 9: what it finds, as a place, and that no entry breaks the number where none is a group by a link that leads to one item
+-- only.
 -- Assumes nothing.
-use Rattle.std.proofs.Common.{◌≡◌, ℕ, ◌+◌, ◌-◌, ◌<◌, ◌≤◌, List, length, sym, ◌∙◌, arith}
-use Rattle.base.proofs.SearchLaws.{first-end, first-later, first-none, none_first}
-use Rattle.base.proofs.Tests.{eq-cases, false_of_not}
+use Rattle.std.proofs.Common.{◌≡◌, ℕ, zero, suc, ◌≤◌, ◌≢◌, List, Some, None, false, sym, refl, arith}
+use Rattle.base.proofs.SearchLaws.{none_first}
 use Rattle.base.specs.Search.{first_from}
-use Rattle.blocks.proofs.Refusing.Blockwise.{at_first, at_next}
 use Rattle.blocks.proofs.Refusing.SingleLaws.{other-ok}
-use Rattle.blocks.specs.Entries.{entries_of, nth}
+use Rattle.blocks.specs.Entries.{nth}
 use Rattle.blocks.specs.Single.{single_group, single_ok}
-use Rattle.blocks.specs.code.Blockwise.{Whole, next_count}
-use Rattle.blocks.specs.code.SingleSteps.{After, other_kind}
+use Rattle.blocks.specs.code.SingleSteps.{place}
+use Rattle.blocks.specs.declared.Entry.{Entry}
 
--- before the first block
-pub after_none : (s : List ℕ) (n : ℕ) → n ≤ length (entries_of s) → length (entries_of s) ≤ 2016 → Whole s n → After s n 0 4
-after_none s n w f a = record { block = at_first; within = w; few = f; whole = a; none = λ k lo hi. absurd (omega arith) }
+-- what a search gives is a place, or none
+pub no_place : {k : ℕ} → k ≡ 0 → None ≡ place k
+no_place e = rw e
 
-module _ {s : List ℕ} {n done at : ℕ} (A : After s n done at) where
-  -- after a block that has no such group
-  pub after_block : {count : ℕ} → done < n → count ≡ next_count (n - done) → first_from (other_kind (entries_of s)) (done + 1) count ≡ 0
-      → After s n (done + count) (at + 512)
-  after_block {count} more e z = record {
-    block = at_next A.block more e;
-    within = A.within;
-    few = A.few;
-    whole = A.whole;
-    none = λ k lo hi.
-        eq-cases (k - done) 0
-        (λ q. A.none k lo (omega arith))
-        (λ q. false_of_not (single_group (nth (entries_of s) k)) (first-none (other_kind (entries_of s)) (done + 1) count (omega arith) z k (omega arith) (omega arith)));
-  }
+pub place-is : (k p : ℕ) → k ≡ p → p ≢ 0 → Some p ≡ place k
+place-is k zero e z = absurd (z refl)
+place-is k (suc p) e z = rw e
 
-  -- what is looked for stands after the entries passed
-  pub double-after : first_from (single_ok (entries_of s)) 1 n ≡ first_from (single_ok (entries_of s)) (done + 1) (n + 1 - (done + 1))
-  double-after =
-      let es = entries_of s in
-      let all : n + 1 - 1 ≡ n = omega arith in
-      let next : 1 + done ≡ done + 1 = omega arith in
-      let passed = none_first (single_ok es) 1 done (λ k lo hi. other-ok es k (A.none k lo (omega arith))) in
-      rw (all, next) at (first-later (single_ok es) 1 done (n + 1) (omega arith) (omega (arith, A.block.few)) passed)
+pub place-none : (k : ℕ) → None ≡ place k → k ≡ 0
+place-none zero e = refl
+place-none (suc k) e = cc
 
-  -- nothing, where that is none
-  pub without-double : n ≤ done → 0 ≡ first_from (single_ok (entries_of s)) 1 n
-  without-double h = sym (double-after ∙ first-end (single_ok (entries_of s)) (done + 1) (n + 1) (omega arith))
+pub place-some : (k : ℕ) {p : ℕ} → Some p ≡ place k → (k ≡ p) × (p ≢ 0)
+place-some zero e = cc
+place-some (suc k) {p} e = let q : p ≡ suc k = cc in (sym q, λ z. omega arith)
+
+-- where no entry is such a group, none breaks the number
+pub none-double : (es : List Entry) (n : ℕ) → ((k : ℕ) → 1 ≤ k → k ≤ n → single_group (nth es k) ≡ false) → None ≡ place (first_from (single_ok es) 1 n)
+none-double es n h = no_place (none_first (single_ok es) 1 n (λ k lo hi. other-ok es k (h k lo (omega arith))))

@@ -1,8 +1,9 @@
 -- Passes over entries that go block by block: where one stands before a block, and the entries of the block. No public promise names
 -- them.
 -- Assumes nothing.
-use Rattle.std.specs.Prelude.{◌≡◌, ℕ, ◌+◌, ◌*◌, ◌/◌, ◌%◌, ◌<◌, ◌≤◌, min, List, length}
-use Rattle.blocks.specs.Entries.{entries_of, entry_from, nth}
+use Rattle.std.specs.Prelude.{◌≡◌, ℕ, ◌+◌, ◌*◌, ◌/◌, ◌%◌, ◌<◌, ◌≤◌, min, List, ◌++◌, map, length}
+use Rattle.blocks.specs.Entries.{entries_from, entries_of, entry_from, nth}
+use Rattle.blocks.specs.declared.Entry.{Entry}
 
 -- the blocks that n entries take are all there
 abbrev pub Whole : List ℕ → ℕ → Type 0
@@ -23,3 +24,11 @@ pub record InBlock (s : List ℕ) (from count n : ℕ) : Type 0 where
   pub there : from + 8 * count ≤ length s
   pub within : n + count ≤ length (entries_of s)
   pub each : (i : ℕ) → i < count → entry_from s (from + 8 * i) ≡ nth (entries_of s) (n + i + 1)
+
+-- the first n entries of the blocks s; fewer where the whole blocks that are there have no place for so many
+unfoldable pub entries_there : List ℕ → ℕ → List Entry
+entries_there s n = entries_from s 1 (min n (63 * (length s / 512)))
+
+-- the entries of 8 bytes each, and then those of later blocks
+unfoldable pub entries_left : List (List ℕ) → List ℕ → ℕ → List Entry
+entries_left here later left = map (λ b. entry_from b 0) here ++ entries_there later left

@@ -1,27 +1,36 @@
 -- `catalogue` meets its contract: refused, too short, or filled.
+use lib.Seq.{length-take-le}
+use mathlib.Core.Path.{◌∙◌, sym}
 use native.Mathlib.Omega.{arith}
-use Rattle.catalogue.proofs.AnswerLaws.{answer-few, answer-filled, answer-refused, answer-room, answer-short, copied}
+use Rattle.catalogue.proofs.AnswerLaws.{answer-few, answer-filled, answer-refused, answer-short}
 use Rattle.catalogue.proofs.catalogue.Goals as goal
-
-pub returns-then-out-wide : goal.returns-then-out-wide
-returns-then-out-wide c =
-    answer-short c.args.pairs.now c.args.dictionary.now c.args.c.now c.args.list.now c.args.out.now c.judge_list-reading.ensures.0 c.in-Accepted.is (omega (arith, c.if-out-wide.true, c.wide.ensures.0))
-
-pub slice_bounds-copy-end : goal.slice_bounds-copy-end
-slice_bounds-copy-end c =
-    answer-room c.args.pairs.now c.args.dictionary.now c.args.c.now c.args.list.now c.judge_list-reading.ensures.1
-
-pub copy-requires : goal.copy-requires
-copy-requires c =
-    let j = c.judge_list-reading.ensures in
-    let w = c.wide-in-Accepted.ensures.0 in
-    let few = answer-few c.args.pairs.now c.args.dictionary.now c.args.c.now c.args.list.now c.args.out.now j.0 c.in-Accepted.is j.1 in
-    (omega (arith, w, few), omega (arith, w, c.if-out-wide.false, c.wide.ensures.0))
 
 pub returns-in-Refused : goal.returns-in-Refused
 returns-in-Refused c = answer-refused c.args.pairs.now c.args.dictionary.now c.args.c.now c.args.list.now c.args.out.now c.judge_list-reading.ensures.0 c.in-Refused.is
 
-pub returns-else-out-wide : goal.returns-else-out-wide
-returns-else-out-wide c =
+pub returns-then-out-n : goal.returns-then-out-n
+returns-then-out-n c =
+    answer-short c.args.pairs.now c.args.dictionary.now c.args.c.now c.args.list.now c.args.out.now c.judge_list-reading.ensures.0 c.in-Accepted.is (omega arith)
+
+pub slice_bounds-answers-end : goal.slice_bounds-answers-end
+slice_bounds-answers-end c =
     let j = c.judge_list-reading.ensures in
-    answer-filled c.args.pairs.now c.args.dictionary.now c.args.c.now c.args.list.now c.args.out.now j.0 c.in-Accepted.is (omega (arith, c.if-out-wide.false, c.wide.ensures.0)) j.1 (copied _ _ c.wide-in-Accepted.ensures.0 c.copy.ensures)
+    omega (arith, answer-few c.args.pairs.now c.args.dictionary.now c.args.c.now c.args.list.now c.args.out.now j.0 c.in-Accepted.is j.1)
+
+pub slice_bounds-copy_from_slice-end-in-Accepted-2 : goal.slice_bounds-copy_from_slice-end-in-Accepted-2
+slice_bounds-copy_from_slice-end-in-Accepted-2 c =
+    let j = c.judge_list-reading.ensures in
+    let few = answer-few c.args.pairs.now c.args.dictionary.now c.args.c.now c.args.list.now c.args.out.now j.0 c.in-Accepted.is j.1 in
+    sym (length-take-le c.from-n.result c.judge_list-reading.new.answers (omega arith))
+
+pub copy_from_slice-requires : goal.copy_from_slice-requires
+copy_from_slice-requires c =
+    let j = c.judge_list-reading.ensures in
+    let few = answer-few c.args.pairs.now c.args.dictionary.now c.args.c.now c.args.list.now c.args.out.now j.0 c.in-Accepted.is j.1 in
+    length-take-le c.from-n.result c.args.out.now c.if-out-n.false ∙ sym (length-take-le c.from-n.result c.judge_list-reading.new.answers (omega arith))
+
+pub returns-else-out-n : goal.returns-else-out-n
+returns-else-out-n c =
+    let j = c.judge_list-reading.ensures in
+    answer-filled c.args.pairs.now c.args.dictionary.now c.args.c.now c.args.list.now c.args.out.now j.0 c.in-Accepted.is (omega arith) j.1
+    (rw (← c.from-n.ensures, c.copy_from_slice.ensures.after))

@@ -13,11 +13,10 @@ use native.Mathlib.Omega.{arith}
 use Rattle.base.proofs.Tests.{bool_cases, eq-cases, ge-ltb, lt-ltb, ne_eqb}
 use Rattle.blocks.specs.declared.Entry.{Entry}
 use Rattle.compare.proofs.path.PathLaws.{length_up, up_at}
-use Rattle.blocks.specs.declared.Link.{Link}
 use Rattle.compare.specs.code.Asked.{One, code_asked, least_asked, link_in}
 use Rattle.compare.specs.code.Codes.{target_at, target_below, up_from}
-use Rattle.compare.specs.declared.asked.AskedLink.{AskedLink}
-use Rattle.compare.specs.declared.asked.AskedLink.TheVariants.{Items, Nothing}
+use Rattle.compare.specs.declared.items.Items.{Items}
+use Rattle.std.specs.Prelude.{None, Option, Some}
 use Rattle.logic.specs.Place.{Atom, atom, kind_of, lacks, most}
 use Rattle.logic.specs.Witness.{links_at, on, properties_at, target_links, target_properties, want, want_at}
 use Rattle.meaning.specs.Description.{atom_of}
@@ -101,10 +100,10 @@ property-lacked links e lo hi k n = rw (target-end links (atom_of e) lo hi, kind
 -- ---- the items that are asked for
 
 -- what is asked of the links of a target, as the code has it
-abbrev pub Asks : List ℕ → ℕ → Atom → ℕ → AskedLink → Type 0
+abbrev pub Asks : List ℕ → ℕ → Atom → ℕ → Option Items → Type 0
 Asks links m a target r =
     One (link_in r) × (target_links (target_at (up_from links m) a target) ≡ link_in r) × ((x : ℕ) → want (target_at (up_from links m) a target) x ≡ least_asked r x)
-    × ((x : ℕ) → 1024 * target_below (up_from links m) target x ≡ code_asked r x) × ((x : ℕ) → least_asked r x ≤ 65536) × ((x : ℕ) → code_asked r x ≤ 33792)
+    × ((x : ℕ) → 1024 * target_below (up_from links m) target x ≡ code_asked r x)
 
 -- nothing past the end of the path
 below_end : (links : List ℕ) (l : ℕ) {target m : ℕ} → m < target → target_below (up_from links m) target l ≡ 0
@@ -122,41 +121,45 @@ below_next links x {target = suc i} {m} z h =
     rw (length_up, lt-ltb b, up_at links i m b) (bool_cases (eqb x (get_or links (m - suc i) 0)) (λ q. rw q (omega arith)) (λ q. rw q))
 
 -- where nothing is asked
-pub nothing-asked : (links : List ℕ) (m : ℕ) (a : Atom) {target : ℕ} → target ≡ 0 → Asks links m a target Nothing
+pub nothing-asked : (links : List ℕ) (m : ℕ) (a : Atom) {target : ℕ} → target ≡ 0 → Asks links m a target None
 unfolding target_at target_below
-nothing-asked links m a e = rw (e, target_at) (tt, refl, λ x. refl, λ x. refl, λ x. omega arith, λ x. omega arith)
+nothing-asked links m a e = rw (e, target_at) (tt, refl, λ x. refl, λ x. refl)
 
 -- on the path an item by the next link
-pub next-asked : (links : List ℕ) (a : Atom) {target m c : ℕ} {l : Link} → target ≢ 0 → target ≤ m → m ≤ 32 → l.0 ≡ get_or links (m - target) 0 → l.0 < 65536
-    → c ≡ 1024 * (target + 1) → Asks links m a target (Items l 1 c)
-next-asked links a {target} {m} {c} {l} z h k e small q = (
+pub next-asked : (links : List ℕ) (a : Atom) (i : Items) {target m : ℕ} → target ≢ 0 → target ≤ m → i.link.0 ≡ get_or links (m - target) 0 → i.link.0 < 65536
+    → i.count ≡ 1 → i.code ≡ 1024 * (target + 1) → Asks links m a target (Some i)
+next-asked links a i {target} {m} z h e small one q = (
   small,
   rw (target-before links a z h, e),
-  λ x. rw (target-before links a z h, e),
+  λ x. rw (target-before links a z h, e, one),
   λ x. rw (below_next links x z h, e, q) (bool_cases (eqb x (get_or links (m - target) 0)) (λ y. rw y) (λ y. rw y)),
-  λ x. bool_cases (eqb x l.0) (λ y. rw y (omega arith)) (λ y. rw y (omega arith)),
-  λ x. bool_cases (eqb x l.0) (λ y. rw y (omega (arith, q))) (λ y. rw y (omega arith)),
 )
 
 -- at its end nothing, if the entry is no 'most'
-pub nothing-other : (links : List ℕ) (e : Entry) {target m : ℕ} → m < target → target ≤ m + 1 → e.kind ≢ 4 → Asks links m (atom_of e) target Nothing
+pub nothing-other : (links : List ℕ) (e : Entry) {target m : ℕ} → m < target → target ≤ m + 1 → e.kind ≢ 4 → Asks links m (atom_of e) target None
 nothing-other links e lo hi z = (
   tt,
   rw (target-end links (atom_of e) lo hi) (no-link e.kind e.name e.number z),
   λ x. rw (target-end links (atom_of e) lo hi) (no-want e.kind e.name e.number x z),
   λ x. rw (below_end links x lo),
-  λ x. omega arith,
-  λ x. omega arith,
 )
 
 -- and one more than a 'most' allows
-pub most-asked : (links : List ℕ) (e : Entry) {target m n : ℕ} {l : Link} → m < target → target ≤ m + 1 → e.kind ≡ 4 → l.0 ≡ e.name → l.0 < 65536
-    → n ≡ e.number → n < 65536 → Asks links m (atom_of e) target (Items l (n + 1) 0)
-most-asked links e {l = l} lo hi k name small number bound = (
+pub most-asked : (links : List ℕ) (e : Entry) (i : Items) {target m : ℕ} → m < target → target ≤ m + 1 → e.kind ≡ 4 → i.link.0 ≡ e.name → i.link.0 < 65536
+    → i.count ≡ e.number + 1 → i.code ≡ 0 → Asks links m (atom_of e) target (Some i)
+most-asked links e i lo hi k name small number none = (
   small,
   rw (target-end links (atom_of e) lo hi, kind-most k, name),
   λ x. rw (target-end links (atom_of e) lo hi, kind-most k, name, number, add-one),
-  λ x. rw (below_end links x lo) (bool_cases (eqb x l.0) (λ y. rw y) (λ y. rw y)),
-  λ x. bool_cases (eqb x l.0) (λ y. rw y (omega (arith, bound))) (λ y. rw y (omega arith)),
-  λ x. bool_cases (eqb x l.0) (λ y. rw y (omega arith)) (λ y. rw y (omega arith)),
+  λ x. rw (below_end links x lo, none) (bool_cases (eqb x i.link.0) (λ y. rw y) (λ y. rw y)),
 )
+
+-- ---- how much is asked for
+
+pub least-few : (r : Option Items) (x : ℕ) → least_asked r x ≤ 65536
+least-few None x = omega arith
+least-few (Some i) x = bool_cases (eqb x i.link.0) (λ y. rw y i.few) (λ y. rw y (omega arith))
+
+pub code-near : (r : Option Items) (x : ℕ) → code_asked r x ≤ 33792
+code-near None x = omega arith
+code-near (Some i) x = bool_cases (eqb x i.link.0) (λ y. rw y i.near) (λ y. rw y (omega arith))

@@ -1,8 +1,7 @@
 -- One place of the specimen: its properties and then its groups, with what the target asks for, from the tags of its runs.
 -- Assumes nothing.
-use Prim.Native.Nat.{◌%◌, ◌*◌, ◌+◌, ◌/◌, ◌<◌, ◌≤◌, ℕ}
-use lib.ListN.{get_or-eq_default, get_or, length, length-map, take}
-use lib.Seq.{get_or-take, length-take-le}
+use Prim.Native.Nat.{◌%◌, ◌*◌, ◌+◌, ◌/◌, ◌≤◌, ℕ}
+use lib.ListN.{get_or-eq_default, get_or, length, length-map}
 use mathlib.Core.List.{List, Memᴰ, [], ◌∷◌, map}
 use mathlib.Core.Path.{◌∙◌, ◌≡◌, ap, refl}
 use native.Mathlib.Omega.{arith}
@@ -15,8 +14,9 @@ use Rattle.compare.proofs.specimen.SpecimenPlaces.{slot-within}
 use Rattle.compare.specs.code.Asked.{code_asked, least_asked}
 use Rattle.compare.specs.code.Codes.{PlacedBy, group_by, joints_by, numbers_by, properties_by, specimen_number, target_below, target_by, up_from}
 use Rattle.compare.specs.code.Laying.{Joint, codes, joint_rows, leaf_rows}
-use Rattle.compare.specs.code.Tags.{Run, group_of, tag_name, tag_slot}
-use Rattle.compare.specs.declared.asked.AskedLink.{AskedLink}
+use Rattle.compare.specs.code.Tags.{Run, Tagged, group_of, tag_name}
+use Rattle.compare.specs.declared.items.Items.{Items}
+use Rattle.std.specs.Prelude.{Option}
 use Rattle.logic.proofs.TreeRows.FillLaws.{joined-after}
 use Rattle.logic.specs.Filling.{Filled, Joined}
 use Rattle.logic.specs.Place.{Kind, has, least}
@@ -33,13 +33,9 @@ map-after : {A B C : Type 0} (f : A → C) (g : B → C) (h : A → B) (xs : Lis
 map-after f g h [] e = refl
 map-after f g h (x ∷ xs) e = rw (e x (Memᴰ.head refl), map-after f g h xs (λ y i. e y (Memᴰ.tail i)))
 
--- the number at an index is one of those taken
-taken_at : (l : List ℕ) {n : ℕ} → n ≤ length l → (i : ℕ) → i < n → Memᴰ (get_or l i 0) (take n l)
-taken_at l {n} h i b = rw (← (get_or-take n l i 0 b)) (member-at 0 (take n l) i (omega (arith, length-take-le n l h)))
-
--- as many as are taken
-pub taken-many : {A : Type 0} (f : ℕ → A) (l : List ℕ) {n : ℕ} → n ≤ length l → n ≡ length (map f (take n l))
-taken-many f l {n} h = omega (arith, length-take-le n l h, length-map (take n l) f)
+-- as many as there are tags
+pub as-many : {A : Type 0} (f : ℕ → A) (l : List ℕ) → length l ≡ length (map f l)
+as-many f l = omega (arith, length-map l f)
 
 -- ---- the tags of a run
 
@@ -52,13 +48,12 @@ module _ {t : List ℕ} (S : Stood t) where
       (λ h. omega (arith, S.lows j (omega arith)))
       (λ h. let z : get_or t j 0 ≡ 0 = get_or-eq_default t 0 h in rw z (eq-cases j 0 (λ q. rw (eq-eqb q) (omega arith)) (λ q. rw (ne_eqb q) (omega arith))))
 
-  -- the names and slots of the first n tags
-  pub tags-small : {v : ℕ} {a : Kind} {ys : List ℕ} (order : List ℕ) {n : ℕ} → n ≤ length order → Run t v a ys (take n order)
-      → (i : ℕ) → i < n → (tag_name (get_or order i 0) < 65536) × (tag_slot (get_or order i 0) < length t)
-  tags-small {v} {a} order h r i b =
-      let m = taken_at order h i b in
-      let x = get_or order i 0 in
-      (r.small x m, omega (arith, r.slotted x m, slot-within S v (is_link a) (tag_name x), S.some'))
+  -- the tags of a run are tags of the table
+  pub run-tagged : {v : ℕ} {a : Kind} {ys xs : List ℕ} → Run t v a ys xs → Tagged t xs
+  run-tagged {v} {a} {xs = xs} r = record {
+    name = λ i h. r.small _ (member-at 0 xs i h);
+    slot = λ i h. omega (arith, r.slotted (get_or xs i 0) (member-at 0 xs i h), slot-within S v (is_link a) (tag_name (get_or xs i 0)), S.some');
+  }
 
 -- ---- a place
 
@@ -68,7 +63,7 @@ module _ (t links : List ℕ) (m : ℕ) (e : Entry) (c : ℕ) where
   properties-run q r = r.named ∙ rw (← q)
 
   -- its groups, where the link that is asked for is known
-  pub groups-run : {ys xs : List ℕ} (asked : AskedLink) → target_links (target_by links m e c) ≡ ys → ((x : ℕ) → want (target_by links m e c) x ≡ least_asked asked x)
+  pub groups-run : {ys xs : List ℕ} (asked : Option Items) → target_links (target_by links m e c) ≡ ys → ((x : ℕ) → want (target_by links m e c) x ≡ least_asked asked x)
       → ((x : ℕ) → 1024 * target_below (up_from links m) (c / 1024) x ≡ code_asked asked x) → Run t (c % 1024) least ys xs
       → map (group_of t asked) xs ≡ joints_by t links m e c
   groups-run {ys} {xs} asked q w k r =

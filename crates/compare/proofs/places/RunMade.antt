@@ -4,7 +4,7 @@ use Prim.Native.Nat.{◌*◌, ◌+◌, ◌<◌, ◌≤◌, ℕ}
 use lib.Dec.{eqb}
 use lib.ListN.{length, take}
 use lib.Seq.{take-append_seam}
-use mathlib.Core.Bool.{Bool, not}
+use mathlib.Core.Bool.{Bool, false, not, true}
 use mathlib.Core.List.{List, [], ◌++◌, ◌∷◌, append-nil}
 use mathlib.Core.Path.{◌∙◌, ◌≡◌, ap}
 use native.Mathlib.Omega.{arith}
@@ -12,15 +12,16 @@ use Rattle.base.proofs.StoresLaws.{length-stored, stored-front}
 use Rattle.base.proofs.Tests.{bool_cases}
 use Rattle.base.specs.Range.{bit}
 use Rattle.base.specs.Stores.{stored}
-use Rattle.compare.proofs.places.RunLaws.{listed_tags, run-asked, run-listed}
+use Rattle.compare.proofs.places.RunLaws.{listed_by, listed_tags, run-asked, run-listed}
 use Rattle.compare.proofs.places.RunWalks.{gathered-listed}
 use Rattle.compare.specs.code.Asked.{One}
-use Rattle.compare.specs.code.Tags.{Chained, Run, extra_tag, extra_tags}
+use Rattle.compare.specs.code.Tags.{Chained, Run, extra_tag, extra_tags, taken_over}
 use Rattle.logic.specs.Filling.{Filled}
 use Rattle.logic.specs.Normal.{find, found}
-use Rattle.logic.specs.Place.{Kind}
+use Rattle.logic.specs.Place.{Kind, has, least}
 use Rattle.passes.specs.code.Slots.{is_link}
 use Rattle.runs.proofs.TagsListed.{length-tags}
+use Rattle.runs.specs.code.Tagged.{tags_down}
 use Rattle.runs.specs.code.Walked.{gathered}
 use Rattle.slots.specs.code.TablePlaces.{Stood, least_in, place_in, slot_by, used_in}
 use Rattle.sorting.specs.Sorted.{sorted}
@@ -51,18 +52,22 @@ module _ {t last before : List ℕ} (S : Stood t) (C : Chained t last before) (v
 
   module _ (ys : List ℕ) {order₂ : List ℕ} {k : ℕ} (f : Filled (length order₁) order₁ n (extra_tags t v b ys) order₂ k) where
     -- they fit
-    pub run_fits : k ≤ length order
-    run_fits = omega (arith, f.total, extra-few t v b ys, gathered-room, ap length stores, length-stored order (gathered t last before r 1 (length order)) 0)
+    pub run_fits : k ≤ length order₂
+    run_fits = omega (arith, f.total, f.size, extra-few t v b ys, gathered-room)
 
-    tags-are : take k order₂ ≡ listed_tags S v b ++ extra_tags t v b ys
+    pub tags-are : take k order₂ ≡ tags_down t (2 * v + bit b) 1 (used_in t) ++ extra_tags t v b ys
     tags-are = f.held ∙ rw gathered-first
 
-    -- sorted, they are a run
-    pub run-made : (order₃ : List ℕ) (a : Kind) → is_link a ≡ b → ((m : ℕ) → found (find a m (place_in t v)) ≡ not (eqb (least_in t (slot_by t v (is_link a) m)) 0)) → One ys
-        → take k order₃ ≡ sorted (take k order₂) → Run t v a ys (take k order₃)
-    run-made order₃ a is by one h = rw (h, tags-are) (runs ys one)
-      where
-        runs : (zs : List ℕ) → One zs → Run t v a zs (sorted (listed_tags S v b ++ extra_tags t v b zs))
-        runs [] o = rw (append-nil (listed_tags S v b), ← is) (run-listed S v a by)
-        runs (p ∷ []) o = rw (← is) (run-asked S v a by p o)
-        runs (p ∷ q ∷ zs) o = absurd o
+-- ---- sorted, they are a run
+
+-- of a kind whose slots are known
+runs : {t : List ℕ} (S : Stood t) (v : ℕ) (a : Kind) (ys : List ℕ) → ((m : ℕ) → found (find a m (place_in t v)) ≡ not (eqb (least_in t (slot_by t v (is_link a) m)) 0)) → One ys
+    → Run t v a ys (sorted (listed_tags S v (is_link a) ++ extra_tags t v (is_link a) ys))
+runs S v a [] by o = rw (append-nil (listed_tags S v (is_link a))) (run-listed S v a by)
+runs S v a (p ∷ []) by o = run-asked S v a by p o
+runs S v a (p ∷ q ∷ zs) by o = absurd o
+
+pub run-made : {t : List ℕ} (S : Stood t) (v : ℕ) (b : Bool) (ys : List ℕ) {xs : List ℕ} → One ys → xs ≡ sorted (tags_down t (2 * v + bit b) 1 (used_in t) ++ extra_tags t v b ys)
+    → Run t v (taken_over b) ys xs
+run-made S v false ys o e = rw e (runs S v has ys (λ m. (listed_by S v m).0) o)
+run-made S v true ys o e = rw e (runs S v least ys (λ m. (listed_by S v m).1) o)

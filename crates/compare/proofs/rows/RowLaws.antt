@@ -1,9 +1,10 @@
 -- The rows of tags, pushed one after another.
 -- Assumes nothing.
-use Prim.Native.Nat.{◌+◌, ◌<◌, max, pred, suc, zero, ℕ}
+use Prim.Native.Nat.{◌+◌, ◌<◌, max, pred, ℕ}
 use lib.ListN.{get_or, length, length-map, take}
+use lib.Seq.{take-suc}
 use mathlib.Core.List.{List, [], ◌++◌, ◌∷◌, map, map-append}
-use mathlib.Core.Path.{◌≡◌, ap, refl}
+use mathlib.Core.Path.{◌≡◌, refl}
 use native.Mathlib.Numerals.{add-one}
 use native.Mathlib.Omega.{arith}
 use Rattle.compare.proofs.specimen.LaidLaws.{codes-length, joint-length}
@@ -11,7 +12,8 @@ use Rattle.compare.specs.code.Codes.{specimen_number}
 use Rattle.compare.specs.code.Laying.{Joint, codes, joint, joint_rows, leaf_rows}
 use Rattle.compare.specs.code.Asked.{code_asked, least_asked}
 use Rattle.compare.specs.code.Tags.{group_of, tag_name, tag_slot}
-use Rattle.compare.specs.declared.asked.AskedLink.{AskedLink}
+use Rattle.compare.specs.declared.items.Items.{Items}
+use Rattle.std.specs.Prelude.{Option}
 use Rattle.logic.proofs.TreeRows.FillLaws.{filled_more, joined-more}
 use Rattle.logic.specs.Filling.{Filled, Joined}
 use Rattle.logic.specs.SpecimenTree.{Group, group}
@@ -19,12 +21,6 @@ use Rattle.logic.specs.Tree.{leaf_row, node_row}
 use Rattle.slots.specs.code.TablePlaces.{below_in, least_in}
 
 -- ---- lists
-
--- one number more of a list
-take_more : (l : List ℕ) (i : ℕ) → i < length l → take (suc i) l ≡ take i l ++ (get_or l i 0 ∷ [])
-take_more [] i h = absurd (omega arith)
-take_more (x ∷ l) zero h = refl
-take_more (x ∷ l) (suc i) h = ap (λ (r : List ℕ). x ∷ r) (take_more l i (omega arith))
 
 leaf-append : (o : ℕ) (xs ys : List ℕ) → leaf_rows {A = ℕ} {B = Group} o (xs ++ ys) ≡ leaf_rows o xs ++ leaf_rows o ys
 unfolding leaf_rows
@@ -49,10 +45,10 @@ pub properties-more : (order : List ℕ) (o i : ℕ) {w count k k₁ x : ℕ} {r
     → Filled w rows₀ count (map specimen_number (leaf_rows o (map tag_name (take (i + 1) order)))) rows₁ k₁
 unfolding leaf_rows
 properties-more order o i h e p q =
-    rw (add-one, take_more order i h, map-append, leaf-append, map-append, ← e) (filled_more p q)
+    rw (add-one, take-suc order i 0 h, map-append, leaf-append, map-append, ← e) (filled_more p q)
 
 -- the group of a tag
-pub group-is : (t : List ℕ) (asked : AskedLink) (x o : ℕ) {w n at l m code r : ℕ} {rows rows' below below' : List ℕ} → l ≡ tag_name x
+pub group-is : (t : List ℕ) (asked : Option Items) (x o : ℕ) {w n at l m code r : ℕ} {rows rows' below below' : List ℕ} → l ≡ tag_name x
     → m ≡ pred (max (least_in t (tag_slot x)) (least_asked asked (tag_name x))) → code ≡ code_asked asked (tag_name x) + below_in t (tag_slot x)
     → Joined w rows n (specimen_number (node_row o (group l m)) ∷ []) below at (code ∷ []) rows' r below'
     → Joined w rows n (map specimen_number (joint_rows o (group_of t asked x ∷ []))) below at (codes (group_of t asked x ∷ [])) rows' r below'
@@ -67,4 +63,4 @@ pub groups-more : (order : List ℕ) (G : ℕ → Joint Group) (o i : ℕ) {w co
 groups-more order G o i {count = count} {k = k} h p q =
     let at : k + 1 ≡ count + 1 + length (codes (map G (take i order)))
     = omega (arith, p.pushed.total, codes-length (map G (take i order)), length-map (joint_rows {A = ℕ} o (map G (take i order))) specimen_number, joint-length ℕ o (map G (take i order))) in
-    rw (add-one, take_more order i h, map-append, joint-append, codes-append, map-append) (joined-more p q at)
+    rw (add-one, take-suc order i 0 h, map-append, joint-append, codes-append, map-append) (joined-more p q at)

@@ -2,7 +2,7 @@
 -- Assumes nothing.
 use Prim.Native.Nat.{◌%◌, ◌/◌, ◌<◌, ◌≤◌, max, pred, suc, zero, ℕ}
 use lib.Dec.{eqb, ltb}
-use lib.ListN.{drop, get_or, length}
+use lib.ListN.{drop_of_length-le, get_or, length}
 use lib.Seq.{drop-cons}
 use mathlib.Core.Bool.{Bool, ◌&&◌, false, false≢true, not, true}
 use mathlib.Core.List.{List, [], ◌∷◌, map}
@@ -41,13 +41,6 @@ want-some (on [] (atom most n m)) l e = or_cases (eqb l n) false e (λ q. rw q (
 want-some (on [] (atom nothing n m)) l e = absurd (false≢true e)
 want-some (on (l' ∷ w) a) l e = or_cases (eqb l l') false e (λ q. rw q (omega arith)) (λ q. absurd (false≢true q))
 
--- past the end of a list nothing is left
-drop_past : (i : ℕ) (w : List ℕ) → length w ≤ i → drop i w ≡ []
-drop_past zero [] h = refl
-drop_past zero (x ∷ w) h = absurd (omega arith)
-drop_past (suc i) [] h = refl
-drop_past (suc i) (x ∷ w) h = drop_past i w (omega arith)
-
 -- the target that a link leads to
 next-target : (w : List ℕ) (a : Atom) (g l : ℕ) → next (target_at w a g) l ≡ target_at w a (target_below w g l)
 unfolding target_at target_below
@@ -55,7 +48,7 @@ next-target w a zero l = refl
 next-target w a (suc i) l =
     lt-cases i (length w)
     (λ h. rw (lt-ltb h, drop-cons w i 0 h) (bool_cases (eqb l (get_or w i 0)) (λ q. rw q) (λ q. rw q)))
-    (λ h. rw (ge-ltb h, drop_past i w h))
+    (λ h. rw (ge-ltb h, drop_of_length-le w h))
 
 -- a target leads at most past the end of its path
 pub target-most : (w : List ℕ) (g l : ℕ) → target_below w g l ≤ suc (length w)

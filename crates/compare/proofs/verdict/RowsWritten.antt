@@ -26,11 +26,11 @@ use Rattle.normal.proofs.NormalWritten.{written-front}
 -- ---- the tables
 
 -- cleared tables, with two numbers for each of the slots' or one, and a number for each row and one more
-pub shown-tables : {t d : List ℕ} {n : ℕ} {out : List ℕ} (size k : ℕ) → Showable t d n size out → length t ≤ k
-    → Showable t d n (length (replicate {A = ℕ} size 0)) out × (replicate {A = ℕ} (2 * k) 0 ≡ replicate (length (replicate {A = ℕ} (2 * k) 0)) 0)
-    × (2 * length t ≤ length (replicate {A = ℕ} (2 * k) 0)) × (length t ≤ length (replicate {A = ℕ} k 0)) × (length t ≤ length (replicate {A = ℕ} k 0))
-    × (replicate {A = ℕ} (size + 1) 0 ≡ replicate (length (replicate {A = ℕ} size 0) + 1) 0)
-shown-tables size k s h = rw (length-replicate {A = ℕ} size 0, length-replicate {A = ℕ} (2 * k) 0, length-replicate {A = ℕ} k 0) (s, refl, omega arith, h, h, refl)
+pub shown-tables : {t d : List ℕ} {n : ℕ} {out : List ℕ} (size k : ℕ) {l m : ℕ} → Showable t d n size out → length t ≤ k → l ≡ 2 * k → m ≡ size + 1
+    → Showable t d n (length (replicate {A = ℕ} size 0)) out × (replicate {A = ℕ} l 0 ≡ replicate (length (replicate {A = ℕ} l 0)) 0)
+    × (2 * length t ≤ length (replicate {A = ℕ} l 0)) × (length t ≤ length (replicate {A = ℕ} k 0)) × (length t ≤ length (replicate {A = ℕ} k 0))
+    × (replicate {A = ℕ} m 0 ≡ replicate (length (replicate {A = ℕ} size 0) + 1) 0)
+shown-tables size k s h e f = rw (e, f, length-replicate {A = ℕ} size 0, length-replicate {A = ℕ} (2 * k) 0, length-replicate {A = ℕ} k 0) (s, refl, omega arith, h, h, refl)
 
 -- ---- the rows
 

@@ -1,29 +1,31 @@
--- What a place is asked for, as names and numbers: the enums of src/asked.rt. No public promise names these.
+-- What a place is asked for, as names and numbers. No public promise names these.
 -- Assumes nothing.
-use Rattle.std.specs.Prelude.{◌<◌, ℕ, eqb, cond, List, [], ◌∷◌}
-use Rattle.compare.specs.declared.asked.AskedLink.{AskedLink}
-use Rattle.compare.specs.declared.asked.AskedLink.TheVariants as link
-use Rattle.compare.specs.declared.asked.AskedProperty.{AskedProperty}
-use Rattle.compare.specs.declared.asked.AskedProperty.TheVariants as property
+use Rattle.std.specs.Prelude.{◌<◌, ℕ, eqb, cond, List, [], ◌∷◌, Option, Some, None}
+use Rattle.blocks.specs.declared.Property.{Property}
+use Rattle.compare.specs.declared.items.Items.{Items}
 
--- none, or the one that is asked for
-abbrev pub property_in : AskedProperty → List ℕ
-property_in property.Nothing = []
-property_in (property.Property p) = p.0 ∷ []
+-- none, or the one that is asked for: a name, a property, the link of items
+abbrev pub names_in : Option ℕ → List ℕ
+names_in None = []
+names_in (Some x) = x ∷ []
 
-abbrev pub link_in : AskedLink → List ℕ
-link_in link.Nothing = []
-link_in (link.Items l n c) = l.0 ∷ []
+abbrev pub property_in : Option Property → List ℕ
+property_in None = []
+property_in (Some p) = p.0 ∷ []
+
+abbrev pub link_in : Option Items → List ℕ
+link_in None = []
+link_in (Some i) = i.link.0 ∷ []
 
 -- how many items of link x are asked for
-abbrev pub least_asked : AskedLink → ℕ → ℕ
-least_asked link.Nothing x = 0
-least_asked (link.Items l n c) x = cond (eqb x l.0) n 0
+abbrev pub least_asked : Option Items → ℕ → ℕ
+least_asked None x = 0
+least_asked (Some i) x = cond (eqb x i.link.0) i.count 0
 
 -- the code of the target that they lead to
-abbrev pub code_asked : AskedLink → ℕ → ℕ
-code_asked link.Nothing x = 0
-code_asked (link.Items l n c) x = cond (eqb x l.0) c 0
+abbrev pub code_asked : Option Items → ℕ → ℕ
+code_asked None x = 0
+code_asked (Some i) x = cond (eqb x i.link.0) i.code 0
 
 -- at most one name, of two bytes
 abbrev pub One : List ℕ → Type 0

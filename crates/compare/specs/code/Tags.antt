@@ -1,13 +1,13 @@
 -- The names of one place and class in order, as tags: 1,024 times a name, and the number of its slot, 0 where it has none. No public promise
 -- names these.
 -- Assumes nothing.
-use Rattle.std.specs.Prelude.{◌%◌, ◌*◌, ◌+◌, ◌/◌, ◌<◌, ◌≤◌, max, pred, ℕ, eqb, get_or, length, Bool, cond, ◌≡◌}
+use Rattle.std.specs.Prelude.{◌%◌, ◌*◌, ◌+◌, ◌/◌, ◌<◌, ◌≤◌, max, pred, ℕ, eqb, get_or, length, Bool, cond, false, true, Option, ◌≡◌}
 use mathlib.Core.List.{List, Memᴰ, [], ◌∷◌, map}
 use Rattle.base.specs.Chain.{Chains}
 use Rattle.compare.specs.code.Asked.{code_asked, least_asked}
 use Rattle.compare.specs.code.Laying.{Joint, joint}
-use Rattle.compare.specs.declared.asked.AskedLink.{AskedLink}
-use Rattle.logic.specs.Place.{Kind}
+use Rattle.compare.specs.declared.items.Items.{Items}
+use Rattle.logic.specs.Place.{Kind, has, least}
 use Rattle.logic.specs.SpecimenTree.{Group, group}
 use Rattle.logic.specs.Witness.{names}
 use Rattle.passes.specs.code.Slots.{is_link}
@@ -35,6 +35,16 @@ abbrev pub extra_tags : List ℕ → ℕ → Bool → List ℕ → List ℕ
 extra_tags t v b [] = []
 extra_tags t v b (x ∷ xs) = extra_tag t v b x
 
+-- the kind whose names a specimen takes over, of properties and of links
+abbrev pub taken_over : Bool → Kind
+taken_over false = has
+taken_over true = least
+
+-- the numbers are tags of the table: each has a name of two bytes, and one of its slots, or none
+pub record Tagged (t z : List ℕ) : Type 0 where
+  pub name : (i : ℕ) → i < length z → tag_name (get_or z i 0) < 65536
+  pub slot : (i : ℕ) → i < length z → tag_slot (get_or z i 0) < length t
+
 -- the tags xs are those of the names that place v lists with the kind a and of the names ys, each once, in order
 pub record Run (t : List ℕ) (v : ℕ) (a : Kind) (ys xs : List ℕ) : Type 0 where
   pub named : map tag_name xs ≡ names a (place_in t v) ys
@@ -42,6 +52,6 @@ pub record Run (t : List ℕ) (v : ℕ) (a : Kind) (ys xs : List ℕ) : Type 0 w
   pub small : (x : ℕ) → Memᴰ x xs → tag_name x < 65536
 
 -- the group of a tag's link, where items are asked for, with the code of its place
-abbrev pub group_of : List ℕ → AskedLink → ℕ → Joint Group
+abbrev pub group_of : List ℕ → Option Items → ℕ → Joint Group
 group_of t asked x =
     joint (group (tag_name x) (pred (max (least_in t (tag_slot x)) (least_asked asked (tag_name x))))) (code_asked asked (tag_name x) + below_in t (tag_slot x))

@@ -4,24 +4,28 @@ use Prim.Native.Nat.{◌+◌, ◌<◌, ℕ}
 use lib.Dec.{eqb}
 use lib.ListN.{get_or, length, length-replicate, length-set, replicate, set}
 use lib.Seq.{get_or-set_other, get_or-set_same}
-use mathlib.Core.Bool.{Bool, cond, false, true}
+use mathlib.Core.Bool.{Bool, ◌||◌, false, true}
 use mathlib.Core.List.{List}
 use mathlib.Core.Path.{◌∙◌, ◌≡◌, ap, refl, sym}
 use native.Mathlib.Numerals.{add-one}
 use native.Mathlib.Omega.{arith}
-use Rattle.base.proofs.Lists.{zeros-read}
-use Rattle.base.proofs.Tests.{bool_cases, eq-cases, eq-eqb, ne_eqb}
+use Rattle.std.proofs.lemmas.List.{get_or-replicate}
+use Rattle.base.proofs.Tests.{bool_cases, eq-cases, eq-eqb, ne_eqb, or-one}
 use Rattle.blocks.specs.Entries.{nth}
 use Rattle.blocks.specs.Owners.{owner_of}
 use Rattle.blocks.specs.declared.Entry.{Entry}
 use Rattle.fit.specs.code.Bare.{Marked, quiet}
 use Rattle.meaning.specs.Owned.{all_where}
 
+or-none : (b : Bool) → (b || false) ≡ b
+or-none true = refl
+or-none false = refl
+
 module _ (tells : Entry → Bool) (es : List Entry) where
   -- no entries
-  pub marks-start : {most : ℕ} {marks : List ℕ} → marks ≡ replicate most 0 → Marked tells es 0 most marks
+  pub marks-start : {most : ℕ} {marks : List Bool} → marks ≡ replicate most false → Marked tells es 0 most marks
   unfolding quiet all_where
-  marks-start {most} e = record { size = ap length e ∙ length-replicate {A = ℕ} most 0; mark = λ o h. zeros-read most e o }
+  marks-start {most} e = record { size = ap length e ∙ length-replicate {A = Bool} most false; mark = λ o h. rw e (get_or-replicate {A = Bool} most o false false h) }
 
   -- an entry of another owner, or that tells nothing, changes nothing
   quiet-other : (o n : ℕ) → eqb (owner_of es (n + 1)) o ≡ false → quiet tells es o (n + 1) ≡ quiet tells es o n
@@ -36,33 +40,33 @@ module _ (tells : Entry → Bool) (es : List Entry) where
   unfolding quiet all_where
   quiet_told o n e q = rw (add-one, quiet, all_where, eq-eqb (rw add-one at e), rw add-one at q)
 
-  module _ {n most : ℕ} {marks : List ℕ} (M : Marked tells es n most marks) {e : Entry} (at : e ≡ nth es (n + 1)) where
+  module _ {n most : ℕ} {marks : List Bool} (M : Marked tells es n most marks) {e : Entry} (at : e ≡ nth es (n + 1)) where
     pub marks-silent : tells e ≡ false → Marked tells es (n + 1) most marks
     marks-silent q = record { size = M.size; mark = λ o h. M.mark o h ∙ rw (quiet-silent o n (rw at at q)) }
 
-    pub marks-told : {marks' : List ℕ} {p : ℕ} → tells e ≡ true → p ≡ e.owner → p < most → marks' ≡ set marks p 1 → Marked tells es (n + 1) most marks'
+    pub marks-told : {marks' : List Bool} {p : ℕ} → tells e ≡ true → p ≡ e.owner → p < most → marks' ≡ set marks p true → Marked tells es (n + 1) most marks'
     unfolding owner_of
     marks-told {marks'} {p} q own h is = rw is (record {
-      size = length-set marks p 1 ∙ M.size;
+      size = length-set marks p true ∙ M.size;
       mark = λ o l. eq-cases o p
-          (λ z. rw (z, get_or-set_same marks p 1 0 (omega (arith, M.size)), quiet_told p n (ap (λ (x : Entry). x.owner) (sym at) ∙ sym own) (rw at at q)))
-          (λ z. get_or-set_other marks p o 1 0 z ∙ M.mark o l
+          (λ z. rw (z, get_or-set_same marks p true false (omega (arith, M.size)), quiet_told p n (ap (λ (x : Entry). x.owner) (sym at) ∙ sym own) (rw at at q)))
+          (λ z. get_or-set_other marks p o true false z ∙ M.mark o l
           ∙ rw (quiet-other o n (ne_eqb (λ y. z (sym y ∙ ap (λ (x : Entry). x.owner) (sym at) ∙ sym own)))));
     })
 
     -- by what was written
-    pub marks-next : {marks' : List ℕ} → e.owner < most → marks' ≡ set marks e.owner (cond (tells e) 1 (get_or marks e.owner 0)) → Marked tells es (n + 1) most marks'
+    pub marks-next : {marks' : List Bool} → e.owner < most → marks' ≡ set marks e.owner (get_or marks e.owner false || tells e) → Marked tells es (n + 1) most marks'
     marks-next {marks'} h is =
         let o = e.owner in
-        let old = get_or marks o 0 in
+        let old = get_or marks o false in
         bool_cases (tells e)
-        (λ y. let same : marks' ≡ set marks o 1 = is ∙ rw y in marks-told y refl h same)
+        (λ y. let same : marks' ≡ set marks o true = is ∙ rw (y, or-one old) in marks-told y refl h same)
         (λ y.
         let M' = marks-silent y in
-        let same : marks' ≡ set marks o old = is ∙ rw y in
+        let same : marks' ≡ set marks o old = is ∙ rw (y, or-none old) in
         rw same (record {
           size = length-set marks o old ∙ M.size;
           mark = λ p l. eq-cases p o
-              (λ z. rw (z, get_or-set_same marks o old 0 (omega (arith, M.size))) (M'.mark o h))
-              (λ z. get_or-set_other marks o p old 0 z ∙ M'.mark p l);
+              (λ z. rw (z, get_or-set_same marks o old false (omega (arith, M.size))) (M'.mark o h))
+              (λ z. get_or-set_other marks o p old false z ∙ M'.mark p l);
         }))

@@ -5,9 +5,12 @@ use lib.Dec.{eqb, leb}
 use lib.ListN.{length}
 use mathlib.Core.Bool.{Bool, ◌&&◌, ◌||◌, false, not, true}
 use mathlib.Core.List.{List}
+use mathlib.Core.Logic.{◌≢◌}
 use mathlib.Core.Path.{◌∙◌, ◌≡◌, ap, refl, sym}
 use native.Mathlib.Omega.{arith}
-use Rattle.base.proofs.Tests.{and_cases, and_left, and_right, bool_cases, eqb-eq, or-one}
+use Rattle.std.proofs.Math.Logic.{∥∥₁_elim}
+use Rattle.std.proofs.Props.{props}
+use Rattle.base.proofs.Tests.{and_cases, and_left, and_right, bool_cases, eqb-eq, ne_eqb, or-one}
 use Rattle.blocks.specs.Entries.{entries_of, nth}
 use Rattle.blocks.specs.Owners.{owner_of}
 use Rattle.blocks.specs.Single.{items_up_to}
@@ -17,9 +20,9 @@ use Rattle.fit.proofs.index.BucketLaws.{all-bucket, code-bare, code-full, code_o
 use Rattle.fit.proofs.index.BucketWalk.{where-ext}
 use Rattle.fit.specs.Totals.{TotalsOf}
 use Rattle.fit.specs.code.Bare.{bare}
-use Rattle.fit.specs.code.Groups.{gives_property, groups_by, has_bare, has_property, is_group, total_by}
+use Rattle.fit.specs.code.Groups.{gives_property, groups_by, has_bare, has_property, is_group, meets_atom, total_by}
 use Rattle.fit.specs.code.Index.{any_of, bucket_of, code_of, hash_of, is_of, not_of}
-use Rattle.fit.specs.code.Rows.{Known, Singles}
+use Rattle.fit.specs.code.Rows.{Singles}
 
 -- what was worked out of the entry that was read is true of entry k of the list
 read_here : {A : Type 0} (es : List Entry) (f : Entry → A) (k : ℕ) {e : Entry} {r : A} → e ≡ nth es k → r ≡ f e → f (nth es k) ≡ r
@@ -102,14 +105,21 @@ pub twice-not : (b : Bool) → b ≡ not (not b)
 twice-not true = refl
 twice-not false = refl
 
+-- an entry that is none of the four is not met
+pub no-atom : (s : List Entry) (g : ℕ) (e : Entry) → e.kind ≢ 1 → e.kind ≢ 2 → e.kind ≢ 3 → e.kind ≢ 4 → false ≡ meets_atom s g e
+unfolding meets_atom
+no-atom s g e a b c d = rw (meets_atom, ne_eqb a, ne_eqb b, ne_eqb c, ne_eqb d)
+
 -- ---- totals
 
 -- what the table has for every list of entries that it is of, it has for the specimen's
-pub table-total : {most : ℕ} {s si rows links : List ℕ} {used r : ℕ} (o l : ℕ) → Known most s si rows links used
+pub table-total : (s : List ℕ) {rows : List ℕ} {used r : ℕ} (o l : ℕ) → ∥ TotalsOf (entries_of s) (length (entries_of s)) rows used ∥₁
     → ((es : List Entry) → (m : ℕ) → TotalsOf es m rows used → r ≡ items_up_to es o l m) → r ≡ total_by (entries_of s) o l
-table-total {most} {s} o l K h = h (entries_of s) (length (entries_of s)) K.totals
+table-total s o l T h = ∥∥₁_elim T (search props) (h (entries_of s) (length (entries_of s)))
 
-pub table-most : {most : ℕ} {s si rows links : List ℕ} {used : ℕ} {r : Bool} (o l number : ℕ) → Known most s si rows links used
+pub table-most : (s : List ℕ) {rows : List ℕ} {used : ℕ} {r : Bool} (o l number : ℕ) → ∥ TotalsOf (entries_of s) (length (entries_of s)) rows used ∥₁
+    → Singles (entries_of s) (length (entries_of s))
     → ((es : List Entry) → (m : ℕ) → TotalsOf es m rows used → Singles es m → r ≡ leb (items_up_to es o l m) number)
     → r ≡ leb (total_by (entries_of s) o l) number
-table-most {most} {s} o l number K h = h (entries_of s) (length (entries_of s)) K.totals K.single
+table-most s o l number T S h =
+    ∥∥₁_elim T (search props) (λ t. h (entries_of s) (length (entries_of s)) t S)

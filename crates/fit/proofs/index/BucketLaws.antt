@@ -4,7 +4,7 @@ use Prim.Native.Nat.{◌%◌, ◌*◌, ◌+◌, ◌<◌, ◌≤◌, suc, zero, �
 use lib.Bits.{and_le_r, and_step, bit_and}
 use lib.Dec.{eqb}
 use lib.ListN.{get_or, length}
-use mathlib.Core.Bool.{Bool, ◌&&◌, ◌||◌, cond, false, not, true}
+use mathlib.Core.Bool.{Bool, ◌&&◌, ◌||◌, false, not, true}
 use mathlib.Core.List.{List}
 use mathlib.Core.Logic.{◌≢◌}
 use mathlib.Core.Path.{◌∙◌, ◌≡◌, ap, refl, sym}
@@ -25,9 +25,10 @@ pub hash-below : (most o k n : ℕ) → 0 < most → hash_of most o k n < most
 unfolding hash_of
 hash-below most o k n pos = omega (arith, and_le_r (o + (31 * n + k)) (most - 1))
 
-pub hash-is : (most o k n : ℕ) {m r : ℕ} → 0 < most → m ≡ n → r ≡ bit_and (o + (31 * m + k)) (most - 1) → (r ≡ hash_of most o k n) × (r < most)
+pub hash-is : (most o k n : ℕ) {q m : ℕ} → 0 < most → q ≡ k → m ≡ n
+    → (bit_and (o + (31 * m + q)) (most - 1) ≡ hash_of most o k n) × (bit_and (o + (31 * m + q)) (most - 1) < most)
 unfolding hash_of
-hash-is most o k n {m} pos e f = (f ∙ rw e, omega (arith, f, and_le_r (o + (31 * m + k)) (most - 1)))
+hash-is most o k n {q} {m} pos d e = (rw (hash_of, d, e), omega (arith, and_le_r (o + (31 * m + q)) (most - 1)))
 
 pub bucket-below : (σ : Schema) (most : ℕ) (es : List Entry) (k : ℕ) → Ordered es → 1 ≤ k → k ≤ length es → length es < most → bucket_of σ most es k < most
 bucket-below Description most es k O lo hi few = omega (arith, O.earlier k lo hi)
@@ -54,19 +55,19 @@ pub code-bare : (kind : ℕ) {b : Bool} → kind ≡ 7 → b ≡ true → code_o
 unfolding code_of
 code-bare kind q y = rw (code_of, q, y)
 
-mark-tells : (b : Bool) → eqb (cond b 0 1) 0 ≡ b
-mark-tells true = refl
-mark-tells false = refl
+not-not : (b : Bool) → not (not b) ≡ b
+not-not true = refl
+not-not false = refl
 
 -- a mark says whether one of the owner's entries tells
-pub marked-tells : {tells : Entry → Bool} {es : List Entry} {total most : ℕ} {marks : List ℕ} → Marked tells es total most marks → total ≡ length es
-    → (k : ℕ) → k < most → eqb (get_or marks k 0) 0 ≡ quiet tells es k (length es)
+pub marked-tells : {tells : Entry → Bool} {es : List Entry} {total most : ℕ} {marks : List Bool} → Marked tells es total most marks → total ≡ length es
+    → (k : ℕ) → k < most → not (get_or marks k false) ≡ quiet tells es k (length es)
 marked-tells {tells} {es} {total} M n k l =
-    ap (λ (x : ℕ). eqb x 0) (M.mark k l) ∙ mark-tells (quiet tells es k total) ∙ ap (quiet tells es k) n
+    ap not (M.mark k l) ∙ not-not (quiet tells es k total) ∙ ap (quiet tells es k) n
 
 -- the bucket of the entry that was read, with the mark that says whether it owns something, is that of entry k
-pub bucket-specimen : {most total : ℕ} {marks : List ℕ} (es : List Entry) (k : ℕ) → Marked any_entry es total most marks → total ≡ length es → k < most
-    → {e : Entry} {m o c b : ℕ} → e ≡ nth es k → m ≡ get_or marks k 0 → o ≡ e.owner → c ≡ code_of e.kind (eqb m 0) → b ≡ hash_of most o c e.name
+pub bucket-specimen : {most total : ℕ} {marks : List Bool} (es : List Entry) (k : ℕ) → Marked any_entry es total most marks → total ≡ length es → k < most
+    → {e : Entry} {m : Bool} {o c b : ℕ} → e ≡ nth es k → m ≡ get_or marks k false → o ≡ e.owner → c ≡ code_of e.kind (not m) → b ≡ hash_of most o c e.name
     → b ≡ bucket_of Specimen most es k
 unfolding owner_of
 bucket-specimen {most} {total} {marks} es k M n l {e} at mark own code h =

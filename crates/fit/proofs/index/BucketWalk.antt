@@ -10,13 +10,14 @@ use mathlib.Core.Logic.{◌≢◌}
 use mathlib.Core.Path.{◌∙◌, ◌≡◌, ap, refl, sym}
 use native.Mathlib.Numerals.{sub-one}
 use native.Mathlib.Omega.{arith}
-use Rattle.base.proofs.ChainLaws.{chains-more, chains-start, skip-goes, skip-starts}
+use Rattle.std.specs.Prelude.{Some}
+use Rattle.base.proofs.ChainLaws.{chains-more, chains-start, skip-goes, skip-starts, walk-falls, walk-goes, walk-starts}
 use Rattle.base.proofs.Lists.{zeros-read}
 use Rattle.base.proofs.Tests.{bool_cases, eq-eqb, eqb-eq, or-one}
 use Rattle.base.specs.Chain.{OnChain}
 use Rattle.blocks.specs.Entries.{entries_of}
 use Rattle.blocks.specs.declared.Schema.{Schema}
-use Rattle.fit.specs.code.Index.{Has, Indexed, Ready, bucket_of, chained}
+use Rattle.fit.specs.code.Index.{Falls, Has, Indexed, Ready, StepsBack, bucket_of, chained}
 use Rattle.meaning.specs.Owned.{all_where}
 
 module _ (c : ℕ → ℕ) where
@@ -56,30 +57,102 @@ module _ (c : ℕ → ℕ) where
 
 -- ---- a walk
 
--- the buckets of an input's entries
-abbrev buckets : Schema → ℕ → List ℕ → ℕ → ℕ
-buckets σ most s = bucket_of σ most (entries_of s)
+-- A chain over the table t of bucket b, of numbers 1 to n, has come to number k, or to the end: what f tells from there back is the answer.
+pub record Walk {A : Type 0} (c : ℕ → ℕ) (b n : ℕ) (f : ℕ → A) (answer : A) (t : List ℕ) (most : ℕ) (table : List ℕ) (m k : ℕ) : Type 0 where
+  pub on : OnChain c b k n
+  pub tells : answer ≡ f k
+  pub same-table : table ≡ t
+  pub same-most : m ≡ most
 
-module _ {σ : Schema} {most : ℕ} {s : List ℕ} {t : List ℕ} (R : Ready σ most s t) (b : ℕ) {k : ℕ} where
-  -- it begins at the last entry
-  pub all-starts : (p : ℕ → Bool) → b < most → k ≡ get_or t b 0 → all_where (buckets σ most s) p b (length (entries_of s)) ≡ all_where (buckets σ most s) p b k
-  all-starts p h e = skip-starts R.index.chains b h e (all_where (buckets σ most s) p b) (skip_all (buckets σ most s) p b)
+module _ {c : ℕ → ℕ} {most n : ℕ} {t : List ℕ} (I : Indexed most c t n) where
+  -- numbers fall along it
+  pub falls-from : {k : ℕ} → k ≤ n → Falls most t k
+  falls-from h = record {
+    room = omega (arith, I.size, I.below);
+    lower = λ j lo hi. walk-falls I.chains (c j) (record { bound = omega (arith, hi, h); bucket = λ z. refl }) (λ z. omega arith) refl;
+  }
 
-  -- it goes on to the entry before
-  module _ (S : OnChain (buckets σ most s) b k (length (entries_of s))) (z : k ≢ 0) {j : ℕ} (e : j ≡ get_or t (most + k) 0) where
-    pub all-goes : (p : ℕ → Bool) → p k ≡ true → all_where (buckets σ most s) p b k ≡ all_where (buckets σ most s) p b j
-    all-goes p y = all_yes (buckets σ most s) p b k z y ∙ skip-goes R.index.chains b S z e (all_where (buckets σ most s) p b) (skip_all (buckets σ most s) p b)
+  pub falls-bucket : {b : ℕ} → b < most → (b < length t) × Falls most t (get_or t b 0)
+  falls-bucket {b} h = (omega (arith, I.size), falls-from (walk-starts I.chains b h refl).bound)
 
-    -- the last to come to alone decides
-    pub all-last : (p : ℕ → Bool) → j ≡ 0 → all_where (buckets σ most s) p b k ≡ p k
-    all-last p q =
-        bool_cases (p k)
-        (λ y. all-goes p y ∙ all-ends (buckets σ most s) p b q ∙ sym y)
-        (λ y. all-no (buckets σ most s) p b k z (S.bucket z) y ∙ sym y)
+  -- what numbers of other buckets do not change
+  module _ {A : Type 0} (b : ℕ) (f : ℕ → A) (skip : (i : ℕ) → eqb (c (suc i)) b ≡ false → f (suc i) ≡ f i) where
+    -- it begins at the last number
+    pub walk-first : {answer : A} {table : List ℕ} {m k : ℕ} → answer ≡ f n → b < most → table ≡ t → m ≡ most → k ≡ get_or t b 0
+        → Walk c b n f answer t most table m k
+    walk-first is h a d e = record { on = walk-starts I.chains b h e; tells = is ∙ skip-starts I.chains b h e f skip; same-table = a; same-most = d }
+
+    -- it goes on to the number before
+    pub walk-on : {answer : A} {table table' : List ℕ} {m m' k k' i : ℕ} → Walk c b n f answer t most table m k → StepsBack table m k (Some i) table' m' k'
+        → f i ≡ f (i - 1) → Walk c b n f answer t most table' m' k'
+    walk-on {answer} {table} {table'} {m} {m'} {k} {k'} {i} W s y =
+        let z : k ≢ 0 = λ q. s.0.1 (s.0.0 ∙ q) in
+        let e : k' ≡ get_or t (most + k) 0 =
+        s.0.2 ∙ ap (λ (x : List ℕ). get_or x (m + k) 0) W.same-table ∙ ap (λ (x : ℕ). get_or t (x + k) 0) W.same-most in
+        record {
+          on = walk-goes I.chains b W.on z e;
+          tells = W.tells ∙ (rw s.0.0 at y) ∙ skip-goes I.chains b W.on z e f skip;
+          same-table = s.1 ∙ W.same-table;
+          same-most = s.2 ∙ W.same-most;
+        }
+
+-- the number that it comes to is on it
+module _ {A : Type 0} {c : ℕ → ℕ} {b n : ℕ} {f : ℕ → A} {answer : A} {t : List ℕ} {most : ℕ} {table table' : List ℕ} {m m' k k' i : ℕ}
+    (W : Walk c b n f answer t most table m k) (s : StepsBack table m k (Some i) table' m' k') where
+  pub walk-at : OnChain c b i n
+  walk-at = rw (sym s.0.0) at W.on
+
+  pub walk-tells : answer ≡ f i
+  walk-tells = rw (sym s.0.0) at W.tells
 
 -- an entry on it is there
 pub has-entry : {σ : Schema} {most : ℕ} {s : List ℕ} {t : List ℕ} {k : ℕ} → Ready σ most s t → k ≤ length (entries_of s) → k ≢ 0 → Has s k
 has-entry R h z = record { some = omega arith; within = h; few = omega (arith, R.index.below, R.index.sized); whole = R.whole }
+
+-- ---- a walk over entries of which all are to pass
+
+-- the buckets of an input's entries
+abbrev pub buckets : Schema → ℕ → List ℕ → ℕ → ℕ
+buckets σ most s = bucket_of σ most (entries_of s)
+
+-- those from number k back tell the answer
+abbrev pub Passing : Schema → ℕ → List ℕ → (ℕ → Bool) → ℕ → Bool → List ℕ → List ℕ → ℕ → ℕ → Type 0
+Passing σ most s p b answer t table m k = Walk (buckets σ most s) b (length (entries_of s)) (all_where (buckets σ most s) p b) answer t most table m k
+
+module _ {σ : Schema} {most : ℕ} {s : List ℕ} {t : List ℕ} (R : Ready σ most s t) (p : ℕ → Bool) (b : ℕ) where
+  -- it begins at the last entry
+  pub pass-first : {answer : Bool} {table : List ℕ} {m k : ℕ} → answer ≡ all_where (buckets σ most s) p b (length (entries_of s)) → b < most
+      → table ≡ t → m ≡ most → k ≡ get_or t b 0 → Passing σ most s p b answer t table m k
+  pass-first is h a d e = walk-first R.index b (all_where (buckets σ most s) p b) (skip_all (buckets σ most s) p b) is h a d e
+
+  module _ {answer : Bool} {table : List ℕ} {m k : ℕ} (W : Passing σ most s p b answer t table m k) where
+    -- it goes on past an entry that passes
+    pub pass-on : {table' : List ℕ} {m' k' i : ℕ} → StepsBack table m k (Some i) table' m' k' → p i ≡ true → Passing σ most s p b answer t table' m' k'
+    pass-on {i = i} q y = walk-on R.index b (all_where (buckets σ most s) p b) (skip_all (buckets σ most s) p b) W q (all_yes (buckets σ most s) p b i q.0.1 y)
+
+    -- one that does not decides
+    pub pass-no : {table' : List ℕ} {m' k' i : ℕ} → StepsBack table m k (Some i) table' m' k' → p i ≡ false → answer ≡ false
+    pass-no {i = i} q y = walk-tells W q ∙ all-no (buckets σ most s) p b i q.0.1 ((walk-at W q).bucket q.0.1) y
+
+    -- at the end all passed
+    pub pass-ends : k ≡ 0 → answer ≡ true
+    pass-ends z = W.tells ∙ all-ends (buckets σ most s) p b z
+
+    -- the last to come to alone decides
+    pub pass-last : {table' : List ℕ} {m' k' i : ℕ} → StepsBack table m k (Some i) table' m' k' → k' ≡ 0 → answer ≡ p i
+    pass-last {i = i} q e =
+        bool_cases (p i)
+        (λ y. (pass-on q y).tells ∙ all-ends (buckets σ most s) p b e ∙ sym y)
+        (λ y. pass-no q y ∙ sym y)
+
+    -- the entry that it comes to is there
+    pub pass-has : {table' : List ℕ} {m' k' i : ℕ} → StepsBack table m k (Some i) table' m' k' → Has s i
+    pass-has q = has-entry R (walk-at W q).bound q.0.1
+
+-- an entry with none before it in its bucket decides what those from there back tell
+pub all-last : {σ : Schema} {most : ℕ} {s : List ℕ} {t : List ℕ} → Ready σ most s t → (p : ℕ → Bool) (b : ℕ) {k : ℕ}
+    → OnChain (buckets σ most s) b k (length (entries_of s)) → k ≢ 0 → get_or t (most + k) 0 ≡ 0 → all_where (buckets σ most s) p b k ≡ p k
+all-last R p b S z e = pass-last R p b (record { on = S; tells = refl; same-table = refl; same-most = refl }) ((refl, z, refl), refl, refl) e
 
 -- ---- the index
 

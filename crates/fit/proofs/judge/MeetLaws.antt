@@ -1,23 +1,22 @@
 -- Laws of meeting an entry, one for each way through the code.
 -- Assumes nothing.
-use Prim.Native.Nat.{◌-◌, ◌<◌, suc, zero, ℕ, ◌%◌}
+use Prim.Native.Nat.{◌-◌, suc, zero, ℕ, ◌%◌}
 use lib.Dec.{eqb}
-use lib.ListN.{get_or, length}
-use mathlib.Core.Bool.{Bool, ◌&&◌, ◌||◌, cond, false, not, true}
+use lib.ListN.{length}
+use mathlib.Core.Bool.{Bool, ◌&&◌, ◌||◌, false, not, true}
 use mathlib.Core.List.{List}
 use mathlib.Core.Logic.{◌≢◌}
 use mathlib.Core.Path.{◌∙◌, ◌≡◌, ap, refl, sym}
 use native.Mathlib.Numerals.{sub-one}
-use native.Mathlib.Omega.{arith}
-use Rattle.base.proofs.Tests.{bool_cases, ne_eqb, or-one}
-use Rattle.base.specs.Chain.{OnChain}
-use Rattle.blocks.specs.Entries.{nth}
+use Rattle.base.proofs.Tests.{bool_cases, false_of_not, ne_eqb, or-one, true_of_not}
+use Rattle.blocks.specs.Entries.{entries_of, nth}
 use Rattle.blocks.specs.Owners.{owner_of}
 use Rattle.blocks.specs.declared.Entry.{Entry}
-use Rattle.blocks.specs.declared.Schema.TheVariants.{Specimen}
+use Rattle.blocks.specs.declared.Schema.TheVariants.{Description, Specimen}
 use Rattle.fit.proofs.groups.GroupLaws.{full-here, owned-else, owned-here}
-use Rattle.fit.proofs.index.BucketLaws.{all-bucket, code-full, elsewhere, marked-tells}
-use Rattle.fit.specs.code.Bare.{Marked, bare, bare_fits, demands}
+use Rattle.fit.proofs.index.BucketLaws.{all-bucket, code-full, elsewhere}
+use Rattle.fit.proofs.index.BucketWalk.{Passing}
+use Rattle.fit.specs.code.Bare.{bare, bare_fits}
 use Rattle.fit.specs.code.Groups.{Rests, fits_place, group_fits, groups_by, has_bare, is_group, meets_atom, meets_entry, own_fits}
 use Rattle.fit.specs.code.Index.{bucket_of, hash_of, is_of}
 use Rattle.meaning.specs.Owned.{all_owned, all_where}
@@ -41,10 +40,15 @@ meets-groups (suc left) s d g e z a k n =
     let name : (nth d e).name ≡ _ = sym (n ∙ ap (λ (y : Entry). y.name) a) in
     rw (meets_entry, kind, name, groups_by, sub-one)
 
--- whether the groups that own nothing fail, by the mark of the place
-pub bare-told : {most : ℕ} {marks : List ℕ} (s d : List Entry) (g e l : ℕ) → Marked demands d (length d) most marks → e < most → {r : Bool}
-    → r ≡ not (eqb (get_or marks e 0) 0 || not (has_bare s g l)) → r ≡ not (bare_fits d e || not (has_bare s g l))
-bare-told s d g e l M h f = f ∙ rw (marked-tells M refl e h)
+-- whether groups that own nothing fit a place, by what was found of the place and of the groups
+pub bare-fail : (fits has : Bool) {a b : Bool} → a ≡ not fits → b ≡ has → a ≡ true → b ≡ true → (fits || not has) ≡ false
+bare-fail fits has a b y z = rw (false_of_not fits (sym a ∙ y), sym b ∙ z)
+
+pub bare-asked : (fits has : Bool) {a : Bool} → a ≡ not fits → a ≡ false → (fits || not has) ≡ true
+bare-asked fits has a y = rw (true_of_not fits (sym a ∙ y))
+
+pub bare-none : (fits has : Bool) {b : Bool} → b ≡ has → b ≡ false → (fits || not has) ≡ true
+bare-none fits has b z = rw (sym b ∙ z, or-one fits)
 
 -- groups that own nothing are judged together
 module _ (left : ℕ) (s d : List Entry) (g e : ℕ) {x : Entry} {l : ℕ} (z : left ≢ 0) (a : x ≡ nth d e) (k : x.kind ≡ 5) (n : l ≡ x.name) where
@@ -70,26 +74,12 @@ module _ (s : List Entry) (left : ℕ) (d : List Entry) (e g l k : ℕ) {x : Ent
   group-decides most at more q h =
       let y = owned-here s g 7 l k a b q in rw (y.0, y.1, full-here most s g l k more y.0 y.1 at) (sym h)
 
--- ---- what the number tells of an entry that owns no place
-
-pub atom-met : {r : ℕ} (met : Bool) → r ≡ cond met 0 65535 → r ≡ 0 → met ≡ true
-atom-met true q z = refl
-atom-met false q z = absurd (omega (arith, q))
-
-pub atom-not : {r : ℕ} (met : Bool) → r ≡ cond met 0 65535 → r ≡ 65535 → met ≡ false
-atom-not true q z = absurd (omega (arith, q))
-atom-not false q z = refl
-
-pub atom-none : {A : Type 0} {r : ℕ} (met : Bool) → r ≡ cond met 0 65535 → r ≢ 0 → r ≢ 65535 → A
-atom-none true q z n = absurd (z q)
-atom-none false q z n = absurd (n q)
-
 -- the group on which it rests: the entry's link is the one that was read
 pub rests-on : {most left : ℕ} {s d : List Entry} {g e l m h : ℕ} → l ≡ m → Rests most left s d g e l h → Rests most left s d g e m h
 rests-on q R = rw q at R
 
--- The entries from e back that a place owns, judged for group g and so many levels, tell the answer.
-pub record Left (s d : List Entry) (answer : Bool) (left g e : ℕ) : Type 0 where
+-- The entries from number k back that a place owns, in a chain over the description's index, judged for group g and so many levels, tell the
+-- answer.
+pub record Left (s : List Entry) (most : ℕ) (d : List ℕ) (answer : Bool) (left g : ℕ) (t table : List ℕ) (m k : ℕ) : Type 0 where
   pub place : ℕ
-  pub on : OnChain (owner_of d) place e (length d)
-  pub tells : answer ≡ all_owned (meets_entry left s d g) d place e
+  pub walk : Passing Description most d (meets_entry left s (entries_of d) g) place answer t table m k

@@ -1,15 +1,17 @@
 -- The rows of the table of totals: how one is found by its owner and link, and how the table grows.
 -- Assumes nothing.
-use Prim.Native.Nat.{◌%◌, ◌*◌, ◌+◌, ◌/◌, ◌<◌, ◌≤◌, suc, ℕ}
+use Prim.Native.Nat.{◌%◌, ◌*◌, ◌+◌, ◌-◌, ◌/◌, ◌<◌, ◌≤◌, suc, zero, ℕ}
+use lib.Dec.{eqb}
 use lib.ListN.{get_or, length, length-set, set}
 use lib.Seq.{get_or-set_other, get_or-set_same}
+use mathlib.Core.Bool.{false}
 use mathlib.Core.List.{List}
 use mathlib.Core.Logic.{◌≢◌}
 use mathlib.Core.Path.{◌∙◌, ◌≡◌, ap, refl, sym}
-use native.Mathlib.Numerals.{add-one}
+use native.Mathlib.Numerals.{add-one, sub-one}
 use native.Mathlib.Omega.{arith}
 use Rattle.base.proofs.ChainLaws.{chains-same, last_none, last_on}
-use Rattle.base.proofs.Tests.{eq-cases, eqb-ne, lt-cases}
+use Rattle.base.proofs.Tests.{bool_cases, both_ways, eq-cases, eq-eqb, eqb-eq, eqb-ne, lt-cases, ne_eqb}
 use Rattle.base.specs.Chain.{last_where}
 use Rattle.blocks.specs.Entries.{nth}
 use Rattle.blocks.specs.Single.{items_up_to}
@@ -37,6 +39,21 @@ bucket-pair most o l e a b small = rw (← a, ← b) (e ∙ sym (pair-bucket mos
 pub pair-below : (most p : ℕ) → 0 < most → pair_bucket most p < most
 unfolding pair_bucket
 pair-below most p pos = hash-below most (p / 65536) 7 (p % 65536) pos
+
+-- a row of another bucket is of another pair
+pub pair-skips : (rows : List ℕ) (most p i : ℕ) → eqb (pair_bucket most (pairs_of rows (suc i))) (pair_bucket most p) ≡ false
+    → last_where (pairs_of rows) p (suc i) ≡ last_where (pairs_of rows) p i
+unfolding last_where
+pair-skips rows most p i q =
+    bool_cases (eqb (pairs_of rows (suc i)) p)
+    (λ y. both_ways (eq-eqb (ap (pair_bucket most) (eqb-eq y))) q)
+    (λ n. rw (last_where, n))
+
+-- a row of another pair is passed
+pub pair-passes : (rows : List ℕ) (p r : ℕ) → r ≢ 0 → pairs_of rows r ≢ p → last_where (pairs_of rows) p r ≡ last_where (pairs_of rows) p (r - 1)
+unfolding last_where
+pair-passes rows p zero z other = absurd (z refl)
+pair-passes rows p (suc r) z other = rw (last_where, ne_eqb other, sub-one)
 
 -- the row of a pair is that of its owner and link
 pub pair_row : (rows : List ℕ) (used o l r : ℕ) → l < 65536 → 1 ≤ r → r ≤ used → pairs_of rows r ≡ pair_of o l → RowAt rows used o l r

@@ -1,6 +1,6 @@
 -- Groups that own nothing, and places that an item with nothing fits, as the code tells them. No public promise names these.
 -- Assumes nothing.
-use Rattle.std.specs.Prelude.{◌<◌, ℕ, eqb, get_or, length, Bool, ◌&&◌, ◌||◌, cond, not, true, List, ◌≡◌}
+use Rattle.std.specs.Prelude.{◌<◌, ℕ, eqb, get_or, length, Bool, ◌&&◌, ◌||◌, false, not, true, List, ◌≡◌}
 use Rattle.blocks.specs.Entries.{nth}
 use Rattle.blocks.specs.declared.Entry.{Entry}
 use Rattle.meaning.specs.Owned.{all_owned}
@@ -24,7 +24,7 @@ bare s g = quiet any_entry s g (length s)
 abbrev pub bare_fits : List Entry → ℕ → Bool
 bare_fits d o = quiet demands d o (length d)
 
--- marks, of `most`: 1 at the owners of the first n entries of whose entries one tells, else 0
-pub record Marked (tells : Entry → Bool) (es : List Entry) (n most : ℕ) (marks : List ℕ) : Type 0 where
+-- marks, of `most`: those of the owners of the first n entries of whose entries one tells
+pub record Marked (tells : Entry → Bool) (es : List Entry) (n most : ℕ) (marks : List Bool) : Type 0 where
   pub size : length marks ≡ most
-  pub mark : (o : ℕ) → o < most → get_or marks o 0 ≡ cond (quiet tells es o n) 0 1
+  pub mark : (o : ℕ) → o < most → get_or marks o false ≡ not (quiet tells es o n)

@@ -1,7 +1,7 @@
 -- Fitting by groups and by entry numbers, as the code goes. No public promise names these: proofs/ shows that they give Table 1's
 -- answer in the record of items.
 -- Assumes nothing.
-use Rattle.std.specs.Prelude.{Bool, false, not, true, cond, ◌&&◌, ◌||◌, List, ◌≡◌, ℕ, zero, suc, ◌-◌, ◌≤◌, leb, eqb, length}
+use Rattle.std.specs.Prelude.{Bool, false, not, true, cond, ◌&&◌, ◌||◌, List, ◌≡◌, ◌≢◌, ℕ, zero, suc, ◌-◌, ◌≤◌, leb, eqb, length}
 use Rattle.base.specs.Chain.{OnChain}
 use Rattle.blocks.specs.Entries.{nth}
 use Rattle.blocks.specs.Owners.{owner_of}
@@ -9,6 +9,8 @@ use Rattle.blocks.specs.Single.{items_up_to}
 use Rattle.blocks.specs.declared.Entry.{Entry}
 use Rattle.blocks.specs.declared.Schema.TheVariants.{Specimen}
 use Rattle.fit.specs.code.Bare.{bare, bare_fits}
+use Rattle.fit.specs.declared.judge.Verdict.{Verdict}
+use Rattle.fit.specs.declared.judge.Verdict.TheVariants.{Met, RestsOn, Unmet}
 use Rattle.fit.specs.code.Index.{bucket_of, hash_of, is_of}
 use Rattle.meaning.specs.Owned.{all_owned, all_where}
 
@@ -70,6 +72,12 @@ pub record Rests (most left : ℕ) (s d : List Entry) (g e l h : ℕ) : Type 0 w
   pub group : is_of (nth s h) g 7 l ≡ true
   pub on : OnChain (bucket_of Specimen most s) (hash_of most g 7 l) h (length s)
   pub tells : meets_entry left s d g e ≡ groups_fit most left s d g e l h
+
+-- what a verdict on entry e tells
+abbrev pub Told : ℕ → ℕ → List Entry → List Entry → ℕ → ℕ → Verdict → Type 0
+Told most left s d g e Met = meets_entry left s d g e ≡ true
+Told most left s d g e Unmet = meets_entry left s d g e ≡ false
+Told most left s d g e (RestsOn h) = (h ≢ 0) × Rests most left s d g e (nth d e).name h
 
 -- the items of group g meet an entry that owns no place
 unfoldable pub meets_atom : List Entry → ℕ → Entry → Bool

@@ -1,7 +1,7 @@
 -- The index of the entries of an input, as the code keeps it: of a description by owner, of a specimen by owner, kind and name. No public
 -- promise names it.
 -- Assumes nothing.
-use Rattle.std.specs.Prelude.{◌≡◌, Bool, ◌&&◌, ◌||◌, cond, not, List, ℕ, ◌+◌, ◌*◌, ◌%◌, ◌≤◌, ◌<◌, ◌-◌, eqb, length, get_or, set}
+use Rattle.std.specs.Prelude.{MatchOption, Option, ◌≢◌, ◌≡◌, Bool, ◌&&◌, ◌||◌, cond, not, List, ℕ, ◌+◌, ◌*◌, ◌%◌, ◌≤◌, ◌<◌, ◌-◌, eqb, length, get_or, set}
 use Rattle.std.specs.Int.Bits.{bit_and}
 use Rattle.base.specs.Chain.{Chains}
 use Rattle.blocks.specs.declared.Entry.{Entry}
@@ -58,6 +58,15 @@ pub record Indexed (most : ℕ) (c : ℕ → ℕ) (t : List ℕ) (n : ℕ) : Typ
   pub below : n < most
   pub size : length t ≡ most + most
   pub chains : Chains c (λ k. get_or t (most + k) 0) (λ b. get_or t b 0) most n
+
+-- from number k back: the numbers before it are in the table, and each is below the one after it
+pub record Falls (most : ℕ) (t : List ℕ) (k : ℕ) : Type 0 where
+  pub room : most + k < length t
+  pub lower : (j : ℕ) → 1 ≤ j → j ≤ k → get_or t (most + j) 0 < j
+
+-- a step of a chain: it comes to the number that is next, if there is one, and goes on to the one before it
+abbrev pub StepsBack : List ℕ → ℕ → ℕ → Option ℕ → List ℕ → ℕ → ℕ → Type 0
+StepsBack t most k found t' most' k' = MatchOption found (k ≡ 0) (λ i. (i ≡ k) × (i ≢ 0) × (k' ≡ get_or t (most + k) 0)) × (t' ≡ t) × (most' ≡ most)
 
 -- number n put in front of the chain of bucket b
 unfoldable pub chained : List ℕ → ℕ → ℕ → ℕ → List ℕ

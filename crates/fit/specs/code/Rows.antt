@@ -1,13 +1,12 @@
 -- The rows of the table of totals as the code finds them, and what the walk over entries has at hand. No public promise names these.
 -- Assumes nothing.
-use Rattle.std.specs.Prelude.{◌%◌, ◌*◌, ◌+◌, ◌/◌, ◌≤◌, ℕ, get_or, length, true, List, ◌≡◌}
+use Rattle.std.specs.Prelude.{◌≢◌, MatchOption, Option, ◌%◌, ◌*◌, ◌+◌, ◌/◌, ◌<◌, ◌≤◌, ℕ, get_or, length, true, List, ◌≡◌}
+use Rattle.base.specs.Chain.{last_where}
 use Rattle.base.specs.Links.{is_single}
-use Rattle.blocks.specs.Entries.{entries_of}
 use Rattle.blocks.specs.Single.{items_up_to}
 use Rattle.blocks.specs.declared.Entry.{Entry}
-use Rattle.blocks.specs.declared.Schema.TheVariants.{Specimen}
-use Rattle.fit.specs.Totals.{TotalsOf, items_in}
-use Rattle.fit.specs.code.Index.{Indexed, Ready, hash_of}
+use Rattle.fit.specs.Totals.{items_in}
+use Rattle.fit.specs.code.Index.{Indexed, hash_of}
 
 -- an owner and a link as one number; that of a row
 abbrev pub pair_of : ℕ → ℕ → ℕ
@@ -33,6 +32,10 @@ pub record Rows (most : ℕ) (rows links : List ℕ) (used : ℕ) : Type 0 where
   pub room : length rows ≡ most
   pub index : Indexed most (λ r. pair_bucket most (pairs_of rows r)) links used
 
+-- what a look for the row of an owner and a link finds
+abbrev pub FoundRow : List ℕ → ℕ → ℕ → ℕ → Option ℕ → Type 0
+FoundRow rows used o l found = MatchOption found (last_where (pairs_of rows) (pair_of o l) used ≡ 0) (λ r. (r ≢ 0) × (r < length rows) × (r ≡ last_where (pairs_of rows) (pair_of o l) used))
+
 -- n entries at most were added up: each row has room for more items
 pub record Small (n : ℕ) (rows : List ℕ) (used : ℕ) : Type 0 where
   pub within : used ≤ n
@@ -41,10 +44,3 @@ pub record Small (n : ℕ) (rows : List ℕ) (used : ℕ) : Type 0 where
 -- no owner has two items, among those of the first n entries, by a link that leads to one item only
 abbrev pub Singles : List Entry → ℕ → Type 0
 Singles es n = (o l : ℕ) → is_single l ≡ true → items_up_to es o l n ≤ 1
-
--- a specimen with its index and its table of totals
-pub record Known (most : ℕ) (s si rows links : List ℕ) (used : ℕ) : Type 0 where
-  pub ready : Ready Specimen most s si
-  pub chained : Rows most rows links used
-  pub totals : TotalsOf (entries_of s) (length (entries_of s)) rows used
-  pub single : Singles (entries_of s) (length (entries_of s))

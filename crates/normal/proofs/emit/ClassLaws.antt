@@ -1,7 +1,7 @@
 -- The rows of a place, from its two runs: a run gives rows of its own class only.
 -- Assumes nothing.
 use Prim.Native.Nat.{◌*◌, ◌+◌, ◌≤◌, ℕ}
-use lib.ListN.{length, length-append}
+use lib.ListN.{length, length-append, take}
 use mathlib.Core.Bool.{Bool, cond, false, true}
 use mathlib.Core.List.{List, [], ◌++◌, ◌∷◌, append_assoc, append-nil, map}
 use mathlib.Core.Option.{Option}
@@ -13,7 +13,7 @@ use Rattle.logic.specs.Place.{Atom, Kind, has, lacks, least, most, nothing}
 use Rattle.logic.specs.Tree.{Row}
 use Rattle.normal.proofs.emit.PushLaws.{pushed_more, pushed-total}
 use Rattle.normal.proofs.ordering.RunLaws.{cells-run}
-use Rattle.normal.specs.code.ClassRuns.{InOrder, cell_at, cells_from, place_cells, run_cells}
+use Rattle.normal.specs.code.ClassRuns.{InOrder, cell_at, place_cells, run_cells}
 use Rattle.normal.specs.code.Emitted.{Placing, Pushed, atom_rows, bound_rows, every_rows, every_slots, keep_in, kind_rows, place_rows, property_rows, rows_if}
 use Rattle.passes.specs.code.Slots.{Cell, cell, is_link, same_class, value}
 use Rattle.runs.specs.code.Tagged.{tags_down}
@@ -85,13 +85,13 @@ module _ (t : List ℕ) (used v : ℕ) where
 
 -- from tags in order
 module _ (t : List ℕ) (v : ℕ) {r : ℕ} {z : List ℕ} {n : ℕ} (O : InOrder t r z n) where
-  pub kind-run : (a : Kind) (o : ℕ) → r ≡ 2 * v + bit (is_link a) → kind_rows a o (cells_from t (is_link a) z 0 n) ≡ kind_rows a o (place_cells t (used_in t) v)
+  pub kind-run : (a : Kind) (o : ℕ) → r ≡ 2 * v + bit (is_link a) → kind_rows a o (map (cell_at t (is_link a)) (take n z)) ≡ kind_rows a o (place_cells t (used_in t) v)
   kind-run a o e = ap (kind_rows a o) (cells-run t v (is_link a) e O) ∙ sym (kind-place t (used_in t) v a o)
 
-  pub every-run : (full : List ℕ) (o : ℕ) → r ≡ 2 * v + 1 → every_rows (keep_in full) o (cells_from t true z 0 n) ≡ every_rows (keep_in full) o (place_cells t (used_in t) v)
+  pub every-run : (full : List ℕ) (o : ℕ) → r ≡ 2 * v + 1 → every_rows (keep_in full) o (map (cell_at t true) (take n z)) ≡ every_rows (keep_in full) o (place_cells t (used_in t) v)
   every-run full o e = ap (every_rows (keep_in full) o) (cells-run t v true e O) ∙ sym (every-place t (used_in t) v full o)
 
-  pub slots-run : (full : List ℕ) → r ≡ 2 * v + 1 → every_slots (keep_in full) (cells_from t true z 0 n) ≡ every_slots (keep_in full) (place_cells t (used_in t) v)
+  pub slots-run : (full : List ℕ) → r ≡ 2 * v + 1 → every_slots (keep_in full) (map (cell_at t true) (take n z)) ≡ every_slots (keep_in full) (place_cells t (used_in t) v)
   slots-run full e = ap (every_slots (keep_in full)) (cells-run t v true e O) ∙ sym (slots-place t (used_in t) v full)
 
 -- ---- lengths

@@ -1,26 +1,22 @@
 -- Rows pushed onto the table of packed entries: none, one, some and then some, and all of them at last.
 -- Assumes nothing.
-use Prim.Native.Nat.{◌%◌, ◌+◌, ◌-◌, ◌<◌, ◌≤◌, suc, ℕ}
-use lib.Dec.{eqb}
-use lib.ListN.{get_or, length, length-append, length-map, set}
-use mathlib.Core.Bool.{Bool}
-use mathlib.Core.List.{List, map-append, [], ◌++◌, ◌∷◌, append_assoc, append-nil}
-use mathlib.Core.Logic.{◌≢◌}
+use Prim.Native.Nat.{◌+◌, ◌<◌, ◌≤◌, ℕ}
+use lib.ListN.{drop_of_length-le, drop, get_or, length, length-append, length-map, set}
+use lib.Seq.{drop-cons}
+use mathlib.Core.List.{List, map-append, [], ◌++◌, ◌∷◌, append_assoc, append-nil, map}
 use mathlib.Core.Option.{Option, none, some}
-use mathlib.Core.Path.{◌∙◌, ◌≡◌, ap, refl, sym}
-use native.Mathlib.Nat.{sub-zero}
+use mathlib.Core.Path.{◌∙◌, ◌≡◌, ap, refl}
 use native.Mathlib.Numerals.{add-one}
 use native.Mathlib.Omega.{arith}
-use Rattle.base.proofs.Tests.{bool_cases, eq-cases, ge-ltb, lt-cases, lt-ltb}
+use Rattle.base.proofs.Tests.{bool_cases}
 use Rattle.logic.proofs.TreeRows.FillLaws.{filled_more, filled_none, filled-one}
 use Rattle.logic.specs.Filling.{Filled}
 use Rattle.logic.specs.Normal.{rank}
-use Rattle.logic.specs.Place.{Atom, Kind, atom, has, kind_of, lacks, least, most, nothing}
+use Rattle.std.specs.Prelude as code
+use Rattle.logic.specs.Place.{Atom, Kind, atom}
 use Rattle.logic.specs.Tree.{Row, leaf_row}
 use Rattle.normal.specs.code.Emitted.{Pushed, cell_name, cell_value, kind_rows, packed_of, row_number, rows_if, value_number}
-use Rattle.normal.specs.code.ClassRuns.{cell_at, cells_from}
-use Rattle.passes.specs.code.Slots.{Cell, cell, is_link, same_class, value}
-use Rattle.slots.specs.code.Tables.{high_in, high_part, low_part}
+use Rattle.passes.specs.code.Slots.{Cell, cell, is_link, same_class}
 
 -- ---- lengths that stay
 
@@ -76,90 +72,52 @@ pushing-room {rest = rest} p l =
 
 -- ---- the rows of one cell
 
-rank-kind : (k : ℕ) → 1 ≤ k → k ≤ 4 → rank (kind_of k) ≡ k
-unfolding kind_of
-rank-kind k lo hi =
-    eq-cases k 1 (λ z. rw z) (λ z₁. eq-cases k 2 (λ z. rw z) (λ z₂. eq-cases k 3 (λ z. rw z) (λ z₃. let z : k ≡ 4 = omega arith in rw z)))
-
--- a row of a kind from 1 to 4, as a packed entry
-pub row_number_lem : (k o n m : ℕ) → 1 ≤ k → k ≤ 4 → packed_of k o n m ≡ row_number (leaf_row o (atom (kind_of k) n m))
+-- a row, as a packed entry
+pub row_number_lem : (a : Kind) (o n m : ℕ) → packed_of (rank a) o n m ≡ row_number (leaf_row o (atom a n m))
 unfolding packed_of
-row_number_lem k o n m lo hi = rw (rank-kind k lo hi)
+row_number_lem a o n m = refl
 
 pub kinds-step : (a : Kind) (o : ℕ) (c : Cell) (q : List Cell) → kind_rows a o (c ∷ q) ≡ rows_if a o (cell_name c) (cell_value a c) ++ kind_rows a o q
 unfolding kind_rows
 kinds-step a o (cell j b n lo hi) q = bool_cases (same_class b (is_link a)) (λ z. rw z) (λ z. rw z)
 
--- a number below 65,536, where there is one
-abbrev pub Small : Option ℕ → Type 0
-Small none = Unit {0}
-Small (some m) = m < 65536
+-- what is listed, where the code finds a number, and where it finds none
+value_none : (w : Option ℕ) → code.None ≡ value_number w → w ≡ none
+value_none none e = refl
+value_none (some m) e = cc
 
-high_small : (h : ℕ) → Small (high_in h)
-high_small h = lt-cases h 65536 (λ z. rw (lt-ltb z) z) (λ z. rw (ge-ltb z) tt)
-
-value-small : (a : Kind) (lo : ℕ) (w : Option ℕ) → lo < 65536 → Small w → Small (value a lo w)
-value-small has lo w l s = bool_cases (eqb lo 0) (λ z. rw z tt) (λ z. rw z (omega arith))
-value-small lacks lo none l s = tt
-value-small lacks lo (some m) l s = omega arith
-value-small least lo w l s = bool_cases (eqb lo 0) (λ z. rw z tt) (λ z. rw z l)
-value-small most lo w l s = s
-value-small nothing lo w l s = tt
-
-pub cell-small : (t : List ℕ) (x : ℕ) (b : Bool) (a : Kind) → low_part (get_or t (x % 1024) 0) < 65536 → Small (cell_value a (cell_at t b x))
-cell-small t x b a l =
-    let y = get_or t (x % 1024) 0 in
-    bool_cases (same_class b (is_link a)) (λ z. rw z (value-small a (low_part y) (high_in (high_part y)) l (high_small (high_part y)))) (λ z. rw z tt)
-
--- the code of a number that may be missing
-pub value_none : (w : Option ℕ) → Small w → value_number w ≡ 131072 → w ≡ none
-value_none none s e = refl
-value_none (some m) s e = absurd (omega (arith, s, e))
-
-pub value-some : (w : Option ℕ) → Small w → value_number w ≢ 131072 → (w ≡ some (value_number w)) × (value_number w < 65536)
-value-some none s e = absurd (e refl)
-value-some (some m) s e = (refl, s)
+value-some : (w : Option ℕ) {m : ℕ} → code.Some m ≡ value_number w → w ≡ some m
+value-some none e = cc
+value-some (some n) e = cc
 
 -- ---- the rows of one cell, pushed
 
-pub atom-none : (k o : ℕ) (c : Cell) {rows : List ℕ} {n : ℕ} {m : ℕ} → Small (cell_value (kind_of k) c) → m ≡ value_number (cell_value (kind_of k) c) → m ≡ 131072
-    → Pushed (length rows) rows n (rows_if (kind_of k) o (cell_name c) (cell_value (kind_of k) c)) rows n
-atom-none k o c s e z = rw (value_none (cell_value (kind_of k) c) s (sym e ∙ z)) (filled_none refl)
+pub atom-none : (a : Kind) (o : ℕ) (c : Cell) {rows : List ℕ} {n : ℕ} → code.None ≡ value_number (cell_value a c)
+    → Pushed (length rows) rows n (rows_if a o (cell_name c) (cell_value a c)) rows n
+atom-none a o c e = rw (value_none (cell_value a c) e) (filled_none refl)
 
-pub atom-room : (k o : ℕ) (c : Cell) {n m w : ℕ} → Small (cell_value (kind_of k) c) → m ≡ value_number (cell_value (kind_of k) c) → m ≢ 131072
-    → n + length (rows_if (kind_of k) o (cell_name c) (cell_value (kind_of k) c)) ≤ w → (n < w) × (m < 65536)
-atom-room k o c s e z l =
-    let v = value-some (cell_value (kind_of k) c) s (λ q. z (e ∙ q)) in
-    let l' = rw v.0 at l in
-    (omega (arith, l'), rw e v.1)
+pub atom-room : (a : Kind) (o : ℕ) (c : Cell) {n m w : ℕ} → code.Some m ≡ value_number (cell_value a c)
+    → n + length (rows_if a o (cell_name c) (cell_value a c)) ≤ w → n < w
+atom-room a o c e l =
+    let l' = rw (value-some (cell_value a c) e) at l in
+    omega (arith, l')
 
-pub atom-one : (k o : ℕ) (c : Cell) {rows : List ℕ} {n m x : ℕ} → 1 ≤ k → k ≤ 4 → Small (cell_value (kind_of k) c) → m ≡ value_number (cell_value (kind_of k) c) → m ≢ 131072
-    → n < length rows → x ≡ packed_of k o (cell_name c) m → Pushed (length rows) rows n (rows_if (kind_of k) o (cell_name c) (cell_value (kind_of k) c)) (set rows n x) (n + 1)
-atom-one k o c {rows} {n} {m} {x} lo hi s e z b p =
-    let w = value-some (cell_value (kind_of k) c) s (λ q. z (e ∙ q)) in
-    let f : cell_value (kind_of k) c ≡ some m = w.0 ∙ ap some (sym e) in
-    rw f (filled-one refl b (p ∙ row_number_lem k o (cell_name c) m lo hi))
+pub atom-one : (a : Kind) (o : ℕ) (c : Cell) {rows : List ℕ} {n m x : ℕ} → code.Some m ≡ value_number (cell_value a c)
+    → n < length rows → x ≡ packed_of (rank a) o (cell_name c) m → Pushed (length rows) rows n (rows_if a o (cell_name c) (cell_value a c)) (set rows n x) (n + 1)
+atom-one a o c {m = m} e b p =
+    rw (value-some (cell_value a c) e) (filled-one refl b (p ∙ row_number_lem a o (cell_name c) m))
 
 -- ---- the rows of one kind
 
-pub cells-more : (t : List ℕ) (b : Bool) (z : List ℕ) (i n : ℕ) → i < n → cells_from t b z i (n - i) ≡ cell_at t b (get_or z i 0) ∷ cells_from t b z (i + 1) (n - (i + 1))
-unfolding cells_from
-cells-more t b z i n l =
-    let f : n - i ≡ suc (n - (i + 1)) = omega arith in
-    rw (f, cells_from, add-one i)
+pub cells-more : (f : ℕ → Cell) (z : List ℕ) (i : ℕ) → i < length z → map f (drop i z) ≡ f (get_or z i 0) ∷ map f (drop (i + 1) z)
+cells-more f z i l = rw (add-one i, drop-cons z i 0 l)
 
-pub cells-end : (t : List ℕ) (b : Bool) (z : List ℕ) (i n : ℕ) → n ≤ i → cells_from t b z i (n - i) ≡ []
-unfolding cells_from
-cells-end t b z i n l =
-    let f : n - i ≡ 0 = omega arith in
-    rw (f, cells_from)
+pub cells-end : (f : ℕ → Cell) (z : List ℕ) (i : ℕ) → length z ≤ i → map f (drop i z) ≡ []
+cells-end f z i l = rw (drop_of_length-le z l)
 
-pub cells-start : (t : List ℕ) (b : Bool) (z : List ℕ) (n : ℕ) → cells_from t b z 0 n ≡ cells_from t b z 0 (n - 0)
-cells-start t b z n = rw sub-zero
-
-pub kinds-more : (a : Kind) (o : ℕ) (t : List ℕ) (b : Bool) (z : List ℕ) (i n : ℕ) → i < n
-    → kind_rows a o (cells_from t b z i (n - i)) ≡ rows_if a o (cell_name (cell_at t b (get_or z i 0))) (cell_value a (cell_at t b (get_or z i 0))) ++ kind_rows a o (cells_from t b z (i + 1) (n - (i + 1)))
-kinds-more a o t b z i n l = ap (kind_rows a o) (cells-more t b z i n l) ∙ kinds-step a o _ _
+pub kinds-more : (a : Kind) (o : ℕ) (f : ℕ → Cell) (z : List ℕ) (i : ℕ) → i < length z
+    → kind_rows a o (map f (drop i z)) ≡ rows_if a o (cell_name (f (get_or z i 0))) (cell_value a (f (get_or z i 0))) ++ kind_rows a o (map f (drop (i + 1) z))
+kinds-more a o f z i l = ap (kind_rows a o) (cells-more f z i l) ∙ kinds-step a o _ _
 
 pub kinds-none : (a : Kind) (o : ℕ) {q : List Cell} → q ≡ [] → kind_rows a o q ≡ []
 unfolding kind_rows
@@ -171,7 +129,7 @@ part_room n M rest' e l =
     let f = ap length e ∙ length-append M rest' in
     omega (arith, f, l)
 
-pub kinds-room : (a : Kind) (o : ℕ) (t : List ℕ) (b : Bool) (z : List ℕ) (i n k : ℕ) {w : ℕ} → i < n → k + length (kind_rows a o (cells_from t b z i (n - i))) ≤ w
-    → k + length (rows_if a o (cell_name (cell_at t b (get_or z i 0))) (cell_value a (cell_at t b (get_or z i 0)))) ≤ w
-kinds-room a o t b z i n k l h =
-    part_room k (rows_if a o (cell_name (cell_at t b (get_or z i 0))) (cell_value a (cell_at t b (get_or z i 0)))) (kind_rows a o (cells_from t b z (i + 1) (n - (i + 1)))) (kinds-more a o t b z i n l) h
+pub kinds-room : (a : Kind) (o : ℕ) (f : ℕ → Cell) (z : List ℕ) (i k : ℕ) {w : ℕ} → i < length z → k + length (kind_rows a o (map f (drop i z))) ≤ w
+    → k + length (rows_if a o (cell_name (f (get_or z i 0))) (cell_value a (f (get_or z i 0)))) ≤ w
+kinds-room a o f z i k l h =
+    part_room k (rows_if a o (cell_name (f (get_or z i 0))) (cell_value a (f (get_or z i 0)))) (kind_rows a o (map f (drop (i + 1) z))) (kinds-more a o f z i l) h

@@ -2,6 +2,7 @@
 -- Assumes nothing.
 use Rattle.std.specs.Prelude.{◌*◌, ◌+◌, ◌<◌, ◌≤◌, ℕ, eqb, get_or, length, replicate, Bool, ◌&&◌, cond, not, List, [], ◌++◌, ◌∷◌, map, ◌≢◌, ◌≡◌}
 use Rattle.std.proofs.Math.Option.{Option, none, some}
+use Rattle.std.specs.Prelude as code
 use Rattle.blocks.specs.Entries.{packed}
 use Rattle.blocks.specs.Reading.{reading_of}
 use Rattle.blocks.specs.declared.Reading.TheVariants.{Accepted}
@@ -13,7 +14,10 @@ use Rattle.logic.specs.Normal.{at_most}
 use Rattle.logic.specs.Place.{Atom, Kind, atom, has, lacks, least, most, nothing}
 use Rattle.logic.specs.Tree.{Row, leaf_row, node_row}
 use Rattle.meaning.specs.RowEntries.{row_entry}
-use Rattle.normal.specs.code.ClassRuns.{place_cells}
+use Rattle.normal.specs.code.ClassRuns.{kind_cell, place_cells}
+use Rattle.normal.specs.declared.emit.AtomKind.{AtomKind}
+use Rattle.normal.specs.declared.emit.AtomKind.TheVariants as kinds
+use Rattle.normal.specs.declared.settled.Slots.{Slots}
 use Rattle.passes.specs.code.Pipeline.{walk}
 use Rattle.passes.specs.code.Slots.{Cell, cell, is_link, same_class, value}
 use Rattle.slots.specs.code.Standing.{Standing}
@@ -64,10 +68,17 @@ bound_rows o q = kind_rows least o q ++ kind_rows most o q
 abbrev pub cell_value : Kind → Cell → Option ℕ
 cell_value a (cell j b n lo hi) = cond (same_class b (is_link a)) (value a lo hi) none
 
--- a number that may be missing; 131,072 for none
-abbrev pub value_number : Option ℕ → ℕ
-value_number none = 131072
-value_number (some m) = m
+-- a number that may be missing, as the code has it
+abbrev pub value_number : Option ℕ → code.Option ℕ
+value_number none = code.None
+value_number (some m) = code.Some m
+
+-- a kind, as the code names it
+abbrev pub kind_in : AtomKind → Kind
+kind_in kinds.Has = has
+kind_in kinds.Lacks = lacks
+kind_in kinds.AtLeast = least
+kind_in kinds.AtMost = most
 
 abbrev pub cell_name : Cell → ℕ
 cell_name (cell j b n lo hi) = n
@@ -81,6 +92,17 @@ cell_slot (cell j b n lo hi) = j
 
 abbrev pub keep_cell : (ℕ → Bool → Option ℕ → Bool) → Cell → Bool
 keep_cell keep (cell j b n lo hi) = keep j b hi
+
+-- the cells of a place, and which 'every' entries are kept, by the slots that are lent
+abbrev pub cells_of : Slots → ℕ → List Cell
+cells_of s v = place_cells s.table.now (used_in s.table.now) v
+
+abbrev pub kept_by : Slots → ℕ → Bool → Option ℕ → Bool
+kept_by s = keep_in s.full.now
+
+-- the row of kind a that a tag's slot gives, if it lists a number
+abbrev pub tag_rows : Slots → Kind → ℕ → ℕ → List (Row Atom ℕ)
+tag_rows s a o x = rows_if a o (cell_name (kind_cell s.table.now a x)) (cell_value a (kind_cell s.table.now a x))
 
 -- all rows of a place
 unfoldable pub place_rows : (ℕ → Bool → Option ℕ → Bool) → ℕ → List Cell → List (Row Atom ℕ)

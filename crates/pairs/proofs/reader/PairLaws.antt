@@ -1,20 +1,22 @@
 -- Laws of a pair by itself, of the search for a wrong one, and of the list, one for each way through the code.
 -- Assumes nothing.
-use Prim.Native.Nat.{◌%◌, ◌<◌, ◌≤◌, ℕ}
+use Rattle.std.proofs.Common.{Option, Some, None, MatchOption}
+use Prim.Native.Nat.{◌%◌, ◌+◌, ◌<◌, ◌≤◌, ℕ}
 use lib.Dec.{eqb}
 use lib.ListN.{length}
-use mathlib.Core.Bool.{false, true}
+use mathlib.Core.Bool.{Bool, false, true}
 use mathlib.Core.List.{List}
 use mathlib.Core.Logic.{◌≢◌}
-use mathlib.Core.Path.{◌≡◌}
+use mathlib.Core.Path.{◌≡◌, sym}
 use native.Mathlib.Omega.{arith}
+use Rattle.base.proofs.SearchLaws.{Least, least_first, none_first}
 use Rattle.base.proofs.Tests.{eq-eqb, ge-ltb, lt-ltb, ne_eqb}
 use Rattle.base.specs.Search.{first_from}
 use Rattle.blocks.proofs.Refusing.SearchedRows.{found_at, rows-searched}
 use Rattle.blocks.specs.Faults.{first}
 use Rattle.blocks.specs.declared.Reading.TheVariants.{Accepted, Refused}
 use Rattle.pairs.specs.Pairs.{list_wrong, one_of, other_of, pair_count, pair_faults, pair_wrong, pairs_reading}
-use Rattle.pairs.specs.code.Search.{pair_right}
+use Rattle.pairs.specs.code.Search.{Finds, pair_right}
 
 -- ---- one pair
 
@@ -30,6 +32,17 @@ module _ (P : List ℕ) (i : ℕ) {a b : ℕ} (e : a ≡ one_of P i) (f : b ≡ 
   pub equal-decides : a ≢ 0 → b ≢ 0 → eqb a b ≡ pair_wrong P i
   unfolding pair_wrong
   equal-decides h k = simp (pair_wrong, ← e, ← f, ne_eqb h, ne_eqb k)
+
+-- ---- the search for a wrong one
+
+-- what is found is the first that fails the test
+pub found-first : (f : ℕ → Bool) (n : ℕ) (r : Option ℕ)
+    → MatchOption r ((k : ℕ) → 1 ≤ k → k < n + 1 → f k ≡ true) (λ i. (1 ≤ i) × (i < n + 1) × (f i ≡ false) × ((k : ℕ) → 1 ≤ k → k < i → f k ≡ true))
+    → Finds f n r
+found-first f n None h = none_first f 1 n (λ j lo hi. h j lo (omega arith))
+found-first f n (Some i) h =
+    let least : Least f 1 (1 + n) i = record { low = h.0; high = omega (arith, h.1); fails = h.2; before = h.3 } in
+    (sym (least_first f 1 n i least), h.0, omega (arith, h.1))
 
 -- ---- the list
 

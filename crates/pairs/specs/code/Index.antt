@@ -1,7 +1,7 @@
 -- The properties that a list names, each beside the other of its pair, and the index by which a property's places in the list are found.
 -- No public promise names these.
 -- Assumes nothing.
-use Rattle.std.specs.Prelude.{◌%◌, ◌*◌, ◌+◌, ◌-◌, ◌≤◌, suc, zero, ℕ, eqb, get_or, set, Bool, ◌&&◌, ◌||◌, cond, false, List}
+use Rattle.std.specs.Prelude.{◌%◌, ◌*◌, ◌+◌, ◌-◌, ◌≤◌, suc, zero, ℕ, eqb, get_or, set, Bool, ◌&&◌, ◌||◌, cond, false, List, [], ◌∷◌}
 use Rattle.base.specs.Chain.{Chains}
 use Rattle.blocks.specs.Words.{word_at}
 use Rattle.pairs.specs.Pairs.{pair_count}
@@ -27,6 +27,11 @@ beside_at P k = named_at P (number_beside k)
 unfoldable pub partnered : List ℕ → (ℕ → Bool) → ℕ → ℕ → Bool
 partnered P has p zero = false
 partnered P has p (suc k) = (eqb (named_at P (suc k)) p && has (beside_at P (suc k))) || partnered P has p k
+
+-- what the list names beside p under the numbers up to k, that of the highest number first
+unfoldable pub partners : List ℕ → ℕ → ℕ → List ℕ
+partners P p zero = []
+partners P p (suc k) = cond (eqb (named_at P (suc k)) p) (beside_at P (suc k) ∷ partners P p k) (partners P p k)
 
 -- ---- the index
 

@@ -3,23 +3,23 @@
 use Prim.Native.Nat.{◌%◌, ◌*◌, ◌+◌, ◌-◌, ◌/◌, ◌<◌, ◌≤◌, ℕ}
 use lib.Dec.{eqb, ltb}
 use lib.ListN.{length}
-use mathlib.Core.Bool.{Bool, cond, false, true}
+use mathlib.Core.Bool.{false, true}
 use mathlib.Core.List.{List}
 use mathlib.Core.Logic.{◌≢◌}
-use mathlib.Core.Path.{◌∙◌, ◌≡◌, ap, refl, sym}
+use mathlib.Core.Path.{◌∙◌, ◌≡◌, ap}
 use native.Mathlib.Omega.{arith}
 use Rattle.base.proofs.Tests.{bool_cases, eq-cases, eq-eqb, ne_eqb, neither_left, neither_right, tests, true_of_not}
 use Rattle.blocks.specs.Entries.{limit_of}
 use Rattle.blocks.specs.Faults.{block_faults, first, length_wrong}
 use Rattle.blocks.specs.Frame.{blocks_in, plain, total_in, used_in}
-use Rattle.blocks.specs.Reading.{answer, reading_of}
+use Rattle.blocks.specs.Reading.{answer}
 use Rattle.blocks.specs.Words.{word_at}
 use Rattle.blocks.specs.code.ReadingSteps.{blocks_read}
 use Rattle.blocks.specs.declared.Finding.{Finding}
 use Rattle.blocks.specs.declared.Finding.TheVariants.{Clean, Faulty}
 use Rattle.blocks.specs.declared.Reading.TheVariants.{Accepted, Refused}
 use Rattle.blocks.specs.declared.Schema.{Schema}
-use Rattle.reading.proofs.BlocksRead.{blocks-refused, frame_faults}
+use Rattle.reading.proofs.BlocksRead.{frame_faults}
 
 -- ---- number 1
 
@@ -77,12 +77,6 @@ module _ (σ : Schema) (i : ℕ) (s : List ℕ) {n : ℕ} {found : Finding} (e :
 
   pub read-sound : {total : ℕ} → found ≡ Clean → total ≡ total_in plain s → Accepted total ≡ answer i (total_in plain s) (first (frame_faults σ s))
   read-sound g t = blocks-cases σ s e (λ y q. absurd (z y)) (λ y q h. rw (first-of-frames σ s q h, ← f, g) (ap Accepted t))
-
--- what the blocks refuse is refused, whether the entries are read or not
-pub refused-either : (σ : Schema) (i : ℕ) (s : List ℕ) (whole : Bool) {k j p : ℕ} → Refused k j p ≡ answer i (total_in plain s) (first (frame_faults σ s))
-    → Refused k j p ≡ cond whole (reading_of σ i s) (answer i (total_in plain s) (first (frame_faults σ s)))
-refused-either σ i s true e = sym (blocks-refused σ i s e refl)
-refused-either σ i s false e = e
 
 pub blocks-are : (σ : Schema) (s : List ℕ) {n : ℕ} → n ≡ blocks_read σ s → n ≢ 0 → n ≡ blocks_in s
 blocks-are σ s e z = blocks-cases σ s e (λ y q. absurd (z y)) (λ y q b. b)

@@ -177,12 +177,13 @@ building-ends {d} {n} l B x f = record {
 pub exact-starts : (t : List ℕ) → Exact t t 0
 exact-starts t = record { size = refl; high = λ j a b. absurd (omega arith); top = refl; rest = λ j l. refl }
 
-kept-starts : {t next head : List ℕ} → 0 < length t → 0 < length next → Blank 60 head → Kept t next head 0
-kept-starts {t} {next} {head} e f g =
+kept-starts : {t next head : List ℕ} → 0 < length t → 0 < length next → Blank 60 head → length head ≤ 4093 → Kept t next head 0
+kept-starts {t} {next} {head} e f g m =
     record {
       room = e;
       nexts = f;
       heads = omega (arith, g.room);
+      most = m;
       chains = chains-start (λ j. hash_of (length head) (key_in (get_or t j 0))) (λ j. get_or next j 0) (λ b h. g.zero' b);
       apart = λ i j a b c. absurd (omega arith);
     }
@@ -194,7 +195,7 @@ pub building-starts : {d t next head node : List ℕ} {total : ℕ} → total �
 building-starts {d} {t} {next} {head} {node} e r w =
     record {
       few = omega arith;
-      kept = kept-starts (omega arith) (omega (arith, w.nexts)) w.heads;
+      kept = kept-starts (omega arith) (omega (arith, w.nexts)) w.heads w.most;
       nodes = nodes-start w.nodes;
       slotted = build-starts (entries_of d) t node (w.nodes.zero' 0);
       bounded = λ j lo hi. absurd (omega arith);

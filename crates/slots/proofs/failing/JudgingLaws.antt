@@ -1,14 +1,13 @@
 -- Laws of judging: what is answered on each way, and what stands in the table.
 -- Assumes nothing.
 use Prim.Native.Nat.{◌<◌, ◌≤◌, ℕ}
-use lib.ListN.{get_or, length}
+use lib.ListN.{length}
 use mathlib.Core.Bool.{Bool, false, true}
 use mathlib.Core.List.{List}
 use mathlib.Core.Logic.{◌≢◌}
-use mathlib.Core.Path.{◌∙◌, ◌≡◌, ap, refl, sym}
+use mathlib.Core.Path.{◌∙◌, ◌≡◌, ap, sym}
 use native.Mathlib.Omega.{arith}
 use Rattle.base.proofs.Tests.{bool_cases, eq-cases, eq-eqb, ge-ltb, lt-ltb, ne_eqb}
-use Rattle.base.specs.Range.{bit}
 use Rattle.base.specs.Search.{first_from}
 use Rattle.blocks.proofs.RoundTrip.Accepting.{sound-of-accepted}
 use Rattle.blocks.specs.Entries.{entries_of}
@@ -48,31 +47,19 @@ module _ (b : Background) (c d t : List ℕ) where
 
 -- ---- both are accepted, and there is room
 
-bit-true : (b : Bool) → bit b ≢ 0 → b ≡ true
-bit-true true z = refl
-bit-true false z = absurd (z refl)
-
-bit-false : (b : Bool) → bit b ≡ 0 → b ≡ false
-bit-false true e = absurd (omega arith)
-bit-false false e = refl
-
--- what judging needs of the slots of the first
-pub chained-held : {b : Background} {c t t' next head bad full : List ℕ} {used : ℕ} → Chained b c used t t' next head bad full → Held b c used t' next head bad
-chained-held s = record { kept = s.kept; tabled = s.settled'.tabled; top = s.settled'.bads 0 }
-
-module _ {b : Background} (law : LawfulBackground b) (c d : List ℕ) {t next head bad : List ℕ} {used : ℕ} (H : Held b c used t next head bad) where
+module _ {b : Background} (law : LawfulBackground b) (c d : List ℕ) {t next head : List ℕ} {used : ℕ} {impossible : Bool} (H : Held b c used t next head impossible) where
   -- nothing fits the first: all hold
-  pub failing-bottom : {x : ℕ} → x ≡ get_or bad 0 0 → x ≢ 0 → 0 ≡ failing_in b c d
+  pub failing-bottom : impossible ≡ true → 0 ≡ failing_in b c d
   unfolding failing_in
-  failing-bottom q z = sym (bottom-first law (entries_of c) (entries_of d) (bit-true (inconsistent 1 (slots_of b c) 0) (λ y. z (q ∙ H.top ∙ y))))
+  failing-bottom z = sym (bottom-first law (entries_of c) (entries_of d) (sym H.top ∙ z))
 
   -- what is found by them is the first that is not held
-  pub failing-found : {x r m : ℕ} → reading_of Description 2 d ≡ reading.Accepted m → x ≡ get_or bad 0 0 → x ≡ 0
+  pub failing-found : {r m : ℕ} → reading_of Description 2 d ≡ reading.Accepted m → impossible ≡ false
       → ((ss : List Slot) → Indexed ss t next head used → r ≡ first_from (holds_by_slots b ss (entries_of d)) 1 m) → r ≡ failing_in b c d
   unfolding failing_in
-  failing-found f q z g =
+  failing-found f z g =
       let T = H.tabled in
-      let lives : inconsistent 1 (slots_of b c) 0 ≡ false = bit-false (inconsistent 1 (slots_of b c) 0) (sym H.top ∙ sym q ∙ z) in
+      let lives : inconsistent 1 (slots_of b c) 0 ≡ false = sym H.top ∙ z in
       g (slots_of b c) (record { kept = H.kept; slotted = T.slotted })
       ∙ ap (first_from (holds_by_slots b (slots_of b c) (entries_of d)) 1) (accepted-few 2 d f).0
       ∙ slots-first law (entries_of c) (entries_of d) (omega (arith, T.counted, T.few)) (sound-of-accepted Description 2 d f).entries lives

@@ -32,8 +32,14 @@ use Rattle.slots.specs.declared.Slotting.TheVariants.{Filled, Refused}
 
 -- ---- cleared tables
 
-pub workspace-zeros : (n k m : ℕ) → n < k → 61 ≤ m → Workspace n (replicate k 0) (replicate m 0) (replicate k 0)
-workspace-zeros n k m h l = record { nexts = rw (length-replicate {A = ℕ} k 0) h; heads = blank-zeros 60 m (omega arith); nodes = blank-zeros n k h }
+pub workspace-zeros : (n k m : ℕ) → n < k → 61 ≤ m → m ≤ 4093 → Workspace n (replicate k 0) (replicate m 0) (replicate k 0)
+workspace-zeros n k m h l b =
+    record {
+      nexts = rw (length-replicate {A = ℕ} k 0) h;
+      heads = blank-zeros 60 m (omega arith);
+      most = rw (length-replicate {A = ℕ} m 0) b;
+      nodes = blank-zeros n k h;
+    }
 
 -- ---- a table of slots
 

@@ -2,10 +2,10 @@
 -- Assumes nothing.
 use Prim.Native.Nat.{ℕ}
 use lib.Dec.{eqb}
-use lib.ListN.{get_or}
+use mathlib.Core.Bool.{Bool, false, true}
 use mathlib.Core.List.{List, []}
-use mathlib.Core.Logic.{◌≢◌}
 use mathlib.Core.Path.{◌∙◌, ◌≡◌, ap, refl, subst, sym}
+use Rattle.std.specs.Prelude.{Option, unwrap_or}
 use Rattle.base.specs.Range.{bit}
 use Rattle.blocks.proofs.Refusing.SingleFirst.{named-first}
 use Rattle.blocks.specs.Entries.{entries_of}
@@ -43,10 +43,10 @@ module _ (P c : List ℕ) (i : ℕ) (d : List ℕ) where
   plain-refused e = rw e
 
   -- nothing fits the supplier's
-  pub plain-broken : LawfulBackground (under P) → {t next head bad : List ℕ} {used : ℕ} → Held (under P) c used t next head bad → {x : ℕ} → x ≡ get_or bad 0 0 → x ≢ 0
+  pub plain-broken : LawfulBackground (under P) → {t next head : List ℕ} {used : ℕ} {impossible : Bool} → Held (under P) c used t next head impossible → impossible ≡ true
       → {r : Judgement} → r ≡ bit_unless (reading_of (Named 0) i d) 1 → r ≡ plain_judged P c i d
   unfolding plain_judged
-  plain-broken law H q z e = let none = failing-bottom law c d H q z in e ∙ rw (← none)
+  plain-broken law H z e = let none = failing-bottom law c d H z in e ∙ rw (← none)
 
   -- its entries decide
   module _ (total : ℕ) (e : reading_of (Named 0) i d ≡ answer i total (first (entry_faults (Named 0) (entries_of d) 1 total)))
@@ -56,12 +56,12 @@ module _ (P c : List ℕ) (i : ℕ) (d : List ℕ) where
         let f : first (rule_faults (Named 0) (entries_of d) 1 total) ≡ finding.Faulty k p = subst (PassedAll (under P) d t next head used total) q A in
         plain-refused (e ∙ rw (sym (named-first 0 (entries_of d) total) ∙ f))
 
-    pub entries-judged : LawfulBackground (under P) → {bad : List ℕ} → Held (under P) c used t next head bad → get_or bad 0 0 ≡ 0 → {f x : ℕ} → r ≡ Through f → x ≡ bit (eqb f 0)
-        → judgement.Bit x ≡ plain_judged P c i d
+    pub entries-judged : LawfulBackground (under P) → {impossible : Bool} → Held (under P) c used t next head impossible → impossible ≡ false → {f : Option ℕ} {x : ℕ} → r ≡ Through f
+        → x ≡ bit (eqb (unwrap_or f 0) 0) → judgement.Bit x ≡ plain_judged P c i d
     unfolding plain_judged
-    entries-judged law {bad} H z {f} q is =
+    entries-judged law H z {f} q is =
         let F = subst (PassedAll (under P) d t next head used total) q A in
         let accepted : reading_of (Named 0) i d ≡ reading.Accepted total = e ∙ rw (sym (named-first 0 (entries_of d) total) ∙ F.0) in
         let whole = plain-read i d accepted in
-        let fails : f ≡ failing_in (under P) c d = failing-found law c d H whole refl z (λ ss x. F.1 (accepted-few 2 d whole).2 ss x) in
+        let fails : unwrap_or f 0 ≡ failing_in (under P) c d = failing-found law c d H whole z (λ ss x. F.1 (accepted-few 2 d whole).2 ss x) in
         rw (accepted, is, fails)

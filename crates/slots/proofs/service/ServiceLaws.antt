@@ -1,18 +1,20 @@
 -- A pass that checks and judges the entries of a service: what it knows at the start, after one entry more, and at the end.
 -- Assumes nothing.
-use Prim.Native.Nat.{◌+◌, ◌-◌, ◌<◌, ◌≤◌, suc, ℕ}
+use Prim.Native.Nat.{◌*◌, ◌+◌, ◌-◌, ◌<◌, ◌≤◌, suc, ℕ}
 use lib.Dec.{eqb}
 use lib.ListN.{get_or, length, length-set, set}
 use lib.Seq.{get_or-set_other, get_or-set_same}
-use mathlib.Core.Bool.{Bool, cond}
+use mathlib.Core.Bool.{Bool, cond, false, true}
 use mathlib.Core.List.{List}
 use mathlib.Core.Logic.{◌≢◌}
 use mathlib.Core.Path.{◌∙◌, ◌≡◌, ap, refl, subst, sym}
 use native.Mathlib.Omega.{arith}
+use Rattle.std.specs.Prelude.{IfSome, Option, unwrap_or}
 use Rattle.base.proofs.SearchLaws.{first-later, first-sooner}
 use Rattle.base.proofs.Tests.{bool_cases, eq-cases}
 use Rattle.base.specs.Search.{first_from}
-use Rattle.blocks.specs.Entries.{entries_of, nth}
+use Rattle.blocks.specs.Entries.{entries_of, entry_from, nth}
+use Rattle.blocks.specs.code.Blockwise.{InBlock}
 use Rattle.blocks.specs.Faults.{first}
 use Rattle.blocks.specs.Owners.{owner_of}
 use Rattle.blocks.specs.code.ReadingSteps.{Levels, level_under, rule_faults}
@@ -23,7 +25,7 @@ use Rattle.logic.specs.Background.{Background}
 use Rattle.meaning.specs.Owned.{Owned}
 use Rattle.passes.specs.code.Slots.{Slot}
 use Rattle.slots.proofs.states.SlotStates.{holds-here, stated-more, stated-start}
-use Rattle.slots.specs.code.Pass.{JudgedSoFar, PassedTo}
+use Rattle.slots.specs.code.Pass.{CheckedTo, JudgedSoFar, PassedTo}
 use Rattle.slots.specs.code.States.{Indexed, holds_by_slots, holds_in_state, passed, state_below}
 use Rattle.slots.specs.declared.Pass.TheVariants.{Faulty, Through}
 use Rattle.slots.specs.declared.Pass.{Pass}
@@ -44,10 +46,6 @@ module _ (f : ℕ → Bool) (n : ℕ) where
       ap (first_from f 1) one_more ∙ first-later f 1 n (suc (suc n)) (omega arith) (omega arith) (sym z) ∙ rw (one, next) in
       sym (split ∙ bool_cases (f (suc n)) (λ q. rw q) (λ q. rw q))
 
-  -- one before fails: it stays the first
-  first-kept : {k : ℕ} → k ≡ first_from f 1 n → k ≢ 0 → k ≡ first_from f 1 (suc n)
-  first-kept {k} e z = sym (ap (first_from f 1) one_more ∙ first-sooner f 1 n (suc (suc n)) (omega arith) e z)
-
 -- ---- the pass
 
 -- before the first entry
@@ -62,25 +60,16 @@ module _ {b : Background} {d t next head : List ℕ} {used : ℕ} where
         first = λ O ss x. refl;
       }
 
-  -- one more, after one that fails: it is not looked at
-  pub judged-past : {n f : ℕ} {states : List ℕ} → JudgedSoFar b d t next head used n states f → f ≢ 0 → {m : ℕ} → m ≡ suc n → JudgedSoFar b d t next head used m states f
-  judged-past {n} {f} {states} J z q =
-      rw q (record {
-        room = J.room;
-        small = λ e. absurd (z e);
-        stated = λ e. absurd (z e);
-        first = λ O ss x. first-kept (holds_by_slots b ss (entries_of d)) n (J.first O ss x) z;
-      })
-
   -- one more, looked up in the state of its owner
   module _ {n f : ℕ} {states : List ℕ} (J : JudgedSoFar b d t next head used n states f) (none : f ≡ 0) (le : n < length (entries_of d)) {e : Entry} (is' : e ≡ nth (entries_of d) (suc n))
       {s : ℕ} (read : s ≡ get_or states e.owner 0) where
     pub judged-state : e.owner ≤ n → s ≤ passed
     judged-state h = rw read (J.small none _ h)
 
-    pub judged-more : {m y g : ℕ} → m ≡ suc n → y ≤ passed → (e.kind ≡ 5 → (ss : List Slot) → Indexed ss t next head used → y ≡ state_below ss s e.name)
-        → {r : Bool} → ((ss : List Slot) → Indexed ss t next head used → r ≡ holds_in_state b ss s e) → g ≡ cond r 0 m → JudgedSoFar b d t next head used m (set states m y) g
-    judged-more {m} {y} {g} q small below {r} holds is =
+    -- it holds
+    pub judged-more : {m y : ℕ} → m ≡ suc n → y ≤ passed → (e.kind ≡ 5 → (ss : List Slot) → Indexed ss t next head used → y ≡ state_below ss s e.name)
+        → ((ss : List Slot) → Indexed ss t next head used → true ≡ holds_in_state b ss s e) → JudgedSoFar b d t next head used m (set states m y) 0
+    judged-more {m} {y} q small below holds =
         let there : suc n < length states = omega (arith, J.room) in
         record {
           room = rw (length-set states m y) J.room;
@@ -89,8 +78,20 @@ module _ {b : Background} {d t next head : List ℕ} {used : ℕ} where
               (λ w. rw (get_or-set_other states m j y 0 w) (J.small none j (omega arith)));
           stated = λ z O. stated-more O (J.stated none O) le is' read q small below;
           first = λ O ss x.
-              let here : holds_by_slots b ss (entries_of d) (suc n) ≡ r = holds-here O (J.stated none O) le is' read refl b ss x (holds ss x) in
-              is ∙ rw (← here, q) (first-last (holds_by_slots b ss (entries_of d)) n (sym none ∙ J.first O ss x));
+              let here : holds_by_slots b ss (entries_of d) (suc n) ≡ true = holds-here O (J.stated none O) le is' read refl b ss x (holds ss x) in
+              ap (λ (r : Bool). cond r 0 (suc n)) (sym here) ∙ rw q (first-last (holds_by_slots b ss (entries_of d)) n (sym none ∙ J.first O ss x));
+        }
+
+    -- it does not: it is the first
+    pub judged-fails : {m : ℕ} → m ≡ suc n → ((ss : List Slot) → Indexed ss t next head used → false ≡ holds_in_state b ss s e) → JudgedSoFar b d t next head used m states m
+    judged-fails {m} q holds =
+        record {
+          room = J.room;
+          small = λ z. absurd (omega arith);
+          stated = λ z. absurd (omega arith);
+          first = λ O ss x.
+              let here : holds_by_slots b ss (entries_of d) (suc n) ≡ false = holds-here O (J.stated none O) le is' read refl b ss x (holds ss x) in
+              q ∙ ap (λ (r : Bool). cond r 0 (suc n)) (sym here) ∙ rw q (first-last (holds_by_slots b ss (entries_of d)) n (sym none ∙ J.first O ss x));
         }
 
 -- ---- what a block comes to
@@ -99,8 +100,9 @@ module _ (b : Background) (d t next head : List ℕ) (used n count : ℕ) (level
   pub block-faulty : {k p : ℕ} → r ≡ Faulty k p → first (rule_faults (Named 0) (entries_of d) (n + 1) count) ≡ finding.Faulty k p
   block-faulty q = subst (PassedTo b d t next head used n count level states) q P
 
-  pub block-through : {f : ℕ} → r ≡ Through f
-      → (first (rule_faults (Named 0) (entries_of d) (n + 1) count) ≡ finding.Clean) × Levels (Named 0) (entries_of d) level (n + count + 1) × JudgedSoFar b d t next head used (n + count) states f
+  pub block-through : {f : Option ℕ} → r ≡ Through f
+      → (first (rule_faults (Named 0) (entries_of d) (n + 1) count) ≡ finding.Clean) × Levels (Named 0) (entries_of d) level (n + count + 1)
+      × JudgedSoFar b d t next head used (n + count) states (unwrap_or f 0) × IfSome f (λ k. 1 ≤ k)
   block-through q = subst (PassedTo b d t next head used n count level states) q P
 
 -- the level that the code works out is that of the table
@@ -117,3 +119,40 @@ owner-early es {n = n} T one is = rw is (T.early n one (omega arith))
 pub judged-all : {b : Background} {d t next head : List ℕ} {used n f total : ℕ} {states : List ℕ} → JudgedSoFar b d t next head used n states f → n ≡ total
     → Owned (entries_of d) → (ss : List Slot) → Indexed ss t next head used → f ≡ first_from (holds_by_slots b ss (entries_of d)) 1 total
 judged-all J e O ss x = rw (← e) (J.first O ss x)
+
+-- ---- after one that fails, entries are only checked
+
+-- the rest of a block
+pub in_rest : {d : List ℕ} {from count n i : ℕ} → InBlock d from count n → i ≤ count → InBlock d (from + 8 * i) (count - i) (n + i)
+in_rest {d} {from} {count} {n} {i} B le =
+    record {
+      there = omega (arith, B.there);
+      within = omega (arith, B.within);
+      each = λ j h. ap (entry_from d) (omega arith) ∙ B.each (i + j) (omega arith) ∙ ap (nth (entries_of d)) (omega arith);
+    }
+
+module _ {b : Background} {d t next head : List ℕ} {used : ℕ} where
+  -- what failed first stays the first
+  judged-along : {n f : ℕ} {states : List ℕ} → JudgedSoFar b d t next head used n states f → f ≢ 0 → (count : ℕ) → JudgedSoFar b d t next head used (n + count) states f
+  judged-along {n} {f} {states} J z count =
+      record {
+        room = J.room;
+        small = λ e. absurd (z e);
+        stated = λ e. absurd (z e);
+        first = λ O ss x.
+            let e : n + count + 1 - 1 ≡ n + count = omega arith in
+            sym (ap (first_from (holds_by_slots b ss (entries_of d)) 1) (sym e)
+            ∙ first-sooner (holds_by_slots b ss (entries_of d)) 1 n (n + count + 1) (omega arith) (J.first O ss x) z);
+      }
+
+module _ (b : Background) (d t next head : List ℕ) (used n count : ℕ) (level states : List ℕ) (r : Pass) where
+  pub checked-passed : {f : ℕ} → JudgedSoFar b d t next head used n states f → f ≢ 0 → CheckedTo d n count f level r → PassedTo b d t next head used n count level states r
+  checked-passed {f} J z A = elim r as (λ x. CheckedTo d n count f level x → PassedTo b d t next head used n count level states x)
+      [ Faulty k p ↦ λ c. c | Through g ↦ λ c. (c.0, c.1, rw c.2 (judged-along J z count), rw c.2 (omega arith)) ] A
+
+  -- what the rest of a block comes to, the block does
+  pub passed-on : (n' count' : ℕ) → n' + count' ≡ n + count
+      → first (rule_faults (Named 0) (entries_of d) (n + 1) count) ≡ first (rule_faults (Named 0) (entries_of d) (n' + 1) count')
+      → PassedTo b d t next head used n' count' level states r → PassedTo b d t next head used n count level states r
+  passed-on n' count' s e A = elim r as (λ x. PassedTo b d t next head used n' count' level states x → PassedTo b d t next head used n count level states x)
+      [ Faulty k p ↦ λ c. e ∙ c | Through f ↦ λ c. (e ∙ c.0, rw s at c.1, rw s at c.2, c.3) ] A

@@ -44,6 +44,7 @@ module _ {t next head : List ℕ} {used : ℕ} (K : Kept t next head used) where
         room = rw (length-set t s y) K.room;
         nexts = K.nexts;
         heads = K.heads;
+        most = K.most;
         chains = chains-same (λ j. ap (hash_of (length head)) (keys_kept s y h e j)) K.chains;
         apart = λ i j a b c. rw (keys_kept s y h e i, keys_kept s y h e j) (K.apart i j a b c);
       }
@@ -71,6 +72,7 @@ module _ {t next head : List ℕ} {used : ℕ} (K : Kept t next head used) where
           room = rw (length-set t (used + 1) (slot_number key lo hi)) there;
           nexts = rw (length-set next (used + 1) n) there';
           heads = rw (length-set head here (used + 1)) K.heads;
+          most = rw (length-set head here (used + 1)) K.most;
           chains = rw (length-set head here (used + 1))
               (chains-more K.chains (omega arith) (λ k z. ap (hash_of (length head)) (key-old k z)) (ap (hash_of (length head)) key-new) small
               (λ k z. get_or-set_other next (used + 1) k n 0 z) (get_or-set_same next (used + 1) n 0 there')

@@ -7,7 +7,6 @@ use mathlib.Core.Logic.{◌≢◌}
 use mathlib.Core.Path.{◌∙◌, ◌≡◌, ap, sym}
 use native.Mathlib.Omega.{arith}
 use Rattle.base.proofs.ChainLaws.{key-goes, key-starts, last-here, walk-falls, walk-goes, walk-starts}
-use Rattle.base.proofs.Tests.{ge-ltb, lt-cases, lt-ltb}
 use Rattle.base.specs.Chain.{OnChain, last_where}
 use Rattle.slots.specs.code.Tables.{Kept, hash_of, key_in}
 
@@ -21,7 +20,7 @@ Reached m t used key s = OnChain (λ j. hash_of m (keys_of t j)) (hash_of m key)
 
 pub bucket-small : (m key : ℕ) → 61 ≤ m → hash_of m key < m
 unfolding hash_of
-bucket-small m key h = lt-cases m 4093 (λ l. rw (hash_of, lt-ltb l) (omega arith)) (λ l. rw (hash_of, ge-ltb l) (omega arith))
+bucket-small m key h = omega arith
 
 module _ {t next head : List ℕ} {used : ℕ} (K : Kept t next head used) (key : ℕ) where
   abbrev here : ℕ

@@ -71,6 +71,7 @@ kept-keys {head = head} k size keys =
       room = rw size k.room;
       nexts = k.nexts;
       heads = k.heads;
+      most = k.most;
       chains = chains-same (λ j. ap (hash_of (length head)) (keys j)) k.chains;
       apart = λ i j lo l hi. rw (keys i, keys j) (k.apart i j lo l hi);
     }

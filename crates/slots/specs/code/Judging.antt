@@ -10,12 +10,10 @@ use Rattle.blocks.specs.declared.Reading.TheVariants as reading
 use Rattle.blocks.specs.declared.Reading.{Reading}
 use Rattle.blocks.specs.declared.Schema.TheVariants.{Named}
 use Rattle.lists.specs.Parts.{parts_of}
-use Rattle.logic.specs.Background.{Background}
 use Rattle.names.specs.NamedReading.{dictionary_of, dictionary_reading, named_unfolding, sent_of, unfolding_of}
 use Rattle.pairs.specs.Pairs.{under}
 use Rattle.slots.specs.Catalogue.{bits_before, listed_bits, listed_reading, service_bit, services_reading}
 use Rattle.slots.specs.Holding.{failing_in}
-use Rattle.slots.specs.code.Tables.{Held}
 use Rattle.slots.specs.declared.Judgement.TheVariants.{Bit, Refused}
 use Rattle.slots.specs.declared.Judgement.{Judgement}
 
@@ -23,11 +21,6 @@ use Rattle.slots.specs.declared.Judgement.{Judgement}
 pub record DictionaryTaken (D : List ℕ) : Type 0 where
   pub count : ℕ
   pub taken : dictionary_reading D ≡ reading.Accepted count
-
--- the settled slots of some description stand in the tables
-pub record Supplied (b : Background) (used : ℕ) (t next head bad : List ℕ) : Type 0 where
-  pub supplier : List ℕ
-  pub held : Held b supplier used t next head bad
 
 -- where a dictionary is not of length 0, the plain description that d stands for is at the front of a buffer, in the blocks of n entries
 abbrev pub Buffered : List ℕ → List ℕ → ℕ → List ℕ → Type 0

@@ -1,6 +1,6 @@
 -- One pass over the entries of a service, which checks and judges them: how far it has come, and what it answers.
 -- Assumes nothing.
-use Rattle.std.specs.Prelude.{◌+◌, ◌<◌, ◌≤◌, ℕ, get_or, length, List, ◌≡◌}
+use Rattle.std.specs.Prelude.{◌+◌, ◌<◌, ◌≤◌, ℕ, IfSome, Some, get_or, length, unwrap_or, List, ◌≡◌}
 use Rattle.base.specs.Search.{first_from}
 use Rattle.blocks.specs.Entries.{entries_of}
 use Rattle.blocks.specs.Faults.{first}
@@ -27,11 +27,18 @@ abbrev pub PassedTo : Background → List ℕ → List ℕ → List ℕ → List
 PassedTo b d t next head used n count level states (Faulty k p) = first (rule_faults (Named 0) (entries_of d) (n + 1) count) ≡ finding.Faulty k p
 PassedTo b d t next head used n count level states (Through f) =
     (first (rule_faults (Named 0) (entries_of d) (n + 1) count) ≡ finding.Clean) × Levels (Named 0) (entries_of d) level (n + count + 1)
-    × JudgedSoFar b d t next head used (n + count) states f
+    × JudgedSoFar b d t next head used (n + count) states (unwrap_or f 0) × IfSome f (λ k. 1 ≤ k)
+
+-- what checking `count` entries after the first n answers, where entry f does not hold and none is judged
+abbrev pub CheckedTo : List ℕ → ℕ → ℕ → ℕ → List ℕ → Pass → Type 0
+CheckedTo d n count f level (Faulty k p) = first (rule_faults (Named 0) (entries_of d) (n + 1) count) ≡ finding.Faulty k p
+CheckedTo d n count f level (Through g) =
+    (first (rule_faults (Named 0) (entries_of d) (n + 1) count) ≡ finding.Clean) × Levels (Named 0) (entries_of d) level (n + count + 1) × (g ≡ Some f)
 
 -- what going over all of them does
 abbrev pub PassedAll : Background → List ℕ → List ℕ → List ℕ → List ℕ → ℕ → ℕ → Pass → Type 0
 PassedAll b d t next head used total (Faulty k p) = first (rule_faults (Named 0) (entries_of d) 1 total) ≡ finding.Faulty k p
 PassedAll b d t next head used total (Through f) =
     (first (rule_faults (Named 0) (entries_of d) 1 total) ≡ finding.Clean)
-    × (Owned (entries_of d) → (ss : List Slot) → Indexed ss t next head used → f ≡ first_from (holds_by_slots b ss (entries_of d)) 1 total)
+    × (Owned (entries_of d) → (ss : List Slot) → Indexed ss t next head used → unwrap_or f 0 ≡ first_from (holds_by_slots b ss (entries_of d)) 1 total)
+    × IfSome f (λ k. 1 ≤ k)

@@ -70,11 +70,12 @@ pub record Blank (k : ℕ) (l : List ℕ) : Type 0 where
   pub room : k < length l
   pub zero' : (j : ℕ) → get_or l j 0 ≡ 0
 
--- what the passes over n entries need beside the table of slots: numbers for the chains, whatever they are, a blank head for each bucket,
--- and a blank number for each entry
+-- what the passes over n entries need beside the table of slots: numbers for the chains, whatever they are, a blank head for each bucket, of
+-- which there are 61 to 4,093, and a blank number for each entry
 pub record Workspace (n : ℕ) (next head node : List ℕ) : Type 0 where
   pub nexts : n < length next
   pub heads : Blank 60 head
+  pub most : length head ≤ 4093
   pub nodes : Blank n node
 
 -- a table that was `origin` before its slots were written: they have upper bounds of at most `no_bound`, and all other numbers stay
@@ -84,9 +85,9 @@ pub record Exact (origin t : List ℕ) (used : ℕ) : Type 0 where
   pub top : get_or t 0 0 ≡ get_or origin 0 0
   pub rest : (j : ℕ) → used < j → get_or t j 0 ≡ get_or origin j 0
 
--- the bucket of a key, of m: tables come in two sizes
+-- the bucket of a key, of m
 unfoldable pub hash_of : ℕ → ℕ → ℕ
-hash_of m key = cond (ltb m 4093) (key % 61) (key % 4093)
+hash_of m key = key % m
 
 -- the chains of a table, of m buckets: each slot points to the one before it in its bucket
 abbrev pub ChainsIn : ℕ → List ℕ → List ℕ → List ℕ → ℕ → Type 0
@@ -97,6 +98,7 @@ pub record Kept (t next head : List ℕ) (used : ℕ) : Type 0 where
   pub room : used < length t
   pub nexts : used < length next
   pub heads : 61 ≤ length head
+  pub most : length head ≤ 4093
   pub chains : ChainsIn (length head) t next head used
   pub apart : (i j : ℕ) → 1 ≤ i → i < j → j ≤ used → eqb (key_in (get_or t i 0)) (key_in (get_or t j 0)) ≡ false
 
@@ -249,8 +251,9 @@ pub record Chained (b : Background) (d : List ℕ) (used : ℕ) (origin t next h
   pub exact : Exact origin t used
   pub kept : Kept t next head used
 
--- what judging by the slots of a description needs of them: they stand in the table, settled, on their chains, and the top's mark is right
-pub record Held (b : Background) (d : List ℕ) (used : ℕ) (t next head bad : List ℕ) : Type 0 where
+-- what judging by the slots of a description needs of them: they stand in the table, settled, on their chains, and it is known whether the
+-- top is impossible
+pub record Held (b : Background) (d : List ℕ) (used : ℕ) (t next head : List ℕ) (impossible : Bool) : Type 0 where
   pub kept : Kept t next head used
   pub tabled : Tabled b d used t
-  pub top : get_or bad 0 0 ≡ bit (inconsistent 1 (slots_of b d) 0)
+  pub top : impossible ≡ inconsistent 1 (slots_of b d) 0

@@ -1,20 +1,18 @@
--- `block_second` meets its contract: the block stands whole, starts past the end, or ends in between.
-use Rattle.std.proofs.Common.{arith}
-use Rattle.blocks.proofs.words.WordLaws.{sum_more, sum-none, sum-short, weighted-past, weighted-read}
+-- `block_second` meets its contract: the bytes are all there, or some are.
+use Rattle.std.proofs.Common.{◌≡◌, ap, ◌*◌, ◌∙◌, drop, take}
+use Rattle.blocks.proofs.words.WordLaws.{second-there, range-front}
 use Rattle.blocks.specs.Words.{second_of}
 use Rattle.blocks.proofs.words.block_second.Goals as goal
 
-pub returns-then-at-s : goal.returns-then-at-s
+pub returns-in-Some : goal.returns-in-Some
 unfolding second_of
-returns-then-at-s c = c.weigh_words.ensures
+returns-in-Some c =
+    let i : c.in-Some.whole.now ≡ take 508 (drop (512 * c.args.i) c.args.s.now) =
+    c.in-Some.ensures.lookup.0.2 ∙ range-front c.args.s.now (512 * c.from-at.result) 508 ∙ ap (λ k. take 508 (drop (512 * k) c.args.s.now)) c.from-at.ensures in
+    c.weigh_bytes.ensures ∙ ap (λ bytes. second_of bytes 0) i ∙ second-there c.args.s.now (512 * c.args.i) 254
 
-pub returns-then-s-at : goal.returns-then-s-at
+pub returns-in-None : goal.returns-in-None
 unfolding second_of
-returns-then-s-at c = sum-none _ _ (weighted-past _ _ 0 (omega arith))
-
-pub returns : goal.returns
-unfolding second_of
-returns c =
-    sum-short _ _ _ (omega arith) (weighted-past _ _ _ (omega arith))
-    (sum_more _ _ c.weigh_words-2.ensures
-    (weighted-read _ _ _ c.word.ensures c.times.ensures) c.wrapping_add_u16.ensures.value)
+returns-in-None c =
+    let i = c.part.ensures.bytes ∙ ap (λ k. take 508 (drop (512 * k) c.args.s.now)) c.from-at.ensures in
+    c.weigh_bytes-in-None.ensures ∙ ap (λ bytes. second_of bytes 0) i ∙ second-there c.args.s.now (512 * c.args.i) 254

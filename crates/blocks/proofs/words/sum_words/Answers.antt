@@ -1,16 +1,19 @@
-use Rattle.std.proofs.Common.{rules}
+use Rattle.std.proofs.Common.{◌≡◌, refl, ap, ◌%◌, arith}
 use Rattle.base.specs.Range.{sum}
-use Rattle.blocks.proofs.words.WordLaws.{sum_done, sum_more, term-read}
+use Rattle.blocks.proofs.words.WordLaws.{sum_more, sum_to}
+use Rattle.blocks.specs.Words.{word_at}
+use Rattle.blocks.specs.code.WordPairs.{pair}
 use Rattle.blocks.proofs.words.sum_words.Goals as goal
 
-pub loop-i-init : goal.loop-i-init
+pub loop-bytes-init : goal.loop-bytes-init
 unfolding sum
-loop-i-init c = search rules
+loop-bytes-init c = refl
 
-pub loop-i-preserved : goal.loop-i-preserved
-loop-i-preserved c =
-    let l = c.loop-i in
-    (search rules, sum_more _ l.i l.invariant.1 (term-read _ _ _ c.word_at.ensures) c.wrapping_add_u16-acc.ensures.value)
+pub loop-bytes-preserved : goal.loop-bytes-preserved
+unfolding pair word_at
+loop-bytes-preserved c =
+    let e : c.from_le_bytes-acc.result ≡ pair c.args.words.now c.loop-bytes.bytes-index = omega (arith, c.from_le_bytes-acc.ensures) in
+    sum_more _ c.loop-bytes.bytes-index c.loop-bytes.invariant (record { same = ap (λ x. x % 65536) e }) refl
 
 pub returns : goal.returns
-returns c = sum_done _ _ _ c.loop-i.invariant.0 c.loop-i-test.false c.loop-i.invariant.1
+returns c = sum_to _ (omega arith) c.loop-bytes.invariant

@@ -1,19 +1,19 @@
-use Rattle.std.proofs.Common.{rules}
+use Rattle.std.proofs.Common.{◌≡◌, refl, add-one, arith}
 use Rattle.base.specs.Range.{sum}
-use Rattle.blocks.proofs.words.WordLaws.{sum_done, sum_more, weighted-read}
+use Rattle.blocks.proofs.words.WordLaws.{sum_more, sum_to}
+use Rattle.blocks.specs.Words.{word_at}
+use Rattle.blocks.specs.code.WordPairs.{pair, weighted_pair}
 use Rattle.blocks.proofs.words.weigh_words.Goals as goal
 
-pub loop-i-init : goal.loop-i-init
+pub loop-k-init : goal.loop-k-init
 unfolding sum
-loop-i-init c = search rules
+loop-k-init c = refl
 
-pub loop-i-preserved : goal.loop-i-preserved
-loop-i-preserved c =
-    let l = c.loop-i in (
-      search rules,
-      sum_more _ l.i l.invariant.1 (weighted-read _ _ _ c.word_at.ensures c.times.ensures)
-          c.wrapping_add_u16-acc.ensures.value,
-    )
+pub loop-k-preserved : goal.loop-k-preserved
+unfolding pair weighted_pair word_at
+loop-k-preserved c =
+    let e : c.from_le_bytes.result ≡ pair c.args.words.now c.loop-k.k = omega (arith, c.from_le_bytes.ensures) in
+    sum_more _ c.loop-k.k c.loop-k.invariant (record { same = rw (e, add-one c.loop-k.k) (omega arith) }) refl
 
 pub returns : goal.returns
-returns c = sum_done _ _ _ c.loop-i.invariant.0 c.loop-i-test.false c.loop-i.invariant.1
+returns c = sum_to _ (omega arith) c.loop-k.invariant

@@ -1,11 +1,8 @@
--- `weigh_words` meets its contract: after i turns the sum is that of the first i words, each times its number, modulo 65,536.
-use Rattle.std.proofs.Common.{◌≡◌, ◌-◌, ◌%◌, ◌≤◌}
+-- `weigh_words` meets its contract: after some turns the sum is that of as many words, each times its number, modulo 65,536.
+use Rattle.std.proofs.Common.{◌≡◌, ◌%◌}
 use Rattle.base.specs.Range.{sum}
-use Rattle.blocks.specs.Words.{weighted}
+use Rattle.blocks.specs.code.WordPairs.{weighted_pair}
 use Rattle.blocks.proofs.words.weigh_words.Given as goal
 
-abbrev pub invariant-loop-i : goal.invariant-loop-i
-invariant-loop-i l = (l.i ≤ l.n) × (l.acc ≡ sum (weighted l.s l.at) l.i % 65536)
-
-abbrev pub decreases-loop-i : goal.decreases-loop-i
-decreases-loop-i l = l.n - l.i
+abbrev pub invariant-loop-k : goal.invariant-loop-k
+invariant-loop-k l = l.acc ≡ sum (weighted_pair l.words) l.k % 65536

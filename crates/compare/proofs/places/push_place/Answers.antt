@@ -1,64 +1,63 @@
 -- `push_place` meets its contract: the properties are pushed, then the groups.
-use Prim.Native.Nat.{◌≤◌}
+use Prim.Native.Nat.{◌%◌}
 use lib.ListN.{length, take}
+use mathlib.Core.Bool.{false, true}
 use mathlib.Core.List.{map}
-use mathlib.Core.Path.{◌∙◌, ◌≡◌}
+use mathlib.Core.Path.{◌≡◌}
 use native.Mathlib.Omega.{arith}
-use Rattle.compare.proofs.places.PlaceLaws.{first-room, groups-run, least-small, place-done, properties-run, second-room, tags-small, taken-many}
+use Rattle.compare.proofs.places.PlaceLaws.{as-many, first-room, groups-run, place-done, properties-run, run-tagged, second-room}
 use Rattle.compare.specs.code.Codes.{joints_by, properties_by}
 use Rattle.compare.specs.code.Tags.{group_of, tag_name}
-use Rattle.compare.proofs.places.push_place.Goals.{After-link_run-g, After-property_run-n}
+use Rattle.compare.proofs.places.push_place.Goals.{After-tag_run-g, After-tag_run-n}
 use Rattle.compare.proofs.places.push_place.Goals as goal
 
 -- the properties of the place, and its groups
-properties : (c : After-property_run-n)
-    → let a = c.args in map tag_name (take c.property_run-n.result c.property_run-n.new.order) ≡ properties_by a.table.now a.links.now a.m a.e a.code
+properties : (c : After-tag_run-n)
+    → let a = c.args in map tag_name (take c.tag_run-n.result c.tag_run-n.new.order) ≡ properties_by a.slots.now.table.now a.path.now.links a.path.now.depth a.path.now.entry a.code
 properties c =
     let a = c.args in
-    properties-run a.table.now a.links.now a.m a.e a.code (c.asked_property-p.ensures.1 a.links.now) c.property_run-n.ensures.2
+    let p = a.path.now in
+    let r = c.tag_run-n.ensures.1 (a.code % 1024) false (omega arith) in
+    properties-run a.slots.now.table.now p.links p.depth p.entry a.code c.asked_property-p.ensures.1 (rw c.property_name.ensures at r)
 
-groups : (c : After-link_run-g)
-    → let a = c.args in map (group_of a.table.now c.asked_link-l.result) (take c.link_run-g.result c.link_run-g.new.order)
-    ≡ joints_by a.table.now a.links.now a.m a.e a.code
+groups : (c : After-tag_run-g)
+    → let a = c.args in map (group_of a.slots.now.table.now c.asked_items-l.result) (take c.tag_run-g.result c.tag_run-g.new.order)
+    ≡ joints_by a.slots.now.table.now a.path.now.links a.path.now.depth a.path.now.entry a.code
 groups c =
     let a = c.args in
-    let q = c.asked_link-l.ensures in
-    groups-run a.table.now a.links.now a.m a.e a.code c.asked_link-l.result q.1 q.2 q.3 c.link_run-g.ensures.2
+    let p = a.path.now in
+    let q = c.asked_items-l.ensures in
+    let r = c.tag_run-g.ensures.1 (a.code % 1024) true (omega arith) in
+    groups-run a.slots.now.table.now p.links p.depth p.entry a.code c.asked_items-l.result q.1 q.2 q.3 (rw c.link_name.ensures at r)
 
 pub push_properties-k-requires : goal.push_properties-k-requires
 push_properties-k-requires c =
     let a = c.args in
-    let fits : c.property_run-n.result ≤ length c.property_run-n.new.order = omega (arith, c.property_run-n.ensures.0, c.property_run-n.ensures.1) in (
-      fits,
-      (λ i b. (tags-small c.requires.0.stood c.property_run-n.new.order fits c.property_run-n.ensures.2 i b).0),
-      first-room a.table.now a.links.now a.m a.e a.code a.owner a.count (length a.rows.now) (properties (goal.at.push_properties-k-requires c).After-property_run-n)
-          (taken-many tag_name c.property_run-n.new.order fits) c.requires.5,
+    let p = a.path.now in
+    let tags = take c.tag_run-n.result c.tag_run-n.new.order in (
+      (run-tagged a.slots.now.stood (c.tag_run-n.ensures.1 (a.code % 1024) false (omega arith))).name,
+      first-room a.slots.now.table.now p.links p.depth p.entry a.code a.owner a.count (length a.rows.now) (properties (goal.at.push_properties-k-requires c).After-tag_run-n)
+          (as-many tag_name tags) c.requires.3,
     )
 
 pub push_groups-requires : goal.push_groups-requires
 push_groups-requires c =
     let a = c.args in
-    let q = c.asked_link-l.ensures in
+    let p = a.path.now in
     let size = c.push_properties-k.ensures.size in
-    let fits : c.link_run-g.result ≤ length c.link_run-g.new.order = omega (arith, c.link_run-g.ensures.0, c.link_run-g.ensures.1) in (
-      c.requires.0.stood.few,
-      fits,
-      tags-small c.requires.0.stood c.link_run-g.new.order fits c.link_run-g.ensures.2,
-      least-small c.requires.0.stood,
-      q.4,
-      q.5,
+    let tags = take c.tag_run-g.result c.tag_run-g.new.order in (
+      run-tagged a.slots.now.stood (c.tag_run-g.ensures.1 (a.code % 1024) true (omega arith)),
       rw size
-          (second-room a.table.now a.links.now a.m a.e a.code a.owner a.count (length a.rows.now) (properties (goal.at.push_groups-requires c).After-property_run-n)
-          c.push_properties-k.ensures (groups (goal.at.push_groups-requires c).After-link_run-g)
-          (taken-many (group_of a.table.now c.asked_link-l.result) c.link_run-g.new.order fits) c.requires.5),
-      rw size c.requires.3,
+          (second-room a.slots.now.table.now p.links p.depth p.entry a.code a.owner a.count (length a.rows.now) (properties (goal.at.push_groups-requires c).After-tag_run-n)
+          c.push_properties-k.ensures (groups (goal.at.push_groups-requires c).After-tag_run-g)
+          (as-many (group_of a.slots.now.table.now c.asked_items-l.result) tags) c.requires.3),
+      rw size c.requires.1,
     )
 
 pub returns : goal.returns
 returns c =
-    let a = c.args in (
-      place-done a.table.now a.links.now a.m a.e a.code a.owner a.count (length a.rows.now) (properties (goal.at.returns c).After-property_run-n)
-          c.push_properties-k.ensures (groups (goal.at.returns c).After-link_run-g)
-          c.push_properties-k.ensures.size c.push_groups.ensures,
-      c.link_run-g.ensures.1 ∙ c.property_run-n.ensures.1,
-    )
+    let a = c.args in
+    let p = a.path.now in
+    place-done a.slots.now.table.now p.links p.depth p.entry a.code a.owner a.count (length a.rows.now) (properties (goal.at.returns c).After-tag_run-n)
+    c.push_properties-k.ensures (groups (goal.at.returns c).After-tag_run-g)
+    c.push_properties-k.ensures.size c.push_groups.ensures

@@ -1,5 +1,5 @@
--- `push_properties` meets its contract: the properties of the first i tags are pushed.
-use Prim.Native.Nat.{◌+◌, ◌-◌, ◌≤◌}
+-- `push_properties` meets its contract: before each turn, the properties of the tags before it are pushed.
+use Prim.Native.Nat.{◌+◌}
 use lib.ListN.{length, take}
 use mathlib.Core.List.{map}
 use mathlib.Core.Path.{◌≡◌}
@@ -9,8 +9,5 @@ use Rattle.compare.specs.code.Tags.{tag_name}
 use Rattle.logic.specs.Filling.{Filled}
 use Rattle.compare.proofs.rows.push_properties.Given as goal
 
-abbrev pub invariant-loop-i : goal.invariant-loop-i
-invariant-loop-i l = (l.i ≤ l.n) × (length l.rows ≡ length l.initial.rows) × (l.k ≡ l.count + l.i) × Filled (length l.initial.rows) l.initial.rows l.count (map specimen_number (leaf_rows l.owner (map tag_name (take l.i l.order)))) l.rows l.k
-
-abbrev pub decreases-loop-i : goal.decreases-loop-i
-decreases-loop-i l = l.n - l.i
+abbrev pub invariant-loop-x : goal.invariant-loop-x
+invariant-loop-x l = (l.k ≡ l.count + l.x-index) × Filled (length l.initial.rows) l.initial.rows l.count (map specimen_number (leaf_rows l.owner (map tag_name (take l.x-index l.tags)))) l.rows l.k

@@ -2,30 +2,27 @@
 use native.Mathlib.Omega.{arith}
 use Rattle.compare.proofs.verdict.RoomLaws.{small-both}
 use Rattle.compare.proofs.verdict.ShownLaws.{failed-few, failed-many, failed-shown, failed-small}
+use Rattle.compare.proofs.verdict.show.Goals.{else-are_small, then-are_small}
 use Rattle.compare.proofs.verdict.show.Goals as goal
+
+pub show_sized-count-requires : goal.show_sized-count-requires
+show_sized-count-requires c =
+    let small = small-both c.args.c.now c.args.d.now c.are_small.ensures c.if-are_small.true in
+    let f = failed-few c.requires.0.ruled c.requires.0.failed _ c.requires.1 small.0 small.1 in
+    (f.0, f.1, omega arith, omega arith, omega arith)
+
+pub show_sized-count-requires-else-are_small : goal.show_sized-count-requires-else-are_small
+show_sized-count-requires-else-are_small c =
+    let a = c.requires in
+    (failed-many a.0.ruled a.0.failed _ a.1, a.0.failed.stood.few, omega arith, omega arith, omega arith)
 
 pub overflow_cast-result : goal.overflow_cast-result
 overflow_cast-result c = omega (arith, failed-small c.requires.0.ruled c.requires.0.failed)
 
-pub show_few-requires : goal.show_few-requires
-show_few-requires c =
-    let small = small-both c.args.c.now c.args.d.now c.are_small.ensures c.if-are_small.true in
-    failed-few c.requires.0.ruled c.requires.0.failed _ c.requires.1 small.0 small.1
-
-pub returns-then-are_small : goal.returns-then-are_small
-returns-then-are_small c = λ b R f.
-    let a = c.requires in
-    let e = c.show_few.ensures in
-    failed-shown R f _ a.1 e.0 e.2
-
-pub overflow_cast-result-2 : goal.overflow_cast-result-2
-overflow_cast-result-2 c = omega (arith, failed-small c.requires.0.ruled c.requires.0.failed)
-
-pub show_many-requires : goal.show_many-requires
-show_many-requires c = let a = c.requires in failed-many a.0.ruled a.0.failed _ a.1
-
 pub returns : goal.returns
 returns c = λ b R f.
     let a = c.requires in
-    let e = c.show_many.ensures in
-    failed-shown R f _ a.1 e.0 e.2
+    elim c.if-are_small.branch [
+      | then-are_small w ↦ let e = w.show_sized-count.ensures in rw (w.count-is, w.out-is) (failed-shown R f _ a.1 e.0 e.2)
+      | else-are_small w ↦ let e = w.show_sized-count-else-are_small.ensures in rw (w.count-is, w.out-is) (failed-shown R f _ a.1 e.0 e.2)
+    ]

@@ -1,5 +1,6 @@
 use Prim.Native.Nat.{◌+◌, ◌<◌, ℕ}
 use lib.ListN.{length, length-replicate}
+use mathlib.Core.Bool.{Bool, false}
 use mathlib.Core.Path.{◌≡◌, ap, refl}
 use native.Mathlib.Omega.{arith}
 use Rattle.blocks.specs.Entries.{entries_of, nth}
@@ -9,7 +10,7 @@ use Rattle.fit.proofs.entries.PassLaws.{pass-goes, pass-reads, pass-small, pass-
 use Rattle.fit.proofs.index.BucketLaws.{owner-below}
 use Rattle.fit.proofs.index.BucketWalk.{index-more, index-starts}
 use Rattle.fit.specs.code.Bare.{demands}
-use Rattle.fit.proofs.index.index_description.Goals.{After-wide}
+use Rattle.fit.proofs.index.index_description.Goals.{After-from}
 use Rattle.fit.proofs.index.index_description.Goals as goal
 
 pub loop-n-init : goal.loop-n-init
@@ -25,28 +26,28 @@ next_pos-at-requires c =
     pass-small _ c.requires.0 c.requires.4 (omega (arith, c.requires.1, c.requires.2)) c.loop-n-test.true c.loop-n.invariant.3
 
 -- the entry that was read is that of the list, and its owner stands before it
-read : (c : After-wide)
+read : (c : After-from)
     → ((c.entry_from-e.result ≡ nth (entries_of c.args.d.now) (c.loop-n.n + 1))
-    × (owner_of (entries_of c.args.d.now) (c.loop-n.n + 1) ≡ c.wide.result) × (c.wide.result < c.args.most))
+    × (owner_of (entries_of c.args.d.now) (c.loop-n.n + 1) ≡ c.from.result) × (c.from.result < c.args.most))
 read c =
     let is = pass-reads _ c.requires.0 c.requires.4 (omega (arith, c.requires.1, c.requires.2)) c.loop-n-test.true c.loop-n.invariant.3 c.entry_from-e.ensures in
-    let o = owner-below (entries_of c.args.d.now) (c.loop-n.n + 1) c.requires.3 (omega arith) (omega (arith, c.requires.0)) is c.wide.ensures.0 in
+    let o = owner-below (entries_of c.args.d.now) (c.loop-n.n + 1) c.requires.3 (omega arith) (omega (arith, c.requires.0)) is c.from.ensures in
     (is, o.0, omega (arith, o.1, c.requires.1))
 
 pub put-requires : goal.put-requires
 put-requires c =
-    (c.requires.2, c.loop-n.invariant.1.size, omega (arith, c.requires.1), (read (goal.at.put-requires c).After-wide).2)
+    (c.requires.2, c.loop-n.invariant.1.size, omega (arith, c.requires.1), (read (goal.at.put-requires c).After-from).2)
 
 pub mark_demand-requires : goal.mark_demand-requires
 mark_demand-requires c =
-    omega (arith, (read (goal.at.mark_demand-requires c).After-wide).2, c.wide.ensures.0, c.loop-n.invariant.2.size)
+    omega (arith, (read (goal.at.mark_demand-requires c).After-from).2, c.from.ensures, c.loop-n.invariant.2.size)
 
 pub loop-n-preserved : goal.loop-n-preserved
 loop-n-preserved c =
-    let r = read (goal.at.loop-n-preserved c).After-wide in (
+    let r = read (goal.at.loop-n-preserved c).After-from in (
       omega arith,
       index-more c.loop-n.invariant.1 (omega arith) (omega (arith, c.requires.1)) (λ k z. refl) r.1 r.2 c.put.ensures,
-      marks-next demands (entries_of c.args.d.now) c.loop-n.invariant.2 r.0 (omega (arith, r.2, c.wide.ensures.0)) c.mark_demand.ensures,
+      marks-next demands (entries_of c.args.d.now) c.loop-n.invariant.2 r.0 (omega (arith, r.2, c.from.ensures)) c.mark_demand.ensures,
       pass-goes c.loop-n.n c.loop-n.invariant.3 c.next_pos-at.ensures,
     )
 
@@ -56,7 +57,7 @@ shape_of-index c =
 
 pub shape_of-marks : goal.shape_of-marks
 shape_of-marks c =
-    omega (arith, c.loop-n.invariant.2.size, ap length c.requires.6, length-replicate {A = ℕ} c.args.most 0)
+    omega (arith, c.loop-n.invariant.2.size, ap length c.requires.6, length-replicate {A = Bool} c.args.most false)
 
 pub returns : goal.returns
 returns c =

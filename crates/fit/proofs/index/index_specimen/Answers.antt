@@ -19,13 +19,6 @@ pub next_pos-at-requires : goal.next_pos-at-requires
 next_pos-at-requires c =
     pass-small _ c.requires.0 c.requires.4 (omega (arith, c.requires.1, c.requires.2)) c.loop-n-test.true c.loop-n.invariant.2
 
-pub mark_at-requires : goal.mark_at-requires
-mark_at-requires c =
-    omega (arith, c.requires.5.size, c.requires.1)
-
-pub hash-requires : goal.hash-requires
-hash-requires c = (omega (arith, c.requires.1), c.wide.ensures.1)
-
 pub put-requires : goal.put-requires
 put-requires c =
     (c.requires.2, c.loop-n.invariant.1.size, omega (arith, c.requires.1), c.hash.ensures.1)
@@ -36,7 +29,7 @@ loop-n-preserved c =
     let more = c.loop-n-test.true in
     let read = pass-reads _ c.requires.0 c.requires.4 (omega (arith, c.requires.1, c.requires.2)) more c.loop-n.invariant.2 c.entry_from-e.ensures in
     let is = bucket-specimen es (c.loop-n.n + 1) c.requires.5 c.requires.0 (omega (arith, c.requires.1)) read
-    c.mark_at.ensures c.wide.ensures.0 c.code.ensures c.hash.ensures.0 in (
+    refl c.from.ensures c.code.ensures c.hash.ensures.0 in (
       omega arith,
       index-more c.loop-n.invariant.1 (omega arith) (omega (arith, c.requires.1)) (λ k z. refl) (sym is) c.hash.ensures.1 c.put.ensures,
       pass-goes c.loop-n.n c.loop-n.invariant.2 c.next_pos-at.ensures,

@@ -1,119 +1,80 @@
-use mathlib.Core.Bool.{◌||◌, not}
+use mathlib.Core.Bool.{◌||◌, not, true}
 use mathlib.Core.Path.{◌∙◌, ◌≡◌, ap, refl, sym}
 use native.Mathlib.Omega.{arith}
-use Prim.Native.Nat.{◌-◌}
-use Rattle.base.proofs.ChainLaws.{walk-falls, walk-goes, walk-starts}
-use Rattle.base.proofs.Tests.{false_of_not, true_of_not}
 use Rattle.blocks.specs.Entries.{entries_of}
 use Rattle.blocks.specs.declared.Entry.{Entry}
-use Rattle.blocks.specs.declared.Schema.TheVariants.{Specimen}
 use Rattle.fit.proofs.index.BucketLaws.{hash-below}
-use Rattle.fit.proofs.index.BucketWalk.{all-ends, all-goes, all-starts, has-entry}
-use Rattle.fit.proofs.judge.MeetLaws.{atom-met, atom-none, atom-not, bare-told, meets-atoms, meets-bare, meets-bottom, meets-bucket, other-passes, rests-on}
+use Rattle.fit.proofs.index.BucketWalk.{has-entry, pass-ends, pass-first, pass-has, pass-on, walk-at, walk-tells}
+use Rattle.fit.proofs.judge.MeetLaws.{bare-asked, bare-fail, bare-none, meets-atoms, meets-bare, meets-bottom, meets-bucket, other-passes, rests-on}
 use Rattle.fit.specs.code.Bare.{bare_fits}
-use Rattle.fit.specs.code.Groups.{Rests, has_bare, own_fits}
-use Rattle.fit.specs.code.Index.{bucket_of, is_of}
-use Rattle.fit.proofs.judge.meets_entry.Goals.{After-bare_fails}
+use Rattle.fit.specs.code.Groups.{has_bare}
+use Rattle.fit.specs.code.Index.{is_of}
+use Rattle.fit.proofs.judge.meets_entry.Goals.{else-demands-via-else-demands, else-demands-via-then-demands+else-has_bare}
 use Rattle.fit.proofs.judge.meets_entry.Goals as goal
 
 pub returns-then-left-eq0 : goal.returns-then-left-eq0
-returns-then-left-eq0 c =
-    let no = sym (meets-bottom _ _ _ _ _ c.if-left-eq0.true) in
-    ((λ z. absurd (omega arith)), (λ z. no), (λ z q. absurd (q refl)), refl)
+returns-then-left-eq0 c = (sym (meets-bottom _ _ _ _ _ c.if-left-eq0.true), refl)
 
 pub entry_at-entry-requires : goal.entry_at-entry-requires
 entry_at-entry-requires c =
-    record { some = c.requires.7; within = c.requires.8; few = c.requires.5; whole = c.requires.1 }
+    has-entry c.args.places.now.ready c.requires.2 (λ z. omega (arith, c.requires.1))
+
+pub returns-then-meets_atom : goal.returns-then-meets_atom
+returns-then-meets_atom c =
+    let m = c.meets_atom.ensures in
+    (sym (meets-atoms _ _ _ _ _ c.if-left-eq0.false c.entry_at-entry.ensures c.if-kind-ne5.true m.0) ∙ c.if-meets_atom.true, m.1)
 
 pub returns-then-kind-ne5 : goal.returns-then-kind-ne5
 returns-then-kind-ne5 c =
-    let r = c.meets_atom in
-    let met = sym (meets-atoms _ _ _ _ _ c.if-left-eq0.false c.entry_at-entry.ensures c.if-kind-ne5.true r.ensures.0) in
-    ((λ z. met ∙ atom-met r.result c.rest_of.ensures z), (λ z. met ∙ atom-not r.result c.rest_of.ensures z), atom-none r.result c.rest_of.ensures, r.ensures.1)
+    let m = c.meets_atom.ensures in
+    (sym (meets-atoms _ _ _ _ _ c.if-left-eq0.false c.entry_at-entry.ensures c.if-kind-ne5.true m.0) ∙ c.if-meets_atom.false, m.1)
 
-pub bare_fails-requires : goal.bare_fails-requires
-bare_fails-requires c =
-    (c.requires.0.ready, c.requires.3, omega (arith, c.requires.2.size, c.requires.4), c.requires.6)
-
--- whether the groups that own nothing fit
-told : (c : After-bare_fails)
-    → (c.bare_fails.result ≡ not (bare_fits (entries_of c.args.d.now) c.args.e || not (has_bare (entries_of c.args.s.now) c.args.g c.link-link.result.0)))
-told c =
-    bare-told (entries_of c.args.s.now) (entries_of c.args.d.now) c.args.g c.args.e c.link-link.result.0 c.requires.2 c.requires.4 c.bare_fails.ensures
-
-pub returns-then-bare_fails : goal.returns-then-bare_fails
-returns-then-bare_fails c =
-    let no = sym (meets-bare _ _ _ _ _ c.if-left-eq0.false c.entry_at-entry.ensures c.if-kind-ne5.false c.link-link.ensures
-    (false_of_not _ (sym (told (goal.at.returns-then-bare_fails c).After-bare_fails) ∙ c.if-bare_fails.true))) in
-    ((λ z. absurd (omega arith)), (λ z. no), (λ z q. absurd (q refl)), refl)
-
-pub last_group-h-requires : goal.last_group-h-requires
-last_group-h-requires c =
-    let I = c.requires.0.ready.index in
-    (omega (arith, I.below), omega (arith, I.size), c.requires.3)
+pub returns-then-has_bare : goal.returns-then-has_bare
+returns-then-has_bare c = (
+  sym (meets-bare _ _ _ _ _ c.if-left-eq0.false c.entry_at-entry.ensures c.if-kind-ne5.false c.link-link.ensures
+      (bare-fail _ _ c.demands.ensures c.has_bare.ensures c.if-demands.true c.if-has_bare.true)),
+  refl,
+)
 
 pub loop-h-init : goal.loop-h-init
 loop-h-init c =
-    let R = c.requires.0.ready in
-    let most = c.args.most in
-    let g = c.args.g in
-    let link = c.link-link.result.0 in
-    let below = hash-below most g 7 link (omega (arith, R.index.below)) in (
-      walk-starts R.index.chains _ below c.last_group-h.ensures,
-      meets-bucket _ _ _ _ _ c.if-left-eq0.false c.entry_at-entry.ensures c.if-kind-ne5.false c.link-link.ensures most (true_of_not _ (sym (told (goal.at.loop-h-init c).After-bare_fails) ∙ c.if-bare_fails.false))
-          ∙ all-starts R _ (own_fits (c.args.left - 1) (entries_of c.args.s.now) (entries_of c.args.d.now) c.args.e g link) below c.last_group-h.ensures,
-    )
+    let R = c.args.known.now.items.ready in
+    let es = entries_of c.args.known.now.items.bytes.now in
+    let ds = entries_of c.args.places.now.bytes.now in
+    let b = c.groups_by-h-items.ensures in
+    let asked : (bare_fits ds c.args.e || not (has_bare es c.args.g c.link-link.result.0)) ≡ true =
+    elim c.else-demands.branch [
+      | else-demands-via-then-demands+else-has_bare w ↦ bare-none _ _ w.has_bare.ensures w.if-has_bare.false
+      | else-demands-via-else-demands w ↦ bare-asked _ _ c.demands.ensures w.if-demands.false
+    ] in
+    rw c.into_iter-h-iterator.ensures.into_iter_gives
+    (pass-first R _ _ (meets-bucket _ _ _ _ _ c.if-left-eq0.false c.entry_at-entry.ensures c.if-kind-ne5.false c.link-link.ensures _ asked)
+    (hash-below _ _ _ _ (omega (arith, R.index.below))) b.0 b.1 b.2)
 
 pub entry_at-requires : goal.entry_at-requires
 entry_at-requires c =
-    let R = c.requires.0.ready in
-    let i = c.loop-h.invariant in
-    has-entry R i.0.bound c.if-h-eq0.false
-
-pub previous_of-h-requires : goal.previous_of-h-requires
-previous_of-h-requires c =
-    let R = c.requires.0.ready in
-    let i = c.loop-h.invariant in
-    omega (arith, i.0.bound, R.index.below, R.index.size)
-
-pub loop-h-smaller : goal.loop-h-smaller
-loop-h-smaller c =
-    let R = c.requires.0.ready in
-    let i = c.loop-h.invariant in
-    walk-falls R.index.chains _ i.0 c.if-h-eq0.false c.previous_of-h.ensures
+    pass-has c.args.known.now.items.ready _ _ c.loop-h.invariant c.in-Some.ensures.steps
 
 pub loop-h-preserved : goal.loop-h-preserved
 loop-h-preserved c =
-    let R = c.requires.0.ready in
-    let i = c.loop-h.invariant in
-    let link = c.link-link.result.0 in
-    let z = c.if-h-eq0.false in (
-      walk-goes R.index.chains _ i.0 z c.previous_of-h.ensures,
-      i.1 ∙ all-goes R _ i.0 z c.previous_of-h.ensures (own_fits (c.args.left - 1) (entries_of c.args.s.now) (entries_of c.args.d.now) c.args.e c.args.g link)
-          (other-passes _ (c.args.left - 1) _ c.args.e c.args.g link c.loop-h.h c.entry_at.ensures c.is_group.ensures c.if-is_group.false),
-    )
+    pass-on c.args.known.now.items.ready _ _ c.loop-h.invariant c.in-Some.ensures.steps
+    (other-passes _ _ _ c.args.e c.args.g c.link-link.result.0 c.in-Some.h c.entry_at.ensures c.is_group.ensures c.if-is_group.false)
 
-pub returns-then-h-eq0 : goal.returns-then-h-eq0
-returns-then-h-eq0 c =
-    let i = c.loop-h.invariant in
-    let link = c.link-link.result.0 in
-    let yes = i.1 ∙ all-ends (bucket_of Specimen c.args.most (entries_of c.args.s.now)) (own_fits (c.args.left - 1) (entries_of c.args.s.now) (entries_of c.args.d.now) c.args.e c.args.g link) _ c.if-h-eq0.true in
-    ((λ z. yes), (λ z. absurd (omega arith)), (λ z q. absurd (z refl)), refl)
+pub returns : goal.returns
+returns c = (pass-ends c.args.known.now.items.ready _ _ c.loop-h.invariant c.in-None.ensures.steps.0, refl)
 
 pub returns-then-is_group : goal.returns-then-is_group
 returns-then-is_group c =
-    let R = c.requires.0.ready in
-    let i = c.loop-h.invariant in
-    let link = c.link-link.result.0 in
-    let e = c.entry_at-entry.ensures in
-    let G : Rests c.args.most c.args.left (entries_of c.args.s.now) (entries_of c.args.d.now) c.args.g c.args.e link c.loop-h.h = record {
-      some = omega (arith, c.if-left-eq0.false);
-      group = sym (ap (λ (x : Entry). is_of x c.args.g 7 link) c.entry_at.ensures) ∙ sym c.is_group.ensures ∙ c.if-is_group.true;
-      on = i.0;
-      tells = i.1;
-    } in (
-      (λ z. absurd (c.if-h-eq0.false z)),
-      (λ z. absurd (omega (arith, i.0.bound, R.index.below, R.index.sized))),
-      (λ x y. rests-on (c.link-link.ensures ∙ ap (λ (x : Entry). x.name) e) G),
+    let w = c.loop-h.invariant in
+    let s = c.in-Some.ensures.steps in (
+      (
+        s.0.1,
+        rests-on (c.link-link.ensures ∙ ap (λ (x : Entry). x.name) c.entry_at-entry.ensures) (record {
+          some = omega (arith, c.if-left-eq0.false);
+          group = sym (ap (λ (x : Entry). is_of x c.args.g 7 c.link-link.result.0) c.entry_at.ensures) ∙ sym c.is_group.ensures ∙ c.if-is_group.true;
+          on = walk-at w s;
+          tells = walk-tells w s;
+        }),
+      ),
       refl,
     )

@@ -10,12 +10,11 @@ loop-i-init c = search-start _
 
 pub loop-i-preserved : goal.loop-i-preserved
 loop-i-preserved c =
-    c.loop-i.invariant ∙ search-more _ _ _ c.if-n-i.false c.word.ensures c.if-word-eq1.false
-
-pub returns-then-n-i : goal.returns-then-n-i
-returns-then-n-i c = (sym (c.loop-i.invariant ∙ search-end _ _ _ c.if-n-i.true), omega arith)
+    c.loop-i.invariant ∙ search-more _ _ _ c.loop-i-test.true c.word.ensures c.if-word-eq1.false
 
 pub returns-then-word-eq1 : goal.returns-then-word-eq1
 returns-then-word-eq1 c =
-    let l = c.loop-i.invariant in
-    (sym (l ∙ search-found _ _ _ c.if-n-i.false c.word.ensures c.if-word-eq1.true), omega arith)
+    (sym (c.loop-i.invariant ∙ search-found _ _ _ c.loop-i-test.true c.word.ensures c.if-word-eq1.true), omega arith)
+
+pub returns : goal.returns
+returns c = (sym (c.loop-i.invariant ∙ search-end _ _ _ c.loop-i-test.false), omega arith)

@@ -7,6 +7,3 @@ use Rattle.lists.proofs.parts.part_length.Given as goal
 
 abbrev pub invariant-loop-i : goal.invariant-loop-i
 invariant-loop-i l = first_length l.s ≡ division_from l.s l.i (length l.s / 512 - l.i)
-
-abbrev pub decreases-loop-i : goal.decreases-loop-i
-decreases-loop-i l = length l.s / 512 - l.i

@@ -1,14 +1,13 @@
--- `push_every` meets its contract: before turn i, the first i tags are done.
-use Prim.Native.Nat.{◌-◌, ◌≤◌}
-use lib.ListN.{length}
+-- `push_every` meets its contract: before each turn, the tags before it are done.
+use lib.ListN.{drop, length}
 use mathlib.Core.Bool.{true}
+use mathlib.Core.List.{map}
 use Rattle.normal.proofs.emit.PlacingLaws.{Linking}
-use Rattle.normal.specs.code.ClassRuns.{cells_from}
-use Rattle.normal.specs.code.Emitted.{keep_in}
+use Rattle.normal.specs.code.ClassRuns.{cell_at}
+use Rattle.normal.specs.code.Emitted.{kept_by}
 use Rattle.normal.proofs.emit.push_every.Given as goal
 
-abbrev pub invariant-loop-i : goal.invariant-loop-i
-invariant-loop-i l = (l.i ≤ l.n) × Linking (length l.initial.rows) (keep_in l.full) l.owner (cells_from l.table true l.order 0 l.n) l.initial.rows l.count l.initial.below (cells_from l.table true l.order l.i (l.n - l.i)) l.rows l.k l.below
-
-abbrev pub decreases-loop-i : goal.decreases-loop-i
-decreases-loop-i l = l.n - l.i
+abbrev pub invariant-loop-x : goal.invariant-loop-x
+invariant-loop-x l =
+    Linking (length l.initial.rows) (kept_by l.slots) l.owner (map (cell_at l.slots.table.now true) l.tags) l.initial.rows l.count l.initial.below
+    (map (cell_at l.slots.table.now true) (drop l.x-index l.tags)) l.rows l.k l.below

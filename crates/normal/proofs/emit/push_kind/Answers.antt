@@ -1,54 +1,34 @@
+-- `push_kind` meets its contract: the rows of one tag after another.
 use lib.ListN.{get_or}
-use mathlib.Core.Path.{ap}
-use native.Mathlib.Omega.{arith}
-use Rattle.logic.specs.Place.{kind_of}
-use Rattle.normal.proofs.emit.PushLaws.{cells-end, cells-start, kinds-more, kinds-none, kinds-room, pushing-done, pushing-more, pushing-room, pushing-same, pushing-start, within}
+use Rattle.normal.proofs.emit.PushLaws.{cells-end, kinds-more, kinds-none, kinds-room, pushing-done, pushing-more, pushing-room, within}
 use Rattle.normal.specs.code.ClassRuns.{kind_cell}
-use Rattle.normal.specs.code.Emitted.{cell_name, cell_value, kind_rows, rows_if}
-use Rattle.passes.specs.code.Slots.{is_link}
+use Rattle.normal.specs.code.Emitted.{cell_name, cell_value, kind_in, rows_if}
 use Rattle.normal.proofs.emit.push_kind.Goals as goal
-
-pub loop-i-init : goal.loop-i-init
-loop-i-init c =
-    let a = c.args in
-    (omega arith, pushing-same pushing-start (ap (kind_rows (kind_of a.kind) a.owner) (cells-start a.table.now (is_link (kind_of a.kind)) a.order.now a.n)))
-
-pub bounds-order-i : goal.bounds-order-i
-bounds-order-i c = omega (arith, c.requires.3.listed, c.loop-i-test.true)
 
 pub push_atom-k-requires : goal.push_atom-k-requires
 push_atom-k-requires c =
-    let l = c.loop-i in
-    let b = c.loop-i-test.true in
-    let w = c.requires.3 in
-    let p = l.invariant.1 in (
-      c.requires.0,
-      c.requires.1,
-      c.requires.2,
-      w.slot l.i b,
-      w.bound l.i b,
-      w.name l.i b,
-      within p.pushed.size
-          (kinds-room (kind_of c.args.kind) c.args.owner c.args.table.now (is_link (kind_of c.args.kind)) c.args.order.now l.i c.args.n _ b (pushing-room p c.requires.4)),
-    )
-
-pub loop-i-preserved : goal.loop-i-preserved
-loop-i-preserved c =
-    let l = c.loop-i in
-    let b = c.loop-i-test.true in
+    let l = c.loop-x in
     let a = c.args in
-    let k = kind_of a.kind in
-    let x = kind_cell a.table.now a.kind (get_or a.order.now l.i 0) in (
-      omega (arith, b),
-      pushing-more (rows_if k a.owner (cell_name x) (cell_value k x)) l.invariant.1 (kinds-more k a.owner a.table.now (is_link k) a.order.now l.i a.n b) c.push_atom-k.ensures,
+    let w = c.requires.0 in
+    let b = c.loop-x-test.true in
+    let k = kind_in a.kind in (
+      w.slot l.x-index b,
+      w.bound l.x-index b,
+      w.name l.x-index b,
+      within l.invariant.pushed.size (kinds-room k a.owner (kind_cell a.slots.now.table.now k) a.tags.now l.x-index _ b (pushing-room l.invariant c.requires.1)),
     )
 
-pub shape_of-rows : goal.shape_of-rows
-shape_of-rows c = c.loop-i.invariant.1.pushed.size
+pub loop-x-preserved : goal.loop-x-preserved
+loop-x-preserved c =
+    let l = c.loop-x in
+    let a = c.args in
+    let k = kind_in a.kind in
+    let x = kind_cell a.slots.now.table.now k (get_or a.tags.now l.x-index 0) in
+    pushing-more (rows_if k a.owner (cell_name x) (cell_value k x)) l.invariant (kinds-more k a.owner (kind_cell a.slots.now.table.now k) a.tags.now l.x-index c.loop-x-test.true) c.push_atom-k.ensures
 
 pub returns : goal.returns
 returns c =
-    let l = c.loop-i in
+    let l = c.loop-x in
     let a = c.args in
-    let k = kind_of a.kind in
-    pushing-done l.invariant.1 (kinds-none k a.owner (cells-end a.table.now (is_link k) a.order.now l.i a.n c.loop-i-test.false))
+    let k = kind_in a.kind in
+    pushing-done l.invariant (kinds-none k a.owner (cells-end (kind_cell a.slots.now.table.now k) a.tags.now l.x-index c.loop-x-test.false))

@@ -1,15 +1,12 @@
--- `push_kind` meets its contract: before turn i, the rows of the first i tags are pushed.
-use Prim.Native.Nat.{◌-◌, ◌≤◌}
-use lib.ListN.{length}
-use Rattle.logic.specs.Place.{kind_of}
+-- `push_kind` meets its contract: before each turn, the rows of the tags before it are pushed.
+use lib.ListN.{drop, length}
+use mathlib.Core.List.{map}
 use Rattle.normal.proofs.emit.PushLaws.{Pushing}
-use Rattle.normal.specs.code.ClassRuns.{cells_from}
-use Rattle.normal.specs.code.Emitted.{kind_rows}
-use Rattle.passes.specs.code.Slots.{is_link}
+use Rattle.normal.specs.code.ClassRuns.{kind_cell}
+use Rattle.normal.specs.code.Emitted.{kind_in, kind_rows}
 use Rattle.normal.proofs.emit.push_kind.Given as goal
 
-abbrev pub invariant-loop-i : goal.invariant-loop-i
-invariant-loop-i l = (l.i ≤ l.n) × Pushing (length l.initial.rows) l.initial.rows l.count (kind_rows (kind_of l.kind) l.owner (cells_from l.table (is_link (kind_of l.kind)) l.order 0 l.n)) l.rows l.k (kind_rows (kind_of l.kind) l.owner (cells_from l.table (is_link (kind_of l.kind)) l.order l.i (l.n - l.i)))
-
-abbrev pub decreases-loop-i : goal.decreases-loop-i
-decreases-loop-i l = l.n - l.i
+abbrev pub invariant-loop-x : goal.invariant-loop-x
+invariant-loop-x l =
+    Pushing (length l.initial.rows) l.initial.rows l.count (kind_rows (kind_in l.kind) l.owner (map (kind_cell l.slots.table.now (kind_in l.kind)) l.tags)) l.rows l.k
+    (kind_rows (kind_in l.kind) l.owner (map (kind_cell l.slots.table.now (kind_in l.kind)) (drop l.x-index l.tags)))

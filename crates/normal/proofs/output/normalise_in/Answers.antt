@@ -10,7 +10,7 @@ use Rattle.normal.proofs.output.normalise_in.Goals as goal
 pub write_normal-requires : goal.write_normal-requires
 write_normal-requires c =
     let f = c.fill-slotting in
-    let s = rw c.in-Filled.is at f.ensures.4 in
+    let s = rw (c.in-Filled.is, ← c.from.ensures) at f.ensures.4 in
     (filled-stands s, roomy-again c.requires (omega (arith, f.auto)) (omega (arith, f.auto)) (omega (arith, f.auto)))
 
 -- the tables have room for the description
@@ -22,7 +22,7 @@ returns-in-Refused c =
 pub returns-in-Filled : goal.returns-in-Filled
 returns-in-Filled c =
     let a = c.args in
-    let s = rw c.in-Filled.is at c.fill-slotting.ensures.4 in
+    let s = rw (c.in-Filled.is, ← c.from.ensures) at c.fill-slotting.ensures.4 in
     let l = s.0.list_read in
     let w = c.write_normal.ensures (under a.pairs.now) (ruled-under a.pairs.now l).lawful s.1 in
     (w.0 ∙ sym (list_read a.pairs.now a.d.now a.out.now l), w.1 ∙ sym (list-output a.pairs.now a.d.now a.out.now l))

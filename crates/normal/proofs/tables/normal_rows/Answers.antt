@@ -2,7 +2,7 @@
 use mathlib.Core.List.{[]}
 use mathlib.Core.Path.{refl}
 use native.Mathlib.Omega.{arith}
-use Rattle.base.proofs.Tests.{eq-eqb, ne_eqb}
+use Rattle.base.proofs.Tests.{ne_eqb}
 use Rattle.blocks.specs.Entries.{packed}
 use Rattle.logic.proofs.TreeRows.FillLaws.{filled-anew, filled-one}
 use Rattle.normal.proofs.tables.normal_rows.Goals as goal
@@ -11,13 +11,3 @@ pub returns-then-bad-ne0 : goal.returns-then-bad-ne0
 unfolding packed
 returns-then-bad-ne0 c =
     rw (ne_eqb c.if-bad-ne0.true) (filled-anew {a = c.args.rows.now} [] (filled-one refl (omega (arith, c.requires.3.some-row)) refl))
-
-pub bounds-rows-0 : goal.bounds-rows-0
-bounds-rows-0 c = omega (arith, c.requires.3.some-row)
-
-pub chained_rows-requires : goal.chained_rows-requires
-chained_rows-requires c =
-    (c.requires.0, c.requires.2, c.requires.3, rw (eq-eqb c.if-bad-ne0.false) at c.requires.4)
-
-pub returns : goal.returns
-returns c = rw (eq-eqb c.if-bad-ne0.false) c.chained_rows.ensures

@@ -4,13 +4,12 @@ use lib.ListN.{length}
 use mathlib.Core.List.{[]}
 use mathlib.Core.Path.{◌≡◌}
 use Rattle.normal.proofs.walk.PlaceWalk.{Walking}
-use Rattle.normal.specs.code.ClassRuns.{place_cells}
-use Rattle.normal.specs.code.Emitted.{all_rows, keep_in}
+use Rattle.normal.specs.code.Emitted.{all_rows, cells_of, kept_by}
 use Rattle.slots.specs.code.TablePlaces.{used_in}
 use Rattle.normal.proofs.walk.write_rows.Given as goal
 
 abbrev pub invariant-loop-k : goal.invariant-loop-k
-invariant-loop-k l = Walking (length l.initial.rows) (used_in l.table) (keep_in l.full) (place_cells l.table (used_in l.table)) (all_rows (keep_in l.full) (place_cells l.table (used_in l.table))) [] l.k l.rows l.count l.below
+invariant-loop-k l = Walking (length l.initial.rows) (used_in l.slots.table.now) (kept_by l.slots) (cells_of l.slots) (all_rows (kept_by l.slots) (cells_of l.slots)) [] l.k l.rows l.count l.below
     × (length l.below ≡ length l.initial.below) × (length l.order ≡ length l.initial.order)
 
 abbrev pub decreases-loop-k : goal.decreases-loop-k

@@ -1,21 +1,22 @@
-use mathlib.Core.Path.{◌∙◌, ◌≡◌, ap, refl}
-use native.Mathlib.Omega.{arith}
+use Rattle.std.proofs.Common.{◌≡◌, ◌∙◌, min, ap, refl, arith}
 use Rattle.pairs.proofs.IndexLaws.{indexed-more}
-use Rattle.pairs.specs.code.Index.{indexed_to}
+use Rattle.pairs.specs.Pairs.{pair_count}
+use Rattle.pairs.specs.code.Index.{indexed_to, named_count}
 use Rattle.pairs.proofs.index.index_pairs.Goals as goal
 
 pub loop-k-init : goal.loop-k-init
 unfolding indexed_to
-loop-k-init c = (omega arith, refl)
+loop-k-init c = refl
+
+pub note-requires : goal.note-requires
+unfolding pair_count
+note-requires c = (omega arith, omega arith, omega arith)
 
 pub loop-k-preserved : goal.loop-k-preserved
-loop-k-preserved c =
-    let l = c.loop-k in
-    (omega arith, indexed-more _ _ l.k l.invariant.1 c.note.ensures)
+loop-k-preserved c = indexed-more _ _ c.loop-k.k c.loop-k.invariant c.note.ensures
 
 pub returns : goal.returns
+unfolding pair_count
 returns c =
-    let l = c.loop-k in
-    let e = c.indexed_count-n.ensures in
-    let z : l.k ≡ c.indexed_count-n.result = omega (arith, l.invariant.0, c.loop-k-test.false) in
-    l.invariant.1 ∙ ap (indexed_to _ _) (z ∙ e)
+    let all : c.loop-k.k ≡ min (named_count c.args.pairs.now) 128 = omega arith in
+    c.loop-k.invariant ∙ ap (indexed_to _ _) all

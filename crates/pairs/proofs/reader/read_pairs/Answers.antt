@@ -1,5 +1,5 @@
 -- `read_pairs` meets its contract: the list's length, then its pairs.
-use mathlib.Core.Path.{refl}
+use Rattle.std.proofs.Common.{refl, arith}
 use Rattle.pairs.proofs.reader.PairLaws.{list-accepted, not-of-fours, pair-refused, too_many}
 use Rattle.pairs.specs.Pairs.{pair_count}
 use Rattle.pairs.proofs.reader.read_pairs.Goals as goal
@@ -11,14 +11,16 @@ pub returns-then-n-gt64 : goal.returns-then-n-gt64
 unfolding pair_count
 returns-then-n-gt64 c = too_many _ refl c.if-pairs-ne0.false c.if-n-gt64.true
 
-pub returns-then-wrong-ne0 : goal.returns-then-wrong-ne0
+pub first_wrong-requires : goal.first_wrong-requires
 unfolding pair_count
-returns-then-wrong-ne0 c =
-    pair-refused _ refl c.if-pairs-ne0.false c.if-n-gt64.false
-    c.first_wrong-wrong.ensures.0 c.if-wrong-ne0.true
+first_wrong-requires c = (omega arith, c.if-n-gt64.false)
 
-pub returns : goal.returns
+pub returns-in-Some : goal.returns-in-Some
 unfolding pair_count
-returns c =
-    list-accepted _ refl c.if-pairs-ne0.false c.if-n-gt64.false
-    c.first_wrong-wrong.ensures.0 c.if-wrong-ne0.false
+returns-in-Some c =
+    let found = c.in-Some.ensures in
+    pair-refused _ refl c.if-pairs-ne0.false c.if-n-gt64.false found.0 (λ z. omega (arith, found.1))
+
+pub returns-in-None : goal.returns-in-None
+unfolding pair_count
+returns-in-None c = list-accepted _ refl c.if-pairs-ne0.false c.if-n-gt64.false refl c.in-None.ensures

@@ -1,5 +1,5 @@
 -- `all_zero` meets its contract: the test of the whole range is what was found and the test of what is left of it.
-use Prim.Native.Nat.{◌-◌, ◌≤◌}
+use Prim.Native.Nat.{◌+◌, ◌-◌}
 use lib.Dec.{eqb}
 use mathlib.Core.Bool.{◌&&◌}
 use mathlib.Core.Path.{◌≡◌}
@@ -7,8 +7,6 @@ use Rattle.base.specs.Range.{all}
 use Rattle.blocks.specs.Frame.{zero_at}
 use Rattle.reading.proofs.frame.all_zero.Given as goal
 
-abbrev pub invariant-loop-i : goal.invariant-loop-i
-invariant-loop-i l = (l.i ≤ l.to) × (all (zero_at l.s) l.from (l.to - l.from) ≡ eqb l.found 0 && all (zero_at l.s) l.i (l.to - l.i))
-
-abbrev pub decreases-loop-i : goal.decreases-loop-i
-decreases-loop-i l = l.to - l.i
+abbrev pub invariant-loop-b : goal.invariant-loop-b
+invariant-loop-b l =
+    all (zero_at l.s) l.from (l.to - l.from) ≡ eqb l.found 0 && all (zero_at l.s) (l.from + l.b-index) (l.to - (l.from + l.b-index))

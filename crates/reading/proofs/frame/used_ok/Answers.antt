@@ -8,14 +8,14 @@ pub returns-then-i-n : goal.returns-then-i-n
 unfolding used_ok
 returns-then-i-n c = simp (used_ok, ← add-one, lt-ltb c.if-i-n.true)
 
-pub returns-then-used-gt63 : goal.returns-then-used-gt63
-unfolding used_ok
-returns-then-used-gt63 c = simp (used_ok, ← add-one, ge-ltb c.if-i-n.false, gt-leb c.if-used-gt63.true)
-
 pub returns-then-used-gt0 : goal.returns-then-used-gt0
 unfolding used_ok
-returns-then-used-gt0 c = simp (used_ok, ← add-one, ge-ltb c.if-i-n.false, le-leb c.if-used-gt63.false, lt-ltb c.if-used-gt0.true)
+returns-then-used-gt0 c = simp (used_ok, ← add-one, ge-ltb c.if-i-n.false, le-leb c.if-used-le63.true, lt-ltb c.if-used-gt0.true)
 
-pub returns : goal.returns
+pub returns-else-used-gt0 : goal.returns-else-used-gt0
 unfolding used_ok
-returns c = simp (used_ok, ← add-one, ge-ltb c.if-i-n.false, le-leb c.if-used-gt63.false, ge-ltb c.if-used-gt0.false)
+returns-else-used-gt0 c = simp (used_ok, ← add-one, ge-ltb c.if-i-n.false, le-leb c.if-used-le63.true, ge-ltb c.if-used-gt0.false)
+
+pub returns-else-used-le63 : goal.returns-else-used-le63
+unfolding used_ok
+returns-else-used-le63 c = simp (used_ok, ← add-one, ge-ltb c.if-i-n.false, gt-leb c.if-used-le63.false)

@@ -1,60 +1,71 @@
-use Prim.Native.Nat.{◌+◌, ◌-◌, ◌≤◌}
-use lib.ListN.{length-set}
-use mathlib.Core.Path.{◌∙◌, ◌≡◌, refl, sym}
-use native.Mathlib.Omega.{arith}
-use Rattle.blocks.proofs.Refusing.Blockwise.{at_first, at_next, in_block}
-use Rattle.blocks.proofs.Refusing.LevelLaws.{entries-end, entries-later, entries-sooner, levels-start}
-use Rattle.blocks.specs.code.Blockwise.{next_count}
-use Rattle.reading.proofs.rules.fault_by_levels.Goals.{After-next_count-count}
+use Rattle.std.proofs.Common.{◌≡◌, ◌+◌, ◌-◌, sym, ◌++◌, ◌∷◌, [], ap, length, length-take, ◌∙◌, arith}
+use Rattle.std.proofs.lemmas.List.{length_push}
+use Rattle.blocks.proofs.Refusing.InOrder.{Turn, may-number, over-numbered, turn-numbered, turned-all-numbered}
+use Rattle.blocks.proofs.Refusing.LevelLaws.{entries-end, entries-found, entries-more, level-small, levels-more, levels-start, level-passed}
+use Rattle.blocks.specs.Entries.{entry_from}
 use Rattle.reading.proofs.rules.fault_by_levels.Goals as goal
+use Rattle.reading.proofs.rules.fault_by_levels.Goals.{In-Some}
 
--- the block ends with the last entry or before
-count-within : (c : After-next_count-count) → c.loop-n.n + 1 + c.next_count-count.result ≤ c.args.total + 1
-unfolding next_count
-count-within c = omega (arith, c.next_count-count.ensures, c.if-total-n.false)
+-- the turn: which entry it has
+here : (c : In-Some) → (c.in-Some.before ≡ length c.loop-before.yielded) × Turn c.args.s.now c.args.total c.in-Some.before (entry_from c.in-Some.bytes.now 0)
+here c =
+    let l = c.loop-before in
+    turn-numbered l.invariant.over l.yielded l.before-iterator l.yielded_by c.next.result c.next.new.self c.in-Some.before c.in-Some.bytes c.in-Some.is c.next.ensures.steps
 
-pub loop-n-init : goal.loop-n-init
-loop-n-init c =
+pub loop-before-init : goal.loop-before-init
+loop-before-init c =
+    let n = c.enumerate-before-items.ensures in
+    let o = over-numbered c.requires.2 (omega (arith, c.requires.0)) c.entries_in_order.ensures.items n.source n.count c.into_iter-before-iterator.ensures.into_iter_gives in
     let e : c.args.total + 1 - 1 ≡ c.args.total = omega arith in
-    (at_first, levels-start _ _ c.args.level.now (omega (arith, c.requires.0, c.requires.3)), refl, rw e)
+    record {
+      goes = (tt, tt, may-number o (omega arith));
+      ends = tt;
+      over = o;
+      levels = levels-start _ _ c.args.level.now (omega (arith, c.requires.0, c.requires.3));
+      rest = rw e;
+    }
 
-pub fault_in_block-found-requires : goal.fault_in_block-found-requires
-fault_in_block-found-requires c =
-    let p = c.requires in
-    let l = c.loop-n.invariant in
-    (omega (arith, p.0, p.1), in_block l.0 (omega (arith, c.if-total-n.false)) c.next_count-count.ensures p.0 p.2, l.1)
+pub overflow_cast-result : goal.overflow_cast-result
+overflow_cast-result c = let h = here (goal.at.overflow_cast-result c).In-Some in omega (arith, c.requires.1, h.1.before)
 
-pub overflow_add-n : goal.overflow_add-n
-overflow_add-n c = omega (arith, count-within (goal.at.overflow_add-n c).After-next_count-count, c.requires.1)
+pub returns-then-number-ne0 : goal.returns-then-number-ne0
+returns-then-number-ne0 c =
+    let h = here (goal.at.returns-then-number-ne0 c).In-Some in
+    let i = c.loop-before.invariant in
+    sym (i.rest ∙ (rw (← h.0) (entries-found _ _ _ _ (rw (← h.0) at i.levels) (omega arith) (c.from-e.ensures ∙ h.1.entry) (c.owner_level-l.ensures ∙ level-passed _ _ _) c.entry_refusal-number.ensures c.args.total (omega (arith, h.1.before)) c.if-number-ne0.true)))
 
-pub overflow_add-at : goal.overflow_add-at
-overflow_add-at c = omega (arith, c.loop-n.invariant.0.start, c.if-total-n.false, c.requires.1)
+pub slice_bounds-owner_level-end : goal.slice_bounds-owner_level-end
+slice_bounds-owner_level-end c =
+    let h = here (goal.at.slice_bounds-owner_level-end c).In-Some in
+    omega (arith, c.requires.0, h.1.before, c.loop-before.invariant.levels.room)
 
-pub loop-n-smaller : goal.loop-n-smaller
-unfolding next_count
-loop-n-smaller c = omega (arith, c.next_count-count.ensures, c.if-total-n.false)
+pub slice_bounds-owner_level-end-in-loop-before : goal.slice_bounds-owner_level-end-in-loop-before
+slice_bounds-owner_level-end-in-loop-before c =
+    let h = here (goal.at.slice_bounds-owner_level-end-in-loop-before c).In-Some in
+    omega (arith, length-take (c.in-Some.before + 1) c.loop-before.level, c.requires.0, h.1.before, c.loop-before.invariant.levels.room)
 
-pub loop-n-preserved : goal.loop-n-preserved
-loop-n-preserved c =
-    let l = c.loop-n in
-    let f = c.fault_in_block-found.ensures in
-    let z = c.in-Clean.is in
-    let e : l.n + c.next_count-count.result + 1 ≡ l.n + 1 + c.next_count-count.result = omega arith in (
-      at_next l.invariant.0 (omega (arith, c.if-total-n.false)) c.next_count-count.ensures,
-      f.1 z,
-      omega (arith, c.fault_in_block-found.auto, l.invariant.2),
-      l.invariant.3 ∙ entries-later _ _ _ _ _ (count-within (goal.at.loop-n-preserved c).After-next_count-count) f.0 z ∙ rw e,
-    )
+pub bounds-level-n : goal.bounds-level-n
+bounds-level-n c =
+    let h = here (goal.at.bounds-level-n c).In-Some in
+    omega (arith, c.requires.0, h.0, h.1.before, c.loop-before.invariant.levels.room)
 
-pub shape_of-level-then-total-n : goal.shape_of-level-then-total-n
-shape_of-level-then-total-n c = c.loop-n.invariant.2 ∙ length-set c.args.level.now 0 1
+pub loop-before-preserved : goal.loop-before-preserved
+loop-before-preserved c =
+    let h = here (goal.at.loop-before-preserved c).In-Some in
+    let i = c.loop-before.invariant in
+    let t = rw (← h.0) at i.levels in
+    let small = level-small _ _ _ _ t (omega arith) (c.from-e.ensures ∙ h.1.entry) (c.owner_level-l.ensures ∙ level-passed _ _ _) c.entry_refusal-number.ensures c.if-number-ne0.false in
+    let n : length (c.loop-before.yielded ++ (c.in-Some.before, c.in-Some.bytes) ∷ []) ≡ c.in-Some.before + 1 = length_push c.loop-before.yielded (c.in-Some.before, c.in-Some.bytes) ∙ ap (λ k. k + 1) (sym h.0) in
+    record {
+      goes = c.in-Some.ensures.goes.keeps;
+      ends = tt;
+      over = i.over;
+      levels = rw n (levels-more _ _ _ _ t (omega arith) (c.from-e.ensures ∙ h.1.entry) (c.owner_level-l.ensures ∙ level-passed _ _ _) c.entry_refusal-number.ensures c.if-number-ne0.false (omega (arith, h.1.before, c.requires.0)) (c.level_under.ensures (omega (arith, small))));
+      rest = rw n (i.rest ∙ rw (← h.0) (entries-more _ _ _ _ t (omega arith) (c.from-e.ensures ∙ h.1.entry) (c.owner_level-l.ensures ∙ level-passed _ _ _) c.entry_refusal-number.ensures c.args.total (omega (arith, h.1.before)) c.if-number-ne0.false));
+    }
 
-pub shape_of-level-in-Faulty : goal.shape_of-level-in-Faulty
-shape_of-level-in-Faulty c = omega (arith, c.fault_in_block-found.auto, c.loop-n.invariant.2, length-set c.args.level.now 0 1)
-
-pub returns-then-total-n : goal.returns-then-total-n
-returns-then-total-n c = sym (c.loop-n.invariant.3 ∙ entries-end _ _ _ _ (omega (arith, c.if-total-n.true)))
-
-pub returns-in-Faulty : goal.returns-in-Faulty
-returns-in-Faulty c =
-    sym (c.loop-n.invariant.3 ∙ entries-sooner _ _ _ _ _ (count-within (goal.at.returns-in-Faulty c).After-next_count-count) c.fault_in_block-found.ensures.0 c.in-Faulty.is)
+pub returns : goal.returns
+returns c =
+    let l = c.loop-before in
+    let n = turned-all-numbered l.invariant.over l.yielded l.before-iterator l.yielded_by c.next.result c.next.new.self c.in-None.is c.next.ensures.steps in
+    sym (l.invariant.rest ∙ entries-end _ _ _ _ (omega (arith, n)))

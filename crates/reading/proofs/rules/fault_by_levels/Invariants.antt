@@ -1,16 +1,17 @@
--- `fault_by_levels` meets its contract: what the whole search finds is what the search of the blocks left finds.
-use Prim.Native.Nat.{◌+◌, ◌-◌}
-use lib.ListN.{length}
-use mathlib.Core.Path.{◌≡◌}
+-- `fault_by_levels` meets its contract: the table holds the levels of the entries passed, and what the whole search finds is what the search
+-- of the entries left finds.
+use Rattle.std.proofs.Common.{◌≡◌, ◌+◌, ◌-◌, length}
+use Rattle.blocks.proofs.Refusing.InOrder.{OverNumbered}
 use Rattle.blocks.specs.Entries.{entries_of}
 use Rattle.blocks.specs.Faults.{first}
-use Rattle.blocks.specs.code.Blockwise.{AtBlock}
 use Rattle.blocks.specs.code.ReadingSteps.{Levels, rule_faults}
 use Rattle.reading.proofs.rules.fault_by_levels.Given as goal
 
-abbrev pub invariant-loop-n : goal.invariant-loop-n
-invariant-loop-n l = AtBlock l.total l.n l.at × Levels l.schema (entries_of l.s) l.level (l.n + 1) × (length l.level ≡ length l.initial.level)
-    × (first (rule_faults l.schema (entries_of l.s) 1 l.total) ≡ first (rule_faults l.schema (entries_of l.s) (l.n + 1) (l.total + 1 - (l.n + 1))))
-
-abbrev pub decreases-loop-n : goal.decreases-loop-n
-decreases-loop-n l = l.total - l.n
+abbrev pub invariant-loop-before : goal.invariant-loop-before
+invariant-loop-before l = record {
+  goes : (goal.iterator-loop-before).can_next l.before-iterator;
+  ends : (goal.iterator-loop-before).is_finite l.before-iterator;
+  over : OverNumbered l.s l.total l.initial.before-iterator;
+  levels : Levels l.schema (entries_of l.s) l.level (length l.yielded + 1);
+  rest : first (rule_faults l.schema (entries_of l.s) 1 l.total) ≡ first (rule_faults l.schema (entries_of l.s) (length l.yielded + 1) (l.total + 1 - (length l.yielded + 1)));
+}

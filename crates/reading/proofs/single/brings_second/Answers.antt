@@ -2,7 +2,7 @@
 use Rattle.std.proofs.Common.{ap, not}
 use lib.ListN.{length-set}
 use mathlib.Core.Bool.{true}
-use mathlib.Core.Path.{◌∙◌, ◌≡◌, refl, sym}
+use mathlib.Core.Path.{◌≡◌, refl}
 use Rattle.base.proofs.Tests.{both_ways, confirmed, refuted}
 use Rattle.blocks.proofs.Refusing.SingleLaws.{nine-many, nine-other}
 use Rattle.blocks.proofs.Refusing.SingleTable.{free-first, kept_more, kept-other, taken-second}
@@ -29,16 +29,16 @@ group c = confirmed c.single_group.ensures (ap not c.if-not-single_group.false)
 ends : (c : After-cell_for-c) → (let a = c.args in Ends a.cells.now a.most (key_of a.e) c.cell_for-c.result)
 ends c = rw (← c.key_of-key.ensures.0) c.cell_for-c.ensures.0
 
-pub returns-then-key_at-ne0 : goal.returns-then-key_at-ne0
-returns-then-key_at-ne0 c =
+pub returns-then-cells-c-ne0 : goal.returns-then-cells-c-ne0
+returns-then-cells-c-ne0 c =
     λ es n at K. (
-      taken-second K at (group (goal.at.returns-then-key_at-ne0 c).After-cell_for-c) c.key_of-key.ensures.1 (ends (goal.at.returns-then-key_at-ne0 c).After-cell_for-c) c.if-e-gt0.false (λ z. c.if-key_at-ne0.true (c.key_at.ensures ∙ z)),
+      taken-second K at (group (goal.at.returns-then-cells-c-ne0 c).After-cell_for-c) c.key_of-key.ensures.1 (ends (goal.at.returns-then-cells-c-ne0 c).After-cell_for-c) c.if-e-gt0.false (c.if-cells-c-ne0.true),
       λ z. both_ways refl z,
     )
 
 pub returns : goal.returns
 returns c =
-    let free = sym c.key_at.ensures ∙ c.if-key_at-ne0.false in
+    let free = c.if-cells-c-ne0.false in
     λ es n at K. (
       free-first K at (group (goal.at.returns c).After-cell_for-c) c.key_of-key.ensures.1 (ends (goal.at.returns c).After-cell_for-c) c.if-e-gt0.false free,
       λ z. rw c.key_of-key.ensures.0 (kept_more K at (group (goal.at.returns c).After-cell_for-c) c.key_of-key.ensures.1 (ends (goal.at.returns c).After-cell_for-c) free c.cell_for-c.ensures.1),

@@ -1,62 +1,56 @@
-use Prim.Native.Nat.{◌+◌, ◌≤◌}
-use mathlib.Core.Path.{◌∙◌, ◌≡◌, sym}
-use native.Mathlib.Omega.{arith}
-use Rattle.base.proofs.SearchLaws.{first-end, first-later, first-sooner}
-use Rattle.blocks.proofs.Refusing.Blockwise.{at_next, in-front}
-use Rattle.blocks.proofs.Refusing.SingleSearch.{double-after}
-use Rattle.blocks.specs.code.Blockwise.{next_count}
-use Rattle.reading.proofs.single.double_by.Goals.{After-next_count-count}
+use Rattle.std.proofs.Common.{◌≡◌, ◌+◌, ◌-◌, sym, ◌++◌, ◌∷◌, [], ap, length, ◌∙◌, arith}
+use Rattle.std.proofs.lemmas.List.{length_push}
+use Rattle.base.proofs.SearchLaws.{first-end, first_goes, first_stops}
+use Rattle.base.proofs.Tests.{false_of_not, true_of_not}
+use Rattle.blocks.proofs.Refusing.InOrder.{Turn, may-number, over-numbered, turn-numbered, turned-all-numbered}
+use Rattle.blocks.proofs.Refusing.SingleSearch.{no_place, place-is}
+use Rattle.blocks.proofs.Refusing.SingleTable.{kept-room}
+use Rattle.blocks.specs.Entries.{entry_from}
 use Rattle.reading.proofs.single.double_by.Goals as goal
+use Rattle.reading.proofs.single.double_by.Goals.{In-Some}
 
--- the block ends with the last entry or before
-count-within : (c : After-next_count-count) → c.loop-done.done + 1 + c.next_count-count.result ≤ c.args.n + 1
-unfolding next_count
-count-within c = omega (arith, c.next_count-count.ensures, c.if-n-done.false)
+-- the turn: which entry it has
+here : (c : In-Some) → (c.in-Some.before ≡ length c.loop-before.yielded) × Turn c.args.s.now c.args.n c.in-Some.before (entry_from c.in-Some.bytes.now 0)
+here c =
+    let l = c.loop-before in
+    turn-numbered l.invariant.over l.yielded l.before-iterator l.yielded_by c.next.result c.next.new.self c.in-Some.before c.in-Some.bytes c.in-Some.is c.next.ensures.steps
 
-pub loop-done-init : goal.loop-done-init
-loop-done-init c =
+pub loop-before-init : goal.loop-before-init
+loop-before-init c =
     let p = c.requires in
-    (p.0.block, p.2, double-after p.0)
+    let n = c.enumerate-before-items.ensures in
+    let o = over-numbered p.2 p.0 c.entries_in_order.ensures.items n.source n.count c.into_iter-before-iterator.ensures.into_iter_gives in
+    let e : c.args.n + 1 - 1 ≡ c.args.n = omega arith in
+    record { goes = (tt, tt, may-number o (omega arith)); ends = tt; over = o; kept = p.4; rest = rw e }
 
-pub double_in_block-found-requires : goal.double_in_block-found-requires
-double_in_block-found-requires c =
-    let p = c.requires in
-    (p.0.few, in-front c.loop-done.invariant.0 (omega (arith, c.if-n-done.false)) c.next_count-count.ensures p.0.within p.0.whole, omega (arith, count-within (goal.at.double_in_block-found-requires c).After-next_count-count, p.1), c.loop-done.invariant.1)
+pub brings_second-requires : goal.brings_second-requires
+brings_second-requires c =
+    let h = here (goal.at.brings_second-requires c).In-Some in
+    kept-room c.loop-before.invariant.kept (omega (arith, h.0, h.1.before, c.requires.3))
 
-pub overflow_add-done : goal.overflow_add-done
-overflow_add-done c =
-    let p = c.requires in
-    omega (arith, count-within (goal.at.overflow_add-done c).After-next_count-count, p.0.within, p.0.few)
+pub loop-before-preserved : goal.loop-before-preserved
+loop-before-preserved c =
+    let h = here (goal.at.loop-before-preserved c).In-Some in
+    let i = c.loop-before.invariant in
+    let f = c.brings_second.ensures _ _ (c.from.ensures ∙ h.1.entry) (rw (← h.0) at i.kept) in
+    let n : length (c.loop-before.yielded ++ (c.in-Some.before, c.in-Some.bytes) ∷ []) ≡ c.in-Some.before + 1 = length_push c.loop-before.yielded (c.in-Some.before, c.in-Some.bytes) ∙ ap (λ k. k + 1) (sym h.0) in
+    record {
+      goes = c.in-Some.ensures.goes.keeps;
+      ends = tt;
+      over = i.over;
+      kept = rw n (f.1 c.if-brings_second.false);
+      rest = rw n (i.rest ∙ rw (← h.0) (first_goes _ _ _ (omega (arith, h.1.before)) (true_of_not _ (sym f.0 ∙ c.if-brings_second.false))));
+    }
 
-pub overflow_add-at : goal.overflow_add-at
-overflow_add-at c =
-    let p = c.requires in
-    omega (arith, c.loop-done.invariant.0.start, c.if-n-done.false, p.0.within, p.0.few)
+pub returns-then-brings_second : goal.returns-then-brings_second
+returns-then-brings_second c =
+    let h = here (goal.at.returns-then-brings_second c).In-Some in
+    let i = c.loop-before.invariant in
+    let f = c.brings_second.ensures _ _ (c.from.ensures ∙ h.1.entry) (rw (← h.0) at i.kept) in
+    place-is _ _ (i.rest ∙ rw (← h.0) (first_stops _ _ _ (omega (arith, h.1.before)) (false_of_not _ (sym f.0 ∙ c.if-brings_second.true)))) (omega arith)
 
-pub loop-done-smaller : goal.loop-done-smaller
-unfolding next_count
-loop-done-smaller c =
-    omega (arith, c.next_count-count.ensures, c.if-n-done.false)
-
-pub loop-done-preserved : goal.loop-done-preserved
-loop-done-preserved c =
-    let l = c.loop-done in
-    let e : l.done + c.next_count-count.result + 1 ≡ l.done + 1 + c.next_count-count.result = omega arith in (
-      at_next l.invariant.0 (omega (arith, c.if-n-done.false)) c.next_count-count.ensures,
-      c.double_in_block-found.ensures.1 c.if-found-ne0.false,
-      l.invariant.2 ∙ first-later _ _ _ _ (omega arith) (count-within (goal.at.loop-done-preserved c).After-next_count-count) (sym c.double_in_block-found.ensures.0 ∙ c.if-found-ne0.false) ∙ rw e,
-    )
-
-pub shape_of-cells-then-n-done : goal.shape_of-cells-then-n-done
-shape_of-cells-then-n-done c = omega (arith, c.loop-done.invariant.1.size, c.requires.2.size)
-
-pub shape_of-cells-then-found-ne0 : goal.shape_of-cells-then-found-ne0
-shape_of-cells-then-found-ne0 c =
-    omega (arith, c.double_in_block-found.auto, c.loop-done.invariant.1.size, c.requires.2.size)
-
-pub returns-then-n-done : goal.returns-then-n-done
-returns-then-n-done c = sym (c.loop-done.invariant.2 ∙ first-end _ _ _ (omega (arith, c.if-n-done.true)))
-
-pub returns-then-found-ne0 : goal.returns-then-found-ne0
-returns-then-found-ne0 c =
-    sym (c.loop-done.invariant.2 ∙ first-sooner _ _ _ _ (count-within (goal.at.returns-then-found-ne0 c).After-next_count-count) c.double_in_block-found.ensures.0 c.if-found-ne0.true)
+pub returns : goal.returns
+returns c =
+    let l = c.loop-before in
+    let n = turned-all-numbered l.invariant.over l.yielded l.before-iterator l.yielded_by c.next.result c.next.new.self c.in-None.is c.next.ensures.steps in
+    no_place (l.invariant.rest ∙ first-end _ _ _ (omega (arith, n)))

@@ -4,7 +4,6 @@ use lib.ListN.{length-replicate}
 use native.Mathlib.Omega.{arith}
 use Rattle.slots.proofs.FailingLaws.{accepted-few}
 use Rattle.slots.proofs.PassLaws.{blank-zeros}
-use Rattle.slots.proofs.failing.JudgingLaws.{chained-held}
 use Rattle.slots.proofs.filling.FillingLaws.{workspace-zeros}
 use Rattle.slots.proofs.catalogue.judge_all.Goals as goal
 
@@ -12,27 +11,13 @@ pub chained_slots-used-requires : goal.chained_slots-used-requires
 chained_slots-used-requires c =
     let p = c.requires in
     let few = accepted-few 1 _ p.3 in (
-      p.0,
-      few,
-      omega (arith, few.1, length-replicate {A = ℕ} 1009 0),
-      workspace-zeros _ 1009 4093 (omega (arith, few.1)) (omega arith),
-      blank-zeros _ 1009 (omega (arith, few.1)),
-      blank-zeros _ 1009 (omega (arith, few.1)),
+      omega arith,
+      (
+        p.0,
+        few,
+        omega (arith, few.1, length-replicate {A = ℕ} 1009 0),
+        workspace-zeros _ 1009 4093 (omega (arith, few.1)) (omega arith) (omega arith),
+        blank-zeros _ 1009 (omega (arith, few.1)),
+        blank-zeros _ 1009 (omega (arith, few.1)),
+      ),
     )
-
-pub judge_parts-requires : goal.judge_parts-requires
-judge_parts-requires c =
-    let p = c.requires in
-    let s = c.chained_slots-used in (
-      p.0,
-      p.1,
-      record { supplier = c.args.c.now; held = chained-held s.ensures },
-      omega (arith, s.auto, length-replicate {A = ℕ} 1009 0),
-      p.2,
-      omega (arith, length-replicate {A = ℕ} 8192 0),
-      omega (arith, length-replicate {A = ℕ} 1009 0),
-      p.4,
-    )
-
-pub returns : goal.returns
-returns c = c.judge_parts.ensures c.args.c.now (chained-held c.chained_slots-used.ensures)

@@ -12,8 +12,5 @@ returns-then-list-ne0 c = list-broken c.args.pairs.now c.args.dictionary.now c.a
 pub returns-then-parts_in-gt64 : goal.returns-then-parts_in-gt64
 returns-then-parts_in-gt64 c = list-many c.args.pairs.now c.args.dictionary.now c.args.c.now c.args.list.now c.args.answers.now c.if-list-eq0.false c.if-list-ne0.false c.parts_in.ensures c.if-parts_in-gt64.true
 
-pub judge_all-requires : goal.judge_all-requires
-judge_all-requires c = let p = c.requires in (p.0, p.1, p.2, p.3, omega (arith, c.if-parts_in-gt64.false, c.parts_in.ensures))
-
 pub returns : goal.returns
 returns c = list-judged c.args.pairs.now c.args.dictionary.now c.args.c.now c.args.list.now c.args.answers.now c.if-list-eq0.false c.if-list-ne0.false c.parts_in.ensures (omega (arith, c.if-parts_in-gt64.false)) c.judge_all.ensures

@@ -3,6 +3,7 @@ use Prim.Native.Nat.{◌-◌, ℕ}
 use lib.ListN.{length}
 use mathlib.Core.List.{List}
 use mathlib.Core.Path.{◌≡◌}
+use Rattle.lists.proofs.LoopLaws.{Reached}
 use Rattle.pairs.specs.Pairs.{under}
 use Rattle.slots.proofs.catalogue.CatalogueLaws.{Passing}
 use Rattle.slots.specs.code.Tables.{Held}
@@ -10,7 +11,8 @@ use Rattle.slots.proofs.catalogue.judge_parts.Given as goal
 
 abbrev pub invariant-loop-at : goal.invariant-loop-at
 invariant-loop-at l = (length l.buffer ≡ length l.initial.buffer) × (length l.states ≡ length l.initial.states)
-    × ((s : List ℕ) → Held (under l.pairs) s l.used l.table l.next l.head l.bad → Passing l.pairs l.dictionary s l.list l.initial.answers l.at l.n l.answers)
+    × Reached l.list l.at l.n
+    × ((s : List ℕ) → Held (under l.pairs) s l.supplier.slots.used l.supplier.slots.table.now l.supplier.slots.next.now l.supplier.slots.head.now l.supplier.impossible → Passing l.pairs l.dictionary s l.list l.initial.answers l.at l.n l.answers)
 
 abbrev pub decreases-loop-at : goal.decreases-loop-at
 decreases-loop-at l = length l.list - l.at

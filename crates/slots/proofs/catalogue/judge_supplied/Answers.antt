@@ -2,20 +2,18 @@
 use mathlib.Core.Path.{◌∙◌, ap, sym}
 use native.Mathlib.Omega.{arith}
 use Rattle.blocks.specs.Reading.{reading_of}
+use Rattle.blocks.specs.declared.Reading.TheVariants.{Accepted}
 use Rattle.blocks.specs.declared.Schema.TheVariants.{Description}
 use Rattle.names.proofs.Legality.AcceptedReadings.{sent-accepted}
 use Rattle.slots.proofs.catalogue.CatalogueLaws.{judged-buffer, judged-sent, supplier-read, supplier-refused, taken-by}
 use Rattle.unfolding.proofs.BufferLaws.{blocks-room, unfolded-few}
 use Rattle.slots.proofs.catalogue.judge_supplied.Goals as goal
 
-pub read_sent-reading-requires : goal.read_sent-reading-requires
-read_sent-reading-requires c = c.requires.2
-
 pub judge_cut-requires : goal.judge_cut-requires
 judge_cut-requires c =
     let e = sym c.read_sent-reading.ensures.0 ∙ c.in-Accepted.is in
     let same = judged-sent c.args.dictionary.now c.args.c.now c.if-dictionary-eq0.true in
-    (c.requires.0, c.requires.1, taken-by c.args.dictionary.now 1 c.args.c.now e, ap (reading_of Description 1) same ∙ (sent-accepted c.args.dictionary.now 1 c.args.c.now e 1).0)
+    (c.requires.0, c.requires.1, taken-by c.args.dictionary.now 1 c.args.c.now e, ap (reading_of Description 1) same ∙ (sent-accepted c.args.dictionary.now 1 c.args.c.now e 1).0 ∙ ap Accepted (sym c.from.ensures))
 
 pub returns-then-dictionary-eq0 : goal.returns-then-dictionary-eq0
 returns-then-dictionary-eq0 c =
@@ -33,14 +31,7 @@ judge_cut-requires-in-Accepted c =
     let q = c.in-Accepted.is in
     let e = sym r.0 ∙ q in
     let same = judged-buffer c.args.dictionary.now c.args.c.now _ _ c.if-dictionary-eq0.false c.bytes_for-end.ensures.0 (r.1 _ q) in
-    (c.requires.0, c.requires.1, taken-by c.args.dictionary.now 1 c.args.c.now e, ap (reading_of Description 1) same ∙ (sent-accepted c.args.dictionary.now 1 c.args.c.now e 1).0)
+    (c.requires.0, c.requires.1, taken-by c.args.dictionary.now 1 c.args.c.now e, ap (reading_of Description 1) same ∙ (sent-accepted c.args.dictionary.now 1 c.args.c.now e 1).0 ∙ ap Accepted (sym c.from-in-Accepted.ensures))
 
 pub returns-in-Refused : goal.returns-in-Refused
 returns-in-Refused c = supplier-refused c.args.pairs.now c.args.dictionary.now c.args.c.now c.args.list.now c.args.answers.now c.read_sent-reading.ensures.0 c.in-Refused.is
-
-pub returns-else-dictionary-eq0 : goal.returns-else-dictionary-eq0
-returns-else-dictionary-eq0 c =
-    let r = c.read_sent-reading.ensures in
-    let q = c.in-Accepted.is in
-    let same = judged-buffer c.args.dictionary.now c.args.c.now _ _ c.if-dictionary-eq0.false c.bytes_for-end.ensures.0 (r.1 _ q) in
-    supplier-read c.args.pairs.now c.args.dictionary.now c.args.c.now c.args.list.now c.args.answers.now r.0 q same c.judge_cut-in-Accepted.ensures

@@ -8,6 +8,3 @@ pub failing_indexed-requires : goal.failing_indexed-requires
 failing_indexed-requires c =
     let a = c.requires in
     (index-whole _ a.0 refl (omega (arith, a.0)) c.index_pairs.ensures, a.1)
-
-pub returns : goal.returns
-returns c = c.failing_indexed.ensures

@@ -1,23 +1,29 @@
--- `judge` meets its contract: what is found by the slots of the first is answered.
+-- `judge` meets its contract: its own tables are cleared and long enough, and what is found by the slots of the first is answered.
 use native.Mathlib.Omega.{arith}
 use Rattle.slots.proofs.FailingLaws.{accepted-few}
-use Rattle.slots.proofs.failing.JudgingLaws.{chained-held, judging-found}
+use Rattle.slots.proofs.PassLaws.{blank-zeros}
+use Rattle.slots.proofs.failing.JudgingLaws.{judging-found}
+use Rattle.slots.proofs.filling.FillingLaws.{workspace-zeros}
 use Rattle.slots.proofs.failing.judge.Goals as goal
 
 pub chained_slots-used-requires : goal.chained_slots-used-requires
-chained_slots-used-requires c = let a = c.requires in (a.0, accepted-few 1 _ a.2, a.4, a.5, a.6, a.7)
-
-pub judge_by-e-requires : goal.judge_by-e-requires
-judge_by-e-requires c =
+chained_slots-used-requires g c =
     let a = c.requires in
-    let s = c.chained_slots-used in
-    (a.0, a.1, s.ensures.kept, s.ensures.settled'.tabled.few, omega (arith, a.6.room, s.auto), a.3, a.8)
-
-pub answer_of-requires : goal.answer_of-requires
-answer_of-requires c = (c.judge_by-e.ensures.0, c.chained_slots-used.ensures.settled'.tabled.few)
+    let few = accepted-few 1 _ a.2 in (
+      omega arith,
+      (
+        a.0,
+        few,
+        a.4,
+        workspace-zeros _ _ _ a.5 a.8 a.9,
+        blank-zeros _ _ a.5,
+        blank-zeros _ _ a.5,
+      ),
+    )
 
 pub returns : goal.returns
-returns c =
+returns g c =
     let a = c.requires in
     let s = c.chained_slots-used.ensures in
-    judging-found a.1.lawful _ a.2 a.3 a.4 s (c.judge_by-e.ensures.1 _ (chained-held s)) c.answer_of.ensures
+    let held = c.new-supplier.ensures _ _ s.settled'.tabled (s.settled'.bads 0) in
+    judging-found a.1.lawful _ a.2 a.3 a.4 s (c.judge-e.ensures.2 _ held.1) c.answer_of.ensures

@@ -9,13 +9,13 @@ use Rattle.slots.proofs.states.BoundLaws.{settled-exact, settled-kept}
 use Rattle.slots.proofs.filling.chained_slots.Goals as goal
 
 pub restrict_slots-requires : goal.restrict_slots-requires
-restrict_slots-requires c =
+restrict_slots-requires g c =
     let built = c.build-used.ensures in
     let a = c.requires in
-    (a.0, built.kept, omega (arith, built.few, a.1.0, a.1.1), built-placed (slots-early _) built)
+    (omega (arith, a.3.most, c.told-head), (a.0, built.kept, omega (arith, built.few, a.1.0, a.1.1), built-placed (slots-early _) built))
 
 pub settle-requires : goal.settle-requires
-settle-requires c =
+settle-requires g c =
     let a = c.requires in
     let r = built-restricted c.restrict_slots.ensures c.build-used.ensures in (
       r.kept.room,
@@ -25,7 +25,7 @@ settle-requires c =
     )
 
 pub returns : goal.returns
-returns c =
+returns g c =
     let a = c.requires in
     let r = built-restricted c.restrict_slots.ensures c.build-used.ensures in
     let s = c.settle.ensures in

@@ -1,30 +1,33 @@
 -- `fill_accepted` meets its contract: too short, or cleared and filled.
+use lib.ListN.{length, replicate}
+use mathlib.Core.Path.{◌≡◌}
 use native.Mathlib.Omega.{arith}
-use Rattle.slots.proofs.FailingLaws.{accepted-few}
+use borrow.Author.Rules.{rules}
 use Rattle.pairs.specs.Pairs.{under}
+use Rattle.slots.proofs.FailingLaws.{accepted-few}
+use Rattle.slots.proofs.PassLaws.{blank-zeros}
 use Rattle.slots.proofs.filling.FillingLaws.{filling-accepted, filling-short}
 use Rattle.slots.proofs.filling.fill_accepted.Goals as goal
 
-pub returns-then-smaller-total : goal.returns-then-smaller-total
-returns-then-smaller-total c = filling-short (under _) _ c.requires.1 _ _ _ (omega (arith, c.if-smaller-total.true, c.smaller-2.ensures, c.smaller.ensures))
+pub returns-then-min-total : goal.returns-then-min-total
+returns-then-min-total c = filling-short (under _) _ c.requires.1 _ _ _ (omega (arith, c.if-min-total.true, c.min-2.ensures, c.min.ensures))
 
 pub settled_slots-requires : goal.settled_slots-requires
 settled_slots-requires c =
-    let r = c.if-smaller-total.false in
-    let a = c.smaller-2.ensures in
-    let b = c.smaller.ensures in (
+    let r = c.if-min-total.false in
+    let a = c.min-2.ensures in
+    let b = c.min.ensures in
+    let bad : c.fill.new.self ≡ replicate (length c.args.bad.now) 0 = c.fill.ensures.after (λ y h. search rules) in
+    let full : c.fill-2.new.self ≡ replicate (length c.args.full.now) 0 = c.fill-2.ensures.after (λ y h. search rules) in (
       c.requires.0,
       accepted-few 1 _ c.requires.1,
       omega (arith, r, a, b),
-      record { room = omega (arith, r, a, b, c.clear.auto); zero' = c.clear.ensures },
-      record { room = omega (arith, r, a, b, c.clear-2.auto); zero' = c.clear-2.ensures },
+      rw bad (blank-zeros _ _ (omega (arith, r, a, b))),
+      rw full (blank-zeros _ _ (omega (arith, r, a, b))),
     )
-
-pub overflow_cast-result : goal.overflow_cast-result
-overflow_cast-result c = omega (arith, c.settled_slots.ensures.0.tabled.few)
 
 pub returns : goal.returns
 returns c =
     let s = c.settled_slots in
-    filling-accepted (under _) c.args.d.now c.requires.1 c.args.table.now c.args.bad.now c.args.full.now (omega (arith, c.if-smaller-total.false, c.smaller-2.ensures, c.smaller.ensures)) s.ensures.0 s.ensures.1
-    (omega (arith, s.auto, c.clear.auto)) (omega (arith, s.auto, c.clear-2.auto))
+    filling-accepted (under _) c.args.d.now c.requires.1 c.args.table.now c.args.bad.now c.args.full.now (omega (arith, c.if-min-total.false, c.min-2.ensures, c.min.ensures)) s.ensures.0 s.ensures.1
+    (omega (arith, s.auto, c.fill.ensures.len)) (omega (arith, s.auto, c.fill-2.ensures.len))

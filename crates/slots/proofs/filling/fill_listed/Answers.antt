@@ -8,6 +8,3 @@ pub fill_indexed-requires : goal.fill_indexed-requires
 fill_indexed-requires c =
     let few = c.requires in
     index-whole _ few refl (omega (arith, few)) c.index_pairs.ensures
-
-pub returns : goal.returns
-returns c = c.fill_indexed.ensures

@@ -1,17 +1,13 @@
 -- `judge_plain` meets its contract: refused by its blocks, or judged by its entries; nothing but read where nothing fits the other description.
-use mathlib.Core.Path.{refl}
 use native.Mathlib.Omega.{arith}
 use Rattle.blocks.specs.declared.Schema.TheVariants.{Named}
 use Rattle.reading.proofs.BlocksRead.{blocks-accepted, blocks-refused, blocks-whole}
 use Rattle.slots.proofs.service.JudgedLaws.{plain-broken, plain-refused}
 use Rattle.slots.proofs.service.judge_plain.Goals as goal
 
-pub bounds-bad-0 : goal.bounds-bad-0
-bounds-bad-0 c = omega (arith, c.requires.3)
-
-pub returns-then-bad-ne0 : goal.returns-then-bad-ne0
-returns-then-bad-ne0 c =
-    λ s H. plain-broken c.args.pairs.now s c.args.input c.args.d.now c.requires.1.lawful H refl c.if-bad-ne0.true c.judge_broken.ensures
+pub returns-then-supplier : goal.returns-then-supplier
+returns-then-supplier c =
+    λ s H. plain-broken c.args.pairs.now s c.args.input c.args.d.now c.requires.1.lawful H c.if-supplier.true c.judge_broken.ensures
 
 pub judge_entries-requires : goal.judge_entries-requires
 judge_entries-requires c =
@@ -19,11 +15,8 @@ judge_entries-requires c =
     let r = c.read_blocks-reading.ensures in
     let q = c.in-Accepted.is in
     let w = blocks-whole (Named 0) c.args.input c.args.d.now r q in
-    (p.0, p.1, p.2.held.kept, p.2.held.tabled.few, c.if-bad-ne0.false, blocks-accepted (Named 0) c.args.input c.args.d.now r q, w.0, omega (arith, w.1), w.2, p.4, omega arith)
+    (p.0, p.1, c.if-supplier.false, blocks-accepted (Named 0) c.args.input c.args.d.now r q, w.0, omega (arith, w.1), w.2, p.2, omega arith)
 
 pub returns-in-Refused : goal.returns-in-Refused
 returns-in-Refused c =
     λ s H. plain-refused c.args.pairs.now s c.args.input c.args.d.now (blocks-refused (Named 0) c.args.input c.args.d.now c.read_blocks-reading.ensures c.in-Refused.is)
-
-pub returns-in-Accepted : goal.returns-in-Accepted
-returns-in-Accepted c = c.judge_entries.ensures

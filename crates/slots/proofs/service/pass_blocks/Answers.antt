@@ -1,5 +1,4 @@
 use Prim.Native.Nat.{◌+◌, ◌-◌, ◌≤◌}
-use lib.ListN.{length-set}
 use mathlib.Core.Path.{◌∙◌, ◌≡◌, refl}
 use native.Mathlib.Omega.{arith}
 use Rattle.blocks.proofs.Refusing.Blockwise.{at_first, at_next, in_block}
@@ -14,30 +13,21 @@ count-within : (c : After-next_count-count) → c.loop-n.n + 1 + c.next_count-co
 unfolding next_count
 count-within c = omega (arith, c.next_count-count.ensures, c.if-total-n.false)
 
-pub bounds-states-0 : goal.bounds-states-0
-bounds-states-0 c = omega (arith, c.requires.6)
-
-pub bounds-level-0 : goal.bounds-level-0
-bounds-level-0 c = omega (arith, c.requires.7)
-
 pub loop-n-init : goal.loop-n-init
 loop-n-init c =
     let a = c.args in
     let p = c.requires in
     let e : a.total + 1 - 1 ≡ a.total = omega arith in
-    (at_first, levels-start _ _ a.level.now (omega (arith, p.3, p.7)), refl, refl, rw e, judged-start a.states.now (omega (arith, p.3, p.6)))
+    (at_first, levels-start _ _ a.level.now (omega (arith, p.1, p.5)), refl, refl, rw e, judged-start a.states.now (omega (arith, p.1, p.4)), tt)
 
 pub pass_block-found-requires : goal.pass_block-found-requires
 pass_block-found-requires c =
     let p = c.requires in
     let l = c.loop-n.invariant in
-    (p.0, p.1, p.2, omega (arith, p.3, p.4), in_block l.0 (omega (arith, c.if-total-n.false)) c.next_count-count.ensures p.3 p.5, l.1, l.5)
+    (p.0, omega (arith, p.1, p.2), in_block l.0 (omega (arith, c.if-total-n.false)) c.next_count-count.ensures p.1 p.3, l.1, l.5, l.6)
 
 pub overflow_add-n : goal.overflow_add-n
-overflow_add-n c = omega (arith, count-within (goal.at.overflow_add-n c).After-next_count-count, c.requires.4)
-
-pub overflow_add-at : goal.overflow_add-at
-overflow_add-at c = omega (arith, c.loop-n.invariant.0.start, c.if-total-n.false, c.requires.4)
+overflow_add-n c = omega (arith, count-within (goal.at.overflow_add-n c).After-next_count-count, c.requires.2)
 
 pub loop-n-smaller : goal.loop-n-smaller
 unfolding next_count
@@ -56,24 +46,13 @@ loop-n-preserved c =
       omega (arith, b.auto, l.invariant.3),
       l.invariant.4 ∙ entries-later _ _ _ _ _ (count-within (goal.at.loop-n-preserved c).After-next_count-count) refl f.0 ∙ rw e,
       f.2,
+      f.3,
     )
-
-pub shape_of-states-then-total-n : goal.shape_of-states-then-total-n
-shape_of-states-then-total-n c = c.loop-n.invariant.3 ∙ length-set c.args.states.now 0 0
-
-pub shape_of-level-then-total-n : goal.shape_of-level-then-total-n
-shape_of-level-then-total-n c = c.loop-n.invariant.2 ∙ length-set c.args.level.now 0 1
 
 pub returns-then-total-n : goal.returns-then-total-n
 returns-then-total-n c =
     let l = c.loop-n in
-    (l.invariant.4 ∙ entries-end _ _ _ _ (omega (arith, c.if-total-n.true)), judged-all l.invariant.5 (omega (arith, c.if-total-n.true, l.invariant.0.few)))
-
-pub shape_of-states-in-Faulty : goal.shape_of-states-in-Faulty
-shape_of-states-in-Faulty c = omega (arith, c.pass_block-found.auto, c.loop-n.invariant.3, length-set c.args.states.now 0 0)
-
-pub shape_of-level-in-Faulty : goal.shape_of-level-in-Faulty
-shape_of-level-in-Faulty c = omega (arith, c.pass_block-found.auto, c.loop-n.invariant.2, length-set c.args.level.now 0 1)
+    (l.invariant.4 ∙ entries-end _ _ _ _ (omega (arith, c.if-total-n.true)), judged-all l.invariant.5 (omega (arith, c.if-total-n.true, l.invariant.0.few)), l.invariant.6)
 
 pub returns-in-Faulty : goal.returns-in-Faulty
 returns-in-Faulty c =

@@ -1,39 +1,37 @@
 -- `write_unfolded` meets its contract: what is unfolded is written where there is room.
+use Prim.Native.Nat.{◌*◌, ℕ}
+use lib.ListN.{length}
 use mathlib.Core.List.{List}
-use mathlib.Core.Path.{◌∙◌, ap, refl}
+use mathlib.Core.Path.{◌∙◌, ◌≡◌, ap, sym}
 use native.Mathlib.Omega.{arith}
-use Rattle.blocks.specs.Encoding.{encode}
+use Rattle.blocks.specs.Encoding.{blocks_for, encode}
+use Rattle.blocks.specs.Frame.{plain}
 use Rattle.blocks.specs.declared.Entry.{Entry}
 use Rattle.names.specs.NamedReading.{dictionary_of, plain_of}
-use Rattle.unfolding.proofs.CallLaws.{long-written, short-written, unfolds-few, writes-all, writes-refused, writes_short}
+use Rattle.unfolding.proofs.CallLaws.{unfolds-many, writes-all, writes_short}
 use Rattle.unfolding.specs.Answer.{over}
+use Rattle.unfolding.proofs.calls.write_unfolded.Goals.{In-Accepted}
 use Rattle.unfolding.proofs.calls.write_unfolded.Goals as goal
 
-pub returns-then-write_rows-eq0 : goal.returns-then-write_rows-eq0
-returns-then-write_rows-eq0 c =
+-- the table has as many entries as is answered
+many : (c : In-Accepted) → 512 * blocks_for plain (length c.unfold_read-reading.new.rows) ≡ 512 * blocks_for plain c.in-Accepted.n
+many c =
     let u = c.unfold_read-reading.ensures in
-    let q = c.in-Accepted.is in
-    let w = c.write_rows.ensures in
-    let f = unfolds-few (dictionary_of c.args.dictionary.now) c.args.input c.args.d.now u.0 q in
-    let s = short-written c.args.out.now c.unfold_read-reading.new.rows _ (omega (arith, f, w.0)) f w.1 c.if-write_rows-eq0.true in
-    (writes_short (dictionary_of c.args.dictionary.now) _ _ c.args.out.now u.0 q s.0, w.2 ∙ s.1)
+    let n = unfolds-many (dictionary_of c.args.dictionary.bytes.now) c.args.input c.args.d.now u.0 c.in-Accepted.is in
+    ap (λ (k : ℕ). 512 * blocks_for plain k) (ap length (u.1 _ c.in-Accepted.is) ∙ sym n)
 
-pub returns-in-Refused : goal.returns-in-Refused
-returns-in-Refused c =
-    let u = c.unfold_read-reading.ensures in
-    (writes-refused (dictionary_of c.args.dictionary.now) _ _ c.args.out.now u.0 c.in-Refused.is, refl)
+pub returns-then-not-write_rows : goal.returns-then-not-write_rows
+returns-then-not-write_rows c =
+    let s = c.write_rows.ensures.short c.if-not-write_rows.true in
+    let m = many (goal.at.returns-then-not-write_rows c).In-Accepted in
+    (writes_short (dictionary_of c.args.dictionary.bytes.now) _ _ c.args.out.now c.unfold_read-reading.ensures.0 c.in-Accepted.is (omega (arith, s.0, m)), s.1)
 
-pub returns-else-write_rows-eq0 : goal.returns-else-write_rows-eq0
+pub returns-else-not-write_rows : goal.returns-else-not-write_rows
 unfolding plain_of
-returns-else-write_rows-eq0 c =
+returns-else-not-write_rows c =
     let u = c.unfold_read-reading.ensures in
-    let q = c.in-Accepted.is in
-    let w = c.write_rows.ensures in
-    let f = unfolds-few (dictionary_of c.args.dictionary.now) c.args.input c.args.d.now u.0 q in
-    let s = long-written c.args.out.now c.unfold_read-reading.new.rows _ (omega (arith, f, w.0)) f w.1 c.if-write_rows-eq0.false in (
-      writes-all (dictionary_of c.args.dictionary.now) _ _ c.args.out.now u.0 q s.0,
-      w.2 ∙ s.1 ∙ ap (λ (es : List Entry). over (encode es) c.args.out.now) (u.1 _ q),
+    let s = c.write_rows.ensures.long c.if-not-write_rows.false in
+    let m = many (goal.at.returns-else-not-write_rows c).In-Accepted in (
+      writes-all (dictionary_of c.args.dictionary.bytes.now) _ _ c.args.out.now u.0 c.in-Accepted.is (omega (arith, s.0, m)),
+      s.1 ∙ ap (λ (es : List Entry). over (encode es) c.args.out.now) (u.1 _ c.in-Accepted.is),
     )
-
-pub unfold_read-reading-requires : goal.unfold_read-reading-requires
-unfold_read-reading-requires c = (c.requires.0, c.requires.1, c.requires.2)

@@ -9,10 +9,7 @@ take_entries-requires c =
     let e = c.read_blocks-reading.ensures in
     let q = c.in-Accepted.is in
     let w = blocks-whole _ _ _ e q in
-    (c.requires, w.0, omega (arith, w.1), w.2, blocks-accepted _ _ _ e q)
+    (w.0, omega (arith, w.1), w.2, blocks-accepted _ _ _ e q)
 
 pub returns-in-Refused : goal.returns-in-Refused
-returns-in-Refused c K k m = named-refused K _ _ (rw m at (blocks-refused _ _ _ c.read_blocks-reading.ensures c.in-Refused.is))
-
-pub returns-in-Accepted : goal.returns-in-Accepted
-returns-in-Accepted c = c.take_entries.ensures
+returns-in-Refused c K k = named-refused K _ _ (rw k.many at (blocks-refused _ _ _ c.read_blocks-reading.ensures c.in-Refused.is))

@@ -5,7 +5,7 @@ use Rattle.unfolding.proofs.DictionaryRead.{Passed}
 use Rattle.unfolding.proofs.dictionary.read_parts.Given as goal
 
 abbrev pub invariant-loop-at : goal.invariant-loop-at
-invariant-loop-at l = Passed l.dictionary l.start l.size l.levels l.at l.n
+invariant-loop-at l = Passed l.bytes l.tables l.at
 
 abbrev pub decreases-loop-at : goal.decreases-loop-at
-decreases-loop-at l = length l.dictionary - l.at
+decreases-loop-at l = length l.bytes - l.at

@@ -1,20 +1,17 @@
 -- `check_block` meets its contract: the table holds the levels of the entries passed, what the search of the block finds is what the rest of it
 -- finds, and what the entries come to is what those passed do and what the rest adds.
-use Prim.Native.Nat.{◌+◌, ◌-◌, ◌≤◌}
+use Prim.Native.Nat.{◌+◌, ◌-◌}
 use Rattle.blocks.specs.Entries.{entries_of}
 use Rattle.blocks.specs.Faults.{first}
 use Rattle.blocks.specs.code.ReadingSteps.{Levels, rule_faults}
 use Rattle.blocks.specs.declared.Schema.TheVariants.{Named}
 use Rattle.unfolding.specs.code.Checking.{Gone}
-use Rattle.unfolding.specs.code.Known.{tabled}
+use Rattle.unfolding.specs.code.Known.{levels_in, size_in}
 use lib.ListN.{length}
 use mathlib.Core.Path.{◌≡◌}
 use Rattle.unfolding.proofs.measure.check_block.Given as goal
 
 abbrev pub invariant-loop-i : goal.invariant-loop-i
-invariant-loop-i l = (l.i ≤ l.count) × Levels (Named l.most) (entries_of l.s) l.level (l.done + (l.i + 1)) × (length l.level ≡ length l.initial.level)
-    × (first (rule_faults (Named l.most) (entries_of l.s) (l.done + 1) l.count) ≡ first (rule_faults (Named l.most) (entries_of l.s) (l.done + (l.i + 1)) (l.done + l.count + 1 - (l.done + (l.i + 1)))))
-    × Gone (tabled l.size) (tabled l.levels) (entries_of l.s) l.level l.total l.deep (l.done + l.i)
-
-abbrev pub decreases-loop-i : goal.decreases-loop-i
-decreases-loop-i l = l.count - l.i
+invariant-loop-i l = Levels (Named l.tables.count) (entries_of l.s) l.level (l.done + l.i + 1) × (length l.level ≡ length l.initial.level)
+    × (first (rule_faults (Named l.tables.count) (entries_of l.s) (l.done + 1) l.count) ≡ first (rule_faults (Named l.tables.count) (entries_of l.s) (l.done + l.i + 1) (l.done + l.count + 1 - (l.done + l.i + 1))))
+    × Gone (size_in l.tables.of) (levels_in l.tables.of) (entries_of l.s) l.level l.total l.deep (l.done + l.i)

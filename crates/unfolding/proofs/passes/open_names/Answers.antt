@@ -1,142 +1,77 @@
 use Prim.Native.Nat.{◌+◌, ◌<◌, ℕ}
-use lib.ListN.{get_or, length, length-set}
-use mathlib.Core.List.{List, [], ◌∷◌, map}
-use mathlib.Core.Path.{◌∙◌, ap, refl}
+use lib.ListN.{get_or, length, length-append, length-map, length-set}
+use mathlib.Core.List.{[], ◌∷◌, map}
+use mathlib.Core.Path.{◌∙◌, ◌≡◌, ap, refl, sym}
 use native.Mathlib.Omega.{arith}
 use Rattle.base.proofs.Lists.{zeros-read}
 use Rattle.base.proofs.Tests.{eq-eqb, ne_eqb}
-use Rattle.blocks.specs.declared.Entry.{Entry}
+use Rattle.blocks.specs.Entries.{nth}
 use Rattle.names.specs.NamedReading.{dictionary_of}
 use Rattle.names.specs.Unfold.{owned_by, relocate}
 use Rattle.names.specs.code.Passes.{inside}
-use Rattle.unfolding.proofs.ReplaceLaws.{bound-set, entry-names, entry_next, entry-owner, entry_read, pass-ends, pass-entry, pass-name, pass-starts, passed-within, stood-more, stood-none}
-use Rattle.unfolding.proofs.RowLaws.{rows-length}
-use Rattle.unfolding.specs.code.Rows.{entries_in}
+use Rattle.unfolding.proofs.ReplaceLaws.{bound-set, entry-names, entry_next, entry-owner, entry_read, pass-ends, pass-entry, pass-name, pass-starts, room-entry, room-name, stood-more, stood-none}
+use Rattle.unfolding.specs.code.Rows.{entry_of_row}
+use Rattle.unfolding.proofs.passes.open_names.Goals.{After-entry_of_row-e, then-e-eq9, else-e-eq9}
 use Rattle.unfolding.proofs.passes.open_names.Goals as goal
 
+-- the entry that is read is that of the list
+here : (c : After-entry_of_row-e) → c.entry_of_row-e.result ≡ nth c.args.rows.now (c.loop-i.i + 1)
+here c = entry_read c.numbers-x-items.result.now c.numbers-x-items.ensures.0 c.loop-i.i c.loop-i-test.true c.entry_of_row-e.ensures
+
+there : (c : After-entry_of_row-e) → c.loop-i.i < length c.args.rows.now
+there c = omega (arith, ap length c.numbers-x-items.ensures.0, length-map c.numbers-x-items.result.now entry_of_row, c.loop-i-test.true)
+
 pub loop-i-init : goal.loop-i-init
-loop-i-init c =
-    (omega arith, pass-starts _ refl c.requires.3, refl, refl, refl, (λ j. omega (arith, zeros-read 1009 refl j)), stood-none (λ n. zeros-read 65 refl n), refl, refl)
+loop-i-init c = (rw c.clear.ensures (pass-starts _ refl c.requires.0), (λ j. omega (arith, zeros-read 1009 refl j)), stood-none, refl)
 
-pub bounds-number-wide : goal.bounds-number-wide
-bounds-number-wide c =
-    let l = c.loop-i in
-    let t = c.loop-i-test.true in
-    let es : List Entry = entries_in c.args.rows.now c.args.count in
-    let e = entry_read c.args.rows.now c.args.count l.i t c.requires.1 c.entry_of_row-e.ensures in
-    let there : l.i < length es = omega (arith, rows-length c.args.rows.now c.args.count c.requires.1) in
-    omega (arith, entry-owner es l.i there e c.requires.3, c.wide.ensures.0, c.requires.2, l.invariant.3)
+pub bounds-number-from : goal.bounds-number-from
+bounds-number-from c =
+    let r = (goal.at.bounds-number-from c).After-entry_of_row-e in
+    omega (arith, entry-owner c.args.rows.now c.loop-i.i (there r) (here r) c.requires.0, c.from.ensures, c.numbers-x-items.ensures.1, c.loop-i-test.true)
 
-pub put_name-m-requires : goal.put_name-m-requires
-put_name-m-requires c =
+pub put_name-requires : goal.put_name-requires
+put_name-requires c =
+    let r = (goal.at.put_name-requires c).After-entry_of_row-e in
     let l = c.loop-i in
-    let t = c.loop-i-test.true in
-    let es : List Entry = entries_in c.args.rows.now c.args.count in
-    let e = entry_read c.args.rows.now c.args.count l.i t c.requires.1 c.entry_of_row-e.ensures in
-    let there : l.i < length es = omega (arith, rows-length c.args.rows.now c.args.count c.requires.1) in
     let named = eq-eqb c.if-e-eq9.true in
-    let n = entry-names es l.i there e c.requires.4 named in
-    let room = passed-within (pass-name l.invariant.1 (entry_next es l.i there e) named refl refl refl) in (
-      c.requires.0,
-      n.0,
-      n.1,
-      l.invariant.5 c.wide.result,
-      omega (arith, c.requires.5, l.invariant.4),
-      omega (arith, l.invariant.7),
-      omega (arith, l.invariant.8),
-      l.invariant.6,
-      omega (arith, room, c.requires.6, l.invariant.2),
-      omega (arith, c.requires.7, l.invariant.2),
-    )
-
-pub loop-i-preserved-then-e-eq9 : goal.loop-i-preserved-then-e-eq9
-loop-i-preserved-then-e-eq9 c =
-    let l = c.loop-i in
-    let t = c.loop-i-test.true in
-    let es : List Entry = entries_in c.args.rows.now c.args.count in
-    let e = entry_read c.args.rows.now c.args.count l.i t c.requires.1 c.entry_of_row-e.ensures in
-    let there : l.i < length es = omega (arith, rows-length c.args.rows.now c.args.count c.requires.1) in
-    let named = eq-eqb c.if-e-eq9.true in
-    let p = c.put_name-m.ensures in
-    let o = ap (λ (x : ℕ). get_or l.number x 0) c.wide.ensures.0 in
-    let T = inside (dictionary_of c.args.dictionary.now) in
-    let whole = pass-name l.invariant.1 (entry_next es l.i there e) named p.0 (ap (λ (x : ℕ). map (relocate l.m x) (T c.entry_of_row-e.result.name)) o) p.1 in
-    (omega arith, whole, p.3 ∙ l.invariant.2, l.invariant.3, p.4 ∙ l.invariant.4, (λ j. omega (arith, l.invariant.5 j, p.0)), p.2, p.5 ∙ l.invariant.7, p.6 ∙ l.invariant.8)
+    let n = entry-names c.args.rows.now l.i (there r) (here r) c.requires.1 named in
+    let room = room-name l.invariant.0 (entry_next c.args.rows.now l.i (there r) (here r)) named in
+    (n.0, n.1, l.invariant.1 c.from.result, l.invariant.2, omega (arith, room, c.requires.2))
 
 pub push-requires : goal.push-requires
 push-requires c =
-    let l = c.loop-i in
-    let t = c.loop-i-test.true in
-    let es : List Entry = entries_in c.args.rows.now c.args.count in
-    let e = entry_read c.args.rows.now c.args.count l.i t c.requires.1 c.entry_of_row-e.ensures in
-    let there : l.i < length es = omega (arith, rows-length c.args.rows.now c.args.count c.requires.1) in
-    let other = ne_eqb c.if-e-eq9.false in
-    let room = passed-within (pass-entry l.invariant.1 (entry_next es l.i there e) other (omega (arith, l.invariant.3, c.requires.2)) refl refl) in
-    omega (arith, room, c.requires.6, l.invariant.2)
-
-pub overflow_add-m : goal.overflow_add-m
-overflow_add-m c = omega (arith, passed-within c.loop-i.invariant.1, c.requires.6, c.requires.7)
-
-pub overflow_cast-number : goal.overflow_cast-number
-overflow_cast-number c = omega (arith, passed-within c.loop-i.invariant.1, c.requires.6, c.requires.7)
-
-pub bounds-number-i : goal.bounds-number-i
-bounds-number-i c = omega (arith, c.loop-i-test.true, c.requires.2, c.loop-i.invariant.3)
+    let r = (goal.at.push-requires c).After-entry_of_row-e in
+    let room = room-entry c.loop-i.invariant.0 (entry_next c.args.rows.now c.loop-i.i (there r) (here r)) (ne_eqb c.if-e-eq9.false) in
+    omega (arith, room, c.requires.2)
 
 pub loop-i-preserved : goal.loop-i-preserved
 loop-i-preserved c =
+    let r = (goal.at.loop-i-preserved c).After-entry_of_row-e in
     let l = c.loop-i in
-    let t = c.loop-i-test.true in
-    let es : List Entry = entries_in c.args.rows.now c.args.count in
-    let e = entry_read c.args.rows.now c.args.count l.i t c.requires.1 c.entry_of_row-e.ensures in
-    let there : l.i < length es = omega (arith, rows-length c.args.rows.now c.args.count c.requires.1) in
-    let other = ne_eqb c.if-e-eq9.false in
-    let p = c.push.ensures in
-    let o = ap (λ (x : ℕ). owned_by (get_or l.number x 0) c.entry_of_row-e.result) c.wide.ensures.0 in
-    let long : l.i + 1 < length l.number = omega (arith, l.invariant.3, c.requires.2) in (
-      omega arith,
-      pass-entry l.invariant.1 (entry_next es l.i there e) other long (c.owned.ensures ∙ o) p.0,
-      p.1 ∙ l.invariant.2,
-      simp length-set l.invariant.3,
-      l.invariant.4,
-      bound-set l.number (l.i + 1) (l.m + 1) long l.invariant.5 (omega arith) (omega arith),
-      stood-more l.invariant.6 (c.owned.result ∷ []) p.0,
-      l.invariant.7,
-      l.invariant.8,
-    )
+    let next = entry_next c.args.rows.now l.i (there r) (here r) in
+    elim c.if-e-eq9.branch [
+      | then-e-eq9 w ↦
+          let T = inside (dictionary_of c.args.dictionary.bytes.now) in
+          let o = ap (λ (x : ℕ). map (relocate (length l.out) (get_or l.number x 0)) (T c.entry_of_row-e.result.name)) c.from.ensures in
+          let put = w.out-is ∙ w.put_name.ensures.0 in
+          let long = length-append l.out (map (relocate (length l.out) (get_or l.number c.from.result 0)) (T c.entry_of_row-e.result.name)) in (
+            rw w.number-is (pass-name l.invariant.0 next (eq-eqb w.if-e-eq9.true) o put),
+            (λ j. rw w.number-is (omega (arith, l.invariant.1 j, ap length put, long))),
+            rw (w.stood-is, w.out-is) w.put_name.ensures.1,
+            rw w.number-is l.invariant.3,
+          )
+      | else-e-eq9 w ↦
+          let o = ap (λ (x : ℕ). owned_by (get_or l.number x 0) c.entry_of_row-e.result) c.from.ensures in
+          let put = w.out-is ∙ w.push.ensures in
+          let long : l.i + 1 < length l.number = omega (arith, l.invariant.3, c.numbers-x-items.ensures.1, c.loop-i-test.true) in
+          let n : w.len.result ≡ length c.if-e-eq9.out = w.len.ensures.0 ∙ ap length (sym w.out-is) in
+          let more = length-append l.out (owned_by (get_or l.number c.from.result 0) c.entry_of_row-e.result ∷ []) in (
+            rw w.number-is (pass-entry l.invariant.0 next (ne_eqb w.if-e-eq9.false) long o put n),
+            rw w.number-is (bound-set l.number (l.i + 1) w.len.result long l.invariant.1 (omega (arith, ap length put, more)) (omega (arith, n))),
+            rw w.stood-is (stood-more l.invariant.2 _ put),
+            rw w.number-is (simp length-set l.invariant.3),
+          )
+    ]
 
 pub returns : goal.returns
-returns c =
-    let l = c.loop-i in
-    let e = pass-ends l.invariant.1 (omega (arith, rows-length c.args.rows.now c.args.count c.requires.1)) in
-    (e.0, e.1, l.invariant.2)
-
-pub offset_bounds-rows-i : goal.offset_bounds-rows-i
-offset_bounds-rows-i c = omega (arith, c.loop-i-test.true, c.requires.2)
-
-pub bounds-rows-i : goal.bounds-rows-i
-bounds-rows-i c = omega (arith, c.loop-i-test.true, c.requires.1)
-
-pub overflow_add-i : goal.overflow_add-i
-overflow_add-i c = omega (arith, c.loop-i-test.true, c.requires.2)
-
-pub slice_bounds-put_name-end : goal.slice_bounds-put_name-end
-slice_bounds-put_name-end c = omega (arith, c.loop-i.invariant.7)
-
-pub slice_bounds-put_name-end-then-e-eq9 : goal.slice_bounds-put_name-end-then-e-eq9
-slice_bounds-put_name-end-then-e-eq9 c = omega (arith, c.loop-i.invariant.8)
-
-pub loop-i-smaller-then-e-eq9 : goal.loop-i-smaller-then-e-eq9
-loop-i-smaller-then-e-eq9 c = omega (arith, c.loop-i-test.true)
-
-pub offset_bounds-number-i : goal.offset_bounds-number-i
-offset_bounds-number-i c = omega (arith, c.loop-i-test.true, c.requires.2)
-
-pub loop-i-smaller : goal.loop-i-smaller
-loop-i-smaller c = omega (arith, c.loop-i-test.true)
-
-pub shape_of-inner : goal.shape_of-inner
-shape_of-inner c = c.loop-i.invariant.4
-
-pub shape_of-out : goal.shape_of-out
-shape_of-out c = c.loop-i.invariant.2
+returns c = pass-ends c.loop-i.invariant.0 (omega (arith, ap length c.numbers-x-items.ensures.0, length-map c.numbers-x-items.result.now entry_of_row, c.loop-i-test.false))

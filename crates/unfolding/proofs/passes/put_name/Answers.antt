@@ -1,97 +1,57 @@
 -- `put_name` meets its contract: a name becomes nothing, what stands already, or what the dictionary's bytes give.
-use Prim.Native.Nat.{◌+◌, ◌-◌, ◌≤◌, ℕ}
-use lib.ListN.{length-set}
+use Prim.Native.Nat.{◌<◌, ℕ}
+use lib.ListN.{get_or, length, length-append, length-map}
 use mathlib.Core.List.{List, ◌++◌, append-nil, map}
-use mathlib.Core.Path.{◌∙◌, ap, refl, sym}
+use mathlib.Core.Path.{◌∙◌, ◌≡◌, ap, sym}
 use native.Mathlib.Omega.{arith}
 use Rattle.blocks.specs.declared.Entry.{Entry}
 use Rattle.names.proofs.InPasses.PassStages.{inside-none, inside-stage}
 use Rattle.names.specs.NamedReading.{dictionary_of}
 use Rattle.names.specs.Unfold.{relocate}
 use Rattle.names.specs.code.Passes.{inside}
-use Rattle.unfolding.proofs.ReplaceLaws.{owners-within, stands-again, stands-owners, stood-at, stood-more, stood-now}
-use Rattle.unfolding.proofs.RowLaws.{rows-length}
-use Rattle.unfolding.specs.code.Known.{tabled}
-use Rattle.unfolding.specs.code.Rows.{entries_in}
+use Rattle.unfolding.proofs.ReplaceLaws.{owners-within, stands-again, stands-owners, stood-more, stood-now}
+use Rattle.std.proofs.Common.{None}
+use Rattle.unfolding.specs.code.Replacing.{StandsAt}
+use Rattle.unfolding.proofs.passes.put_name.Goals.{In-Some}
 use Rattle.unfolding.proofs.passes.put_name.Goals as goal
 
-pub bounds-size-i : goal.bounds-size-i
-bounds-size-i c = omega (arith, c.wide-i.ensures.0, c.requires.2, c.requires.0.sized.few)
+pub returns-then-size-eq0 : goal.returns-then-size-eq0
+returns-then-size-eq0 c =
+    let D = c.args.dictionary in
+    let Z = D.ready.known.sized in
+    let K = dictionary_of D.bytes.now in
+    let none = inside-none K Z.each c.args.n (sym (Z.sizes c.args.n (omega (arith, c.requires.1, Z.few))) ∙ sym c.size.ensures ∙ c.if-size-eq0.true) in
+    rw none (sym (append-nil c.args.out.now), c.requires.3)
 
-pub returns-then-size-i-eq0 : goal.returns-then-size-i-eq0
-returns-then-size-i-eq0 c =
-    let Z = c.requires.0.sized in
-    let K = dictionary_of c.args.dictionary.now in
-    let w = c.wide-i.ensures.0 in
-    let es : List Entry = entries_in c.args.out.now c.args.m in
-    let few = rows-length c.args.out.now c.args.m (omega (arith, c.requires.8)) in
-    let none = inside-none K Z.each c.args.n (sym (Z.sizes c.args.n (omega (arith, c.requires.2, Z.few))) ∙ ap (tabled c.args.size.now) (sym w) ∙ c.if-size-i-eq0.true) in
-    rw none (omega arith, sym (append-nil es), c.requires.7, refl, refl, refl, refl)
-
-pub bounds-count-i : goal.bounds-count-i
-bounds-count-i c = omega (arith, c.wide-i.ensures.0, c.requires.2, c.requires.0.sized.few, c.requires.6)
-
-pub bounds-first-i : goal.bounds-first-i
-bounds-first-i c = omega (arith, c.wide-i.ensures.0, c.requires.2, c.requires.0.sized.few, c.requires.5)
+-- the place where it stands
+place : (c : In-Some) → StandsAt (inside (dictionary_of c.args.dictionary.bytes.now) c.args.n) c.in-Some.place.first c.in-Some.place.count c.args.out.now
+place c = c.requires.3.put c.args.n c.in-Some.place (ap (λ (i : ℕ). get_or c.args.stood.now i None) (sym c.from-i.ensures) ∙ c.in-Some.is)
 
 pub put_again-requires : goal.put_again-requires
 put_again-requires c =
-    let Z = c.requires.0.sized in
-    let K = dictionary_of c.args.dictionary.now in
-    let w = c.wide-i.ensures.0 in
-    let es : List Entry = entries_in c.args.out.now c.args.m in
-    let few = rows-length c.args.out.now c.args.m (omega (arith, c.requires.8)) in
-    let S = stood-at c.requires.7 c.args.n w c.wide-k.ensures.0 c.if-k-ne0.true c.wide.ensures.0 in
-    (omega (arith, S.within, few), omega (arith, S.long, c.requires.8), c.requires.9, stands-owners S (owners-within (inside K c.args.n) (inside-stage K Z.each c.args.n).owner))
+    let D = c.args.dictionary in
+    let K = dictionary_of D.bytes.now in
+    let S = place (goal.at.put_again-requires c).In-Some in
+    let w = owners-within (inside K c.args.n) (inside-stage K D.ready.known.sized.each c.args.n).owner in
+    rw (c.from.ensures, c.from-in-Some.ensures) (S.within, omega (arith, S.long, c.requires.4), stands-owners S w)
 
-pub overflow_add-result : goal.overflow_add-result
-overflow_add-result c =
-    let Z = c.requires.0.sized in
-    let K = dictionary_of c.args.dictionary.now in
-    let w = c.wide-i.ensures.0 in
-    let es : List Entry = entries_in c.args.out.now c.args.m in
-    let few = rows-length c.args.out.now c.args.m (omega (arith, c.requires.8)) in
-    let S = stood-at c.requires.7 c.args.n w c.wide-k.ensures.0 c.if-k-ne0.true c.wide.ensures.0 in
-    omega (arith, S.long, c.requires.8, c.requires.9)
-
-pub returns-then-k-ne0 : goal.returns-then-k-ne0
-returns-then-k-ne0 c =
-    let Z = c.requires.0.sized in
-    let K = dictionary_of c.args.dictionary.now in
-    let w = c.wide-i.ensures.0 in
-    let es : List Entry = entries_in c.args.out.now c.args.m in
-    let few = rows-length c.args.out.now c.args.m (omega (arith, c.requires.8)) in
-    let S = stood-at c.requires.7 c.args.n w c.wide-k.ensures.0 c.if-k-ne0.true c.wide.ensures.0 in
-    let p = c.put_again.ensures in
-    let put = p.0 ∙ ap (λ (x : List Entry). es ++ x) (stands-again S c.args.m c.args.o) in
-    (ap (λ (x : ℕ). c.args.m + x) S.long, put, stood-more c.requires.7 (map (relocate c.args.m c.args.o) (inside K c.args.n)) put, p.1, refl, refl, refl)
-
-pub put_described-r-requires : goal.put_described-r-requires
-put_described-r-requires c = (c.requires.0, c.requires.1, c.requires.2, c.requires.4, c.requires.8, c.requires.9)
-
-pub overflow_cast-first : goal.overflow_cast-first
-overflow_cast-first c = omega (arith, c.requires.8, c.requires.9)
-
-pub bounds-first-i-2 : goal.bounds-first-i-2
-bounds-first-i-2 c = omega (arith, c.wide-i.ensures.0, c.requires.2, c.requires.0.sized.few, c.requires.5)
-
-pub overflow_sub-count : goal.overflow_sub-count
-overflow_sub-count c = omega (arith, c.put_described-r.ensures.0)
-
-pub overflow_cast-count : goal.overflow_cast-count
-overflow_cast-count c = omega (arith, c.put_described-r.ensures.0, c.requires.8, c.requires.9)
-
-pub bounds-count-i-2 : goal.bounds-count-i-2
-bounds-count-i-2 c = omega (arith, c.wide-i.ensures.0, c.requires.2, c.requires.0.sized.few, c.requires.6)
+pub returns-in-Some : goal.returns-in-Some
+returns-in-Some c =
+    let a = c.args in
+    let K = dictionary_of a.dictionary.bytes.now in
+    let S = place (goal.at.returns-in-Some c).In-Some in
+    let p = rw (c.from.ensures, c.from-in-Some.ensures) at c.put_again.ensures in
+    let put = p ∙ ap (λ (x : List Entry). a.out.now ++ x) (stands-again S (length a.out.now) a.o) in
+    (put, stood-more c.requires.3 (map (relocate (length a.out.now) a.o) (inside K a.n)) put)
 
 pub returns : goal.returns
 returns c =
-    let Z = c.requires.0.sized in
-    let K = dictionary_of c.args.dictionary.now in
-    let w = c.wide-i.ensures.0 in
-    let es : List Entry = entries_in c.args.out.now c.args.m in
-    let few = rows-length c.args.out.now c.args.m (omega (arith, c.requires.8)) in
-    let i : c.wide-i.result ≤ 64 = omega (arith, w, c.requires.2, Z.few) in
-    let p = c.put_described-r.ensures in
-    let S = stood-now c.requires.7 c.args.n c.args.o {k = c.put_described-r.result - c.args.m} w (omega (arith, c.requires.5)) (omega (arith, c.requires.6)) (sym few) c.requires.3 (omega (arith, p.0)) p.1 in
-    (p.0, p.1, S, p.2, p.3, length-set c.args.first.now c.wide-i.result c.args.m, length-set c.args.count.now c.wide-i.result (c.put_described-r.result - c.args.m))
+    let a = c.args in
+    let K = dictionary_of a.dictionary.bytes.now in
+    let i = c.from-i.result in
+    let p = c.put_described.ensures in
+    let put : c.put_described.new.out ≡ a.out.now ++ map (relocate (length a.out.now) a.o) (inside K i) = rw c.from-i.ensures p in
+    let long = length-append a.out.now (map (relocate (length a.out.now) a.o) (inside K i)) in
+    let moved = length-map (inside K i) (relocate (length a.out.now) a.o) in
+    let few : i < length a.stood.now = omega (arith, c.from-i.ensures, c.requires.1, a.dictionary.ready.known.sized.few, c.told-stood) in
+    (p, stood-now c.requires.3 i a.o few c.len-m.ensures.0 c.requires.2 (omega (arith, ap length put, long, moved, c.len.ensures.0, c.len-m.ensures.0)) put)

@@ -5,8 +5,8 @@ use Rattle.writing.proofs.writer.bytes_for.Goals as goal
 
 pub overflow_mul-result : goal.overflow_mul-result
 unfolding blocks_for
-overflow_mul-result c = omega (arith, c.blocks_for.ensures, c.wide.ensures.0, c.wide.ensures.1)
+overflow_mul-result c = omega arith
 
 pub returns : goal.returns
 unfolding blocks_for
-returns c = let w = c.wide.ensures in (omega (arith, c.blocks_for.ensures, w.0), omega (arith, c.blocks_for.ensures, w.1))
+returns c = (omega arith, omega arith)

@@ -1,6 +1,4 @@
 -- `put_blocks` meets its contract: after i turns the first i blocks are stored.
-use Prim.Native.Nat.{◌-◌, ◌≤◌}
-use lib.ListN.{length, take}
 use mathlib.Core.List.{map}
 use mathlib.Core.Path.{◌≡◌}
 use Rattle.base.specs.Stores.{stored}
@@ -9,7 +7,4 @@ use Rattle.blocks.specs.Frame.{plain}
 use Rattle.writing.proofs.writer.put_blocks.Given as goal
 
 abbrev pub invariant-loop-i : goal.invariant-loop-i
-invariant-loop-i l = (l.i ≤ l.n) × (l.out ≡ stored l.initial.out 0 (encode_from plain l.i 0 (map row_bytes (take l.count l.rows)))) × (length l.out ≡ length l.initial.out)
-
-abbrev pub decreases-loop-i : goal.decreases-loop-i
-decreases-loop-i l = l.n - l.i
+invariant-loop-i l = l.out ≡ stored l.initial.out 0 (encode_from plain l.i 0 (map row_bytes l.rows))

@@ -1,19 +1,17 @@
-use lib.ListN.{drop}
-use mathlib.Core.Path.{◌∙◌, ◌≡◌, refl}
-use native.Mathlib.Omega.{arith}
-use Rattle.writing.proofs.WritingLaws.{rows_start, rows_step}
+use Rattle.std.proofs.Common.{ap, arith, ◌∙◌, ◌+◌, ◌*◌}
+use Rattle.base.specs.Stores.{stored}
+use Rattle.writing.proofs.WritingLaws.{row-le, rows_all, rows_start, rows_step}
 use Rattle.writing.proofs.writer.put_rows.Goals as goal
 
 pub loop-j-init : goal.loop-j-init
-loop-j-init c = (omega arith, rows_start (drop c.args.from c.args.rows.now) _ _, refl)
+loop-j-init c = rows_start c.args.rows.now _ _
 
 pub loop-j-preserved : goal.loop-j-preserved
 loop-j-preserved c =
-    let a = c.args in (
-      omega arith,
-      rows_step a.rows.now a.out.now a.at a.from c.loop-j.j (omega arith) c.loop-j.invariant.1 c.put_row.ensures,
-      c.put_row.auto.out ∙ c.loop-j.invariant.2,
-    )
+    let a = c.args in
+    let l = c.loop-j in
+    rows_step a.rows.now a.out.now a.at l.j (omega arith) l.invariant
+    (c.put.ensures ∙ ap (stored l.out (a.at + 8 * l.j)) (row-le (c.type_inv.rows l.j).fits c.to_le_bytes.ensures))
 
 pub returns : goal.returns
-returns c = let l = c.loop-j in let e : l.j ≡ c.args.n = omega arith in rw e at l.invariant.1
+returns c = rows_all _ _ _ c.loop-j-test.false c.loop-j.invariant

@@ -1,6 +1,5 @@
 -- `put_rows` meets its contract: after j turns the first j rows are stored.
-use Prim.Native.Nat.{◌-◌, ◌≤◌}
-use lib.ListN.{drop, length, take}
+use lib.ListN.{take}
 use mathlib.Core.List.{map}
 use mathlib.Core.Path.{◌≡◌}
 use Rattle.base.specs.Stores.{stored}
@@ -8,7 +7,4 @@ use Rattle.blocks.specs.Encoding.{joined, row_bytes}
 use Rattle.writing.proofs.writer.put_rows.Given as goal
 
 abbrev pub invariant-loop-j : goal.invariant-loop-j
-invariant-loop-j l = (l.j ≤ l.n) × (l.out ≡ stored l.initial.out l.at (joined (map row_bytes (take l.j (drop l.from l.rows))))) × (length l.out ≡ length l.initial.out)
-
-abbrev pub decreases-loop-j : goal.decreases-loop-j
-decreases-loop-j l = l.n - l.j
+invariant-loop-j l = l.out ≡ stored l.initial.out l.at (joined (map row_bytes (take l.j l.rows)))

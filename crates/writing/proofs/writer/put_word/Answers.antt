@@ -1,7 +1,8 @@
 -- `put_word` meets its contract.
-use Rattle.blocks.specs.Words.{word_bytes}
+use Rattle.std.proofs.Common.{ap, ◌∙◌}
+use Rattle.base.specs.Stores.{stored}
+use Rattle.writing.proofs.WritingLaws.{word-le}
 use Rattle.writing.proofs.writer.put_word.Goals as goal
 
 pub returns : goal.returns
-unfolding word_bytes
-returns c = c.put_pair.ensures
+returns c = c.put.ensures ∙ ap (stored c.args.out.now c.args.at) (word-le c.ranges.x.fits c.to_le_bytes.ensures)

@@ -1,9 +1,0 @@
--- `judge_broken` meets its contract.
-use mathlib.Core.Path.{◌∙◌, sym}
-use Rattle.slots.proofs.service.judge_broken.Goals as goal
-
-pub returns-in-Refused : goal.returns-in-Refused
-returns-in-Refused c = let e = sym c.read-reading.ensures ∙ c.in-Refused.is in rw e
-
-pub returns-in-Accepted : goal.returns-in-Accepted
-returns-in-Accepted c = let e = sym c.read-reading.ensures ∙ c.in-Accepted.is in rw e

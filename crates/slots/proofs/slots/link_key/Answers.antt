@@ -1,8 +1,0 @@
--- `link_key` meets its contract.
-use native.Mathlib.Omega.{arith}
-use Rattle.passes.specs.code.Keys.{key_number}
-use Rattle.slots.proofs.slots.link_key.Goals as goal
-
-pub returns : goal.returns
-unfolding key_number
-returns c = (omega (arith, c.long.ensures.0), omega (arith, c.long.ensures.1))
