@@ -15,7 +15,7 @@ use Rattle.blocks.specs.Owners.{depth_of, depth_ok, owner_of}
 use Rattle.blocks.specs.Promise.{Legal}
 use Rattle.blocks.specs.declared.Entry.{Entry}
 use Rattle.blocks.specs.declared.Schema.TheVariants.{Description}
-use Rattle.fit.proofs.groups.GroupLaws.{twice-not}
+use Rattle.std.proofs.Math.Bool.{not-not}
 use Rattle.fit.proofs.totals.TotalsLaws.{items-absent}
 use Rattle.fit.specs.code.Bare.{bare, bare_fits, demands, quiet}
 use Rattle.fit.specs.code.Groups.{fits_place, groups_by, has_bare, has_property, is_group, meets_entry, total_by}
@@ -118,7 +118,7 @@ groups-split s g l f c same =
     (λ y. rw y (ap (λ (p : ℕ → Bool). groups_by p s g l)
     (fun_ext (λ h. bool_cases (bare s h) (λ w. let t : f h ≡ true = same h w ∙ y in rw (w, t)) (λ w. rw w)))))
     (λ n. rw n
-    (ap (λ (x : Bool). x && groups_by (λ h. bare s h || f h) s g l) (sym (twice-not (groups_by (λ h. not (bare s h)) s g l)))
+    (ap (λ (x : Bool). x && groups_by (λ h. bare s h || f h) s g l) (not-not (groups_by (λ h. not (bare s h)) s g l))
     ∙ sym (groups-both s g l (λ h. not (bare s h)) (λ h. bare s h || f h))
     ∙ ap (λ (p : ℕ → Bool). groups_by p s g l)
     (fun_ext (λ h. bool_cases (bare s h) (λ w. let t : f h ≡ false = same h w ∙ n in rw (w, t)) (λ w. rw w)))))

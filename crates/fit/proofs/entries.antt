@@ -1,4 +1,4 @@
 -- Laws of the code in src/entries.rt.
 
--- A pass over the entries of an input, by the indices of their bytes.
-pub mod PassLaws
+-- Entries by number, at the indices of their bytes.
+pub mod EntryLaws

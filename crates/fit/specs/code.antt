@@ -2,6 +2,8 @@
 
 -- Groups that own nothing, and places that an item with nothing fits.
 pub mod Bare
+-- Chains of the numbers of a bucket, as they are handed out.
+pub mod Chains
 -- Fitting by groups and by entry numbers, as the code goes.
 pub mod Groups
 -- The index of the entries of an input, as the code keeps it: of a description by owner, of a specimen by owner, kind and name.

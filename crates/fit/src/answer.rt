@@ -30,7 +30,7 @@ fn fit_accepted(s: &[u8], n: usize, d: &[u8]) -> Counted
     match second {
         Reading::Refused(number, input, place) => refused(number, input, place),
         Reading::Accepted(m) => {
-            let j = judge_top(s, n, d, m as usize);
+            let j = judge_top(s, n, d, usize::from(m));
             if j.fits {
                 Counted {
                     answer: FitAnswer::Yes,
@@ -56,7 +56,7 @@ pub fn fit_counted(specimen: &[u8], description: &[u8]) -> Counted
     let first = reading::read(specimen, Schema::Specimen, 1);
     match first {
         Reading::Refused(number, input, place) => refused(number, input, place),
-        Reading::Accepted(n) => fit_accepted(specimen, n as usize, description),
+        Reading::Accepted(n) => fit_accepted(specimen, usize::from(n), description),
     }
 }
 
@@ -68,7 +68,7 @@ pub fn fit(pairs: &[u8], specimen: &[u8], description: &[u8]) -> FitAnswer
     match first {
         Reading::Refused(number, input, place) => FitAnswer::Refused(number, input, place),
         Reading::Accepted(n) => {
-            let counted = fit_accepted(specimen, n as usize, description);
+            let counted = fit_accepted(specimen, usize::from(n), description);
             counted.answer
         }
     }

@@ -20,11 +20,7 @@ impl<'a> Chain<'a> {
         requires { (b < length table.now) × Falls most table.now (get_or table.now b 0) }
         ensures { (result.table.now ≡ table.now) × (result.most ≡ most) × (result.next ≡ get_or table.now b 0) }
     {
-        Chain {
-            table,
-            most,
-            next: usize::from(table[b]),
-        }
+        Chain::from_number(table, most, usize::from(table[b]))
     }
 
     // The chain from number k back.

@@ -3,6 +3,7 @@ ghost use Rattle.std.specs.Prelude.{◌≡◌, ◌%◌, ◌-◌, ◌+◌, ◌≤
 ghost use Rattle.blocks.specs.Entries.{entries_of};
 ghost use Rattle.blocks.specs.declared.Schema.{Schema};
 ghost use Rattle.fit.specs.Totals.{TotalsOf};
+ghost use Rattle.fit.specs.code.Chains.{ComesTo};
 ghost use Rattle.fit.specs.code.Groups.{has_bare, has_property, meets_atom};
 ghost use Rattle.fit.specs.code.Index.{Ready, any_of, hash_of, is_of};
 ghost use Rattle.fit.specs.code.Rows.{Singles};
@@ -10,15 +11,9 @@ ghost use Rattle.fit.specs.code.Rows.{Singles};
 use crate::chain::Chain;
 use crate::entries::entry_at;
 use crate::index::hash;
+use crate::kinds::{BARE, GROUP, PROPERTY};
 use crate::totals::Totals;
 use blocks::{Entry, Link, Property};
-
-// The kinds of a specimen's entries, by their numbers in the format, and the one by which groups that own nothing are found.
-const PROPERTY: u8 = 1;
-
-const GROUP: u8 = 7;
-
-const BARE: u8 = 8;
 
 // Whether an entry is of this owner, kind and name. Only the functions below call it: their types say which names are whose.
 fn is_of(e: Entry, owner: usize, kind: u8, name: u16) -> bool
@@ -47,9 +42,10 @@ pub(crate) struct Items<'a> {
 impl<'a> Items<'a> {
     // The entries of the bucket of an owner, a kind and a name, from the last back.
     #[inline(always)]
+    #[tactic(auto, using(crate::proofs::index::BucketWalk::falls_bucket))]
     fn bucket(&self, g: usize, kind: u8, name: u16) -> Chain<'a>
         requires { g < 2048 }
-        ensures { (result.table.now ≡ self.now.index.now) × (result.most ≡ self.now.most) × (result.next ≡ get_or self.now.index.now (hash_of self.now.most g kind name) 0) }
+        ensures { ComesTo self.now.index.now self.now.most (get_or self.now.index.now (hash_of self.now.most g kind name) 0) result }
     {
         Chain::of_bucket(self.index, self.most, hash(self.most, g, kind, name))
     }
@@ -58,16 +54,17 @@ impl<'a> Items<'a> {
     #[inline(always)]
     pub(crate) fn groups_by(&self, g: usize, l: Link) -> Chain<'a>
         requires { g < 2048 }
-        ensures { (result.table.now ≡ self.now.index.now) × (result.most ≡ self.now.most) × (result.next ≡ get_or self.now.index.now (hash_of self.now.most g 7 l.0) 0) }
+        ensures { ComesTo self.now.index.now self.now.most (get_or self.now.index.now (hash_of self.now.most g 7 l.0) 0) result }
     {
         self.bucket(g, GROUP, l.0)
     }
 
     // The entries of a bucket from number k back.
     #[inline(always)]
+    #[tactic(auto, using(crate::proofs::index::BucketWalk::falls_from))]
     pub(crate) fn back_from(&self, k: usize) -> Chain<'a>
         requires { k ≤ length (entries_of self.now.bytes.now) }
-        ensures { (result.table.now ≡ self.now.index.now) × (result.most ≡ self.now.most) × (result.next ≡ k) }
+        ensures { ComesTo self.now.index.now self.now.most k result }
     {
         Chain::from_number(self.index, self.most, k)
     }
@@ -95,6 +92,7 @@ impl<'a> Items<'a> {
     }
 
     // Whether the items of group g have a property: whether an entry that g owns gives it.
+    #[tactic(auto, using(crate::proofs::groups::GroupLaws::property_bucket))]
     pub(crate) fn has_property(&self, g: usize, p: Property) -> bool
         requires { g < 2048 }
         ensures { result ≡ has_property (entries_of self.now.bytes.now) g p.0 }
@@ -103,6 +101,7 @@ impl<'a> Items<'a> {
     }
 
     // Whether group g has a group by a link that owns nothing.
+    #[tactic(auto, using(crate::proofs::groups::GroupLaws::bare_bucket))]
     pub(crate) fn has_bare(&self, g: usize, l: Link) -> bool
         requires { g < 2048 }
         ensures { result ≡ has_bare (entries_of self.now.bytes.now) g l.0 }

@@ -9,10 +9,13 @@ ghost use Rattle.fit.specs.code.Bare.{Marked, any_entry, demands};
 ghost use Rattle.fit.specs.code.Index.{Ordered, Ready, chained, code_of, hash_of};
 
 use crate::bare::mark_demand;
-use crate::entries::{entry_from, next_pos};
+use crate::kinds::{BARE, GROUP};
+use blocks::{Entry, entries_in_order};
 
-// The bucket, of `most`, of an owner, a kind and a name. Sizes are powers of two, so that it takes no division. Of one kind and name, different owners have different buckets: so all groups together
-// look at each entry of a specimen at most once for an entry of a description, whatever names were chosen.
+// The bucket, of `most`, of an owner, a kind and a name. Sizes are powers of two, so that it takes no division. Of one kind and name, different
+// owners have different buckets: so all groups together look at each entry of a specimen at most once for an entry of a description, whatever
+// names were chosen.
+#[tactic(auto, using(crate::proofs::index::BucketLaws::hash_is))]
 pub(crate) fn hash(most: usize, owner: usize, kind: u8, name: u16) -> usize
     requires { (0 < most) × (owner < 65536) }
     ensures { (result ≡ hash_of most owner kind name) × (result < most) }
@@ -25,10 +28,10 @@ pub(crate) fn hash(most: usize, owner: usize, kind: u8, name: u16) -> usize
 fn code(kind: u8, owning: bool) -> u8
     ensures { result ≡ code_of kind (not owning) }
 {
-    if kind == 7 && !owning { 8 } else { kind }
+    if kind == GROUP && !owning { BARE } else { kind }
 }
 
-// Puts number n in front of the chain of bucket b.
+// Puts number n in front of the chain of bucket b. That n fits two bytes is known: `try_from` would test it.
 #[tactic(auto, unfolding(crate::specs::code::Index::chained))]
 pub(crate) fn put(index: &mut [u16], most: usize, n: usize, b: usize)
     requires { (most ≤ 2048) × (length index.old ≡ most + most) × (n < most) × (b < most) }
@@ -39,17 +42,15 @@ pub(crate) fn put(index: &mut [u16], most: usize, n: usize, b: usize)
 }
 
 // The index of a specimen, in one pass over its entries. The marks say which groups own something.
+#[inline(always)]
 pub(crate) fn index_specimen(s: &[u8], total: usize, most: usize, marks: &[bool], index: &mut [u16])
     requires { (total ≡ length (entries_of s.now)) × (total < most) × (most ≤ 2048) × Ordered (entries_of s.now) × Whole s.now total
         × Marked any_entry (entries_of s.now) total most marks.now × (index.old ≡ replicate (most + most) 0) }
     ensures { Ready Schema.Specimen most s.now index.new }
 {
-    let mut n: usize = 0;
-    let mut at: usize = 4;
-    while n < total {
-        let e = entry_from(s, at);
-        at = next_pos(at);
-        n += 1;
+    for (before, bytes) in entries_in_order(s, total).enumerate() {
+        let e = Entry::from(bytes);
+        let n = before + 1;
         put(
             index,
             most,
@@ -60,6 +61,7 @@ pub(crate) fn index_specimen(s: &[u8], total: usize, most: usize, marks: &[bool]
 }
 
 // The index of a description, in one pass over its entries: each place's. The places that an item with nothing does not fit are marked.
+#[inline(always)]
 pub(crate) fn index_description(
     d: &[u8],
     total: usize,
@@ -71,13 +73,9 @@ pub(crate) fn index_description(
         × (index.old ≡ replicate (most + most) 0) × (marks.old ≡ replicate most false) }
     ensures { Ready Schema.Description most d.now index.new × Marked demands (entries_of d.now) (length (entries_of d.now)) most marks.new }
 {
-    let mut n: usize = 0;
-    let mut at: usize = 4;
-    while n < total {
-        let e = entry_from(d, at);
-        at = next_pos(at);
-        put(index, most, n + 1, usize::from(e.owner));
+    for (before, bytes) in entries_in_order(d, total).enumerate() {
+        let e = Entry::from(bytes);
+        put(index, most, before + 1, usize::from(e.owner));
         mark_demand(marks, e);
-        n += 1;
     }
 }

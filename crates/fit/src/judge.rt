@@ -1,7 +1,8 @@
-// Fitting a place and meeting an 'every' entry, which call each other, the remaining depth falling; other entries need no call. Each pair of a group and a place is come to at most once, by the
-// pair of their owners, and costs a look in a bucket for each entry of the place. All groups' looks for one entry go over each entry of the
-// specimen at most once, and over the first group found once more. So the time grows at most with the product of the two inputs' numbers of
-// entries, 2,016 · 1,008, at some nanoseconds each, and is far less where groups are few or have places of their own.
+// Fitting a place and meeting an 'every' entry, which call each other, the remaining depth falling; other entries need no call. Each pair of a
+// group and a place is come to at most once, by the pair of their owners, and costs a look in a bucket for each entry of the place. All groups'
+// looks for one entry go over each entry of the specimen at most once, and over the first group found once more. So the time grows at most with
+// the product of the two inputs' numbers of entries, 2,016 · 1,008, at some nanoseconds each, and is far less where groups are few or have places
+// of their own.
 //
 // They are handed what stays as it is: what is known of the specimen, and the places of the description.
 ghost use Rattle.std.specs.Prelude.{◌≡◌, ◌-◌, ◌≤◌, ◌<◌, length};
@@ -13,6 +14,7 @@ ghost use Rattle.fit.specs.code.Index.{bucket_of, hash_of};
 
 use crate::entries::entry_at;
 use crate::groups::{Known, is_group};
+use crate::kinds::EVERY;
 use crate::places::Places;
 
 // How the items of a group meet an entry: they do, they do not, or that rests on the groups by the entry's link from one back in their bucket,
@@ -42,7 +44,7 @@ fn meets_entry(
     }
     let entry = entry_at(places.bytes, e);
     let kind = entry.kind;
-    if kind != 5 {
+    if kind != EVERY {
         if known.meets_atom(g, entry, adds) {
             return Verdict::Met;
         }

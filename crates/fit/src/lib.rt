@@ -12,6 +12,7 @@ mod entries;
 mod groups;
 mod index;
 mod judge;
+mod kinds;
 mod places;
 mod tables;
 mod totals;

@@ -3,6 +3,7 @@ ghost use Rattle.std.specs.Prelude.{◌≡◌, ◌<◌, ◌≤◌, eqb, get_or, 
 ghost use Rattle.blocks.specs.Entries.{entries_of};
 ghost use Rattle.blocks.specs.declared.Schema.{Schema};
 ghost use Rattle.fit.specs.code.Bare.{Marked, bare_fits, demands};
+ghost use Rattle.fit.specs.code.Chains.{ComesTo};
 ghost use Rattle.fit.specs.code.Index.{Ready};
 
 use crate::chain::Chain;
@@ -20,9 +21,10 @@ pub(crate) struct Places<'a> {
 impl<'a> Places<'a> {
     // The entries of the place that entry o owns, from the last back.
     #[inline(always)]
+    #[tactic(auto, using(crate::proofs::index::BucketWalk::falls_bucket))]
     pub(crate) fn entries(&self, o: usize) -> Chain<'a>
         requires { o < self.now.most }
-        ensures { (result.table.now ≡ self.now.index.now) × (result.most ≡ self.now.most) × (result.next ≡ get_or self.now.index.now o 0) }
+        ensures { ComesTo self.now.index.now self.now.most (get_or self.now.index.now o 0) result }
     {
         Chain::of_bucket(self.index, self.most, o)
     }

@@ -14,9 +14,9 @@ ghost use Rattle.fit.specs.code.Index.{Ordered};
 ghost use Rattle.fit.specs.code.Rows.{FoundRow, Rows, Singles, Small, empty_row, pair_in, pair_of, pairs_of};
 
 use crate::chain::Chain;
-use crate::entries::{entry_from, next_pos};
 use crate::index::{hash, put};
-use blocks::{Entry, Link};
+use crate::kinds::GROUP;
+use blocks::{Entry, Link, entries_in_order};
 
 // The owner and the link of a row.
 fn pair_in(row: u64) -> u64
@@ -32,7 +32,7 @@ fn items_in(row: u64) -> u32
     (row % 4294967296) as u32
 }
 
-// An owner and a link as one number.
+// An owner and a link as one number. There is no `From` that makes a `u64` of a `usize`.
 fn pair_of(owner: usize, l: Link) -> u64
     requires { owner < 65536 }
     ensures { (result ≡ pair_of owner l.0) × (result < 4294967296) × (l.0 < 65536) }
@@ -57,7 +57,7 @@ impl<'a> Totals<'a> {
         ensures { FoundRow self.now.rows.now self.now.used owner l.0 result × (l.0 < 65536) }
     {
         let pair = pair_of(owner, l);
-        for r in Chain::of_bucket(self.links, self.most, hash(self.most, owner, 7, l.0)) {
+        for r in Chain::of_bucket(self.links, self.most, hash(self.most, owner, GROUP, l.0)) {
             if pair_in(self.rows[r]) == pair {
                 return Some(r);
             }
@@ -114,7 +114,7 @@ fn enter(
         × (adds.new ≡ adds.old + bit (eqb e.kind 7))
         × ((es : List Entry) → e ≡ nth es (n + 1) → TotalsOf es n rows.old used → TotalsOf es (n + 1) rows.new result) }
 {
-    if e.kind != 7 {
+    if e.kind != GROUP {
         return used;
     }
     let owner = usize::from(e.owner);
@@ -133,7 +133,7 @@ fn enter(
         None => {
             let row = 4294967296 * pair_of(owner, link);
             rows[used + 1] = add_items(row, e, adds);
-            put(links, most, used + 1, hash(most, owner, 7, link.0));
+            put(links, most, used + 1, hash(most, owner, GROUP, link.0));
             used + 1
         }
     }
@@ -141,6 +141,7 @@ fn enter(
 
 // Works out the table of a specimen with so many entries, and returns its number of rows. Each group is added once. Owners are marked, so
 // that groups that own nothing are known.
+#[inline(always)]
 pub(crate) fn fill_totals(
     s: &[u8],
     total: usize,
@@ -156,14 +157,10 @@ pub(crate) fn fill_totals(
         × (adds.new ≡ groups_up_to (entries_of s.now) total) × Marked any_entry (entries_of s.now) total most marks.new }
 {
     let mut used: usize = 0;
-    let mut n: usize = 0;
-    let mut at: usize = 4;
-    while n < total {
-        let e = entry_from(s, at);
-        at = next_pos(at);
+    for (before, bytes) in entries_in_order(s, total).enumerate() {
+        let e = Entry::from(bytes);
         marks[usize::from(e.owner)] = true;
-        used = enter(rows, links, most, n, used, e, adds);
-        n += 1;
+        used = enter(rows, links, most, before, used, e, adds);
     }
     used
 }

@@ -38,6 +38,7 @@ impl<'a> Iterator for Parts<'a> {
 
     ghost remaining = { item_count (λ parts. parts) };
 
+    // The first of what is left, which is then left no more.
     fn next(&mut self) -> Option<&'a [u8]> {
         let rest = self.rest;
         if rest.is_empty() {

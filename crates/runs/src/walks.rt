@@ -34,6 +34,7 @@ impl<'a> Iterator for Chain<'a> {
 
     ghost remaining = { item_count (λ slots. slots) };
 
+    // The next slot, behind which only those below it are left.
     fn next(&mut self) -> Option<u16> {
         let s = self.next;
         if s == 0 || self.most < s {

@@ -8,3 +8,5 @@ pub mod FailingLaws
 pub mod TableSearch
 -- The places of settled slots that stand in a table list what the slots say.
 pub mod PlacesInTable
+-- The next entry of a pass: its owner was passed before.
+pub mod NextEntry

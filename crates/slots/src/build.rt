@@ -1,14 +1,10 @@
 // The first pass: the entries of a description, first to last, entered into their slots. An 'every' entry leads to the place below its
 // slot, so that entries of one owner and link merge.
-ghost use Rattle.std.specs.Prelude.{◌≡◌, List, ◌+◌, ◌≤◌, ◌<◌, max, ℕ, length};
-ghost use Rattle.blocks.specs.Entries.{entries_of};
-ghost use Rattle.blocks.specs.code.Blockwise.{InBlock};
-ghost use Rattle.meaning.specs.Owned.{Owned};
-ghost use Rattle.slots.specs.code.Tables.{Building, Built, Exact, Readable, Workspace, bounds_base, bounds_times, built_slots, high_kind, high_part, low_kind, low_part, no_bound};
+ghost use Rattle.std.specs.Prelude.{◌≡◌, ◌≤◌, ◌<◌, length};
+ghost use Rattle.slots.specs.code.Tables.{Built, Readable, Workspace, bounds_base, bounds_times, built_slots, high_kind, high_part, low_kind, low_part, no_bound};
 
-use crate::entries::entry_from;
 use crate::slots::{enter, entry_key};
-use blocks::next_count;
+use blocks::{Entry, entries_in_order};
 
 // What an entry's number counts for in its bounds, by its kind. Constants only, here and below, which compile to a table: entries come in
 // any order of kinds, and a jump by kind would be guessed wrong.
@@ -45,45 +41,9 @@ fn entry_bounds(kind: u8, number: u16) -> u64
     bounds_times(kind) * u64::from(number) + bounds_base(kind)
 }
 
-// Enters `count` entries of a description, those after the first `done`, whose bytes start at `from`, into the slots, of which there
-// were `had`; returns how many there are then. What the table and the chains' numbers held does not count: a slot is written before it is
-// read.
-fn build_block<const BUCKETS: usize>(
-    d: &[u8],
-    from: usize,
-    count: usize,
-    done: usize,
-    had: usize,
-    table: &mut [u64],
-    next: &mut [u16],
-    head: &mut [u16; BUCKETS],
-    node: &mut [u16],
-) -> usize
-    requires { Owned (entries_of d.now) × (length (entries_of d.now) ≤ 1008) × InBlock d.now from count done × Building d.now done had table.old next.old head.old node.old }
-    ensures { Building d.now (done + count) result table.new next.new head.new node.new
-        × ((origin : List ℕ) → Exact origin table.old had → Exact origin table.new result) }
-{
-    let mut used = had;
-    let mut i: usize = 0;
-    while i < count {
-        let e = entry_from(d, from + 8 * i);
-        let place = u64::from(node[usize::from(e.owner)]);
-        let s = enter(
-            table,
-            next,
-            head,
-            used,
-            entry_key(place, e),
-            entry_bounds(e.kind, e.number),
-        );
-        i += 1;
-        node[done + i] = s as u16;
-        used = used.max(s);
-    }
-    used
-}
-
-// Builds the slots of a description with `total` entries, block by block, and returns their number.
+// Enters the `total` entries of a description into its slots, and returns their number. What the table and the chains' numbers held does not
+// count: a slot is written before it is read.
+#[inline(always)]
 pub(crate) fn build<const BUCKETS: usize>(
     d: &[u8],
     total: usize,
@@ -96,13 +56,19 @@ pub(crate) fn build<const BUCKETS: usize>(
     ensures { Built (built_slots d.now) d.now result table.old table.new next.new head.new }
 {
     let mut used: usize = 0;
-    let mut n: usize = 0;
-    let mut at: usize = 4;
-    while n < total {
-        let count = next_count(total - n);
-        used = build_block(d, at, count, n, used, table, next, head, node);
-        n += count;
-        at += 512;
+    for (before, bytes) in entries_in_order(d, total).enumerate() {
+        let e = Entry::from(bytes);
+        let place = u64::from(node[usize::from(e.owner)]);
+        let s = enter(
+            table,
+            next,
+            head,
+            used,
+            entry_key(place, e),
+            entry_bounds(e.kind, e.number),
+        );
+        node[before + 1] = s as u16;
+        used = used.max(s);
     }
     used
 }

@@ -9,7 +9,6 @@ ghost use Rattle.lists.specs.Parts.{parts_of};
 ghost use Rattle.logic.specs.Background.{Ruled};
 ghost use Rattle.names.specs.NamedReading.{sent_of, unfolding_of};
 ghost use Rattle.pairs.specs.Pairs.{under};
-ghost use Rattle.pairs.specs.code.Index.{PairsIndexed};
 ghost use Rattle.slots.specs.Catalogue.{answers_after, list_reading};
 ghost use Rattle.slots.specs.Holding.{failing_in};
 ghost use Rattle.slots.specs.code.Lent.{HeldIn};
@@ -20,7 +19,8 @@ use crate::failing::Supplier;
 use crate::filling::chained_slots;
 use crate::service::judge_plain;
 use blocks::{Reading, Schema};
-use lists::{part_length, parts_in};
+use lists::{Parts, parts_in};
+use pairs::Exclusions;
 use unfolding::unfold_into;
 use writing::bytes_for;
 
@@ -48,8 +48,7 @@ fn read_sent(dictionary: &[u8], d: &[u8], input: u16, buffer: &mut [u8]) -> Read
 // The first entry of a description that does not hold by the slots of another, where it is accepted under a dictionary, with m entries, and
 // stands in a buffer unless the dictionary has length 0.
 fn judge_sent(
-    pairs: &[u8],
-    index: &[u8; 512],
+    exclusions: Exclusions<'_>,
     supplier: Supplier<'_, 4093>,
     dictionary: &[u8],
     d: &[u8],
@@ -57,22 +56,21 @@ fn judge_sent(
     buffer: &[u8],
     states: &mut [u16],
 ) -> Option<usize>
-    requires { PairsIndexed pairs.now index.now × Ruled (under pairs.now)
+    requires { Ruled (under exclusions.pairs.now)
         × (reading_of Schema.Description 2 (sent_of dictionary.now d.now) ≡ Reading.Accepted m) × Buffered dictionary.now d.now m buffer.now × (8192 ≤ length buffer.now) × (1008 < length states.old) }
-    ensures { IfSome result (λ n. 1 ≤ n) × ((c : List ℕ) → HeldIn (under pairs.now) c supplier.entry
-        → unwrap_or result 0 ≡ failing_in (under pairs.now) c (sent_of dictionary.now d.now)) }
+    ensures { IfSome result (λ n. 1 ≤ n) × ((c : List ℕ) → HeldIn (under exclusions.entry.pairs.now) c supplier.entry
+        → unwrap_or result 0 ≡ failing_in (under exclusions.entry.pairs.now) c (sent_of dictionary.now d.now)) }
 {
     if dictionary.len() == 0 {
-        return supplier.judge(pairs, index, d, usize::from(m), states);
+        return supplier.judge(exclusions, d, usize::from(m), states);
     }
     let end = bytes_for(m);
-    supplier.judge(pairs, index, &buffer[0..end], usize::from(m), states)
+    supplier.judge(exclusions, &buffer[0..end], usize::from(m), states)
 }
 
 // Reads a service, an input of any number, and judges it. With a dictionary of length 0 it has no names, and nothing is unfolded.
 fn judge_service(
-    pairs: &[u8],
-    index: &[u8; 512],
+    exclusions: Exclusions<'_>,
     supplier: Supplier<'_, 4093>,
     dictionary: &[u8],
     d: &[u8],
@@ -80,19 +78,19 @@ fn judge_service(
     buffer: &mut [u8],
     states: &mut [u16],
 ) -> Judgement
-    requires { PairsIndexed pairs.now index.now × Ruled (under pairs.now)
+    requires { Ruled (under exclusions.pairs.now)
         × DictionaryTaken dictionary.now × (8192 ≤ length buffer.old) × (1008 < length states.old) }
-    ensures { (c : List ℕ) → HeldIn (under pairs.now) c supplier.entry
-        → result ≡ service_judged pairs.now dictionary.now c input d.now }
+    ensures { (c : List ℕ) → HeldIn (under exclusions.entry.pairs.now) c supplier.entry
+        → result ≡ service_judged exclusions.entry.pairs.now dictionary.now c input d.now }
 {
     if dictionary.len() == 0 {
-        return judge_plain(pairs, index, supplier, d, input, states);
+        return judge_plain(exclusions, supplier, d, input, states);
     }
     let reading = read_sent(dictionary, d, input, buffer);
     match reading {
         Reading::Refused(number, i, place) => Judgement::Refused(number, i, place),
         Reading::Accepted(m) => {
-            let e = judge_sent(pairs, index, supplier, dictionary, d, m, buffer, states);
+            let e = judge_sent(exclusions, supplier, dictionary, d, m, buffer, states);
             Judgement::Bit(bit_of(e))
         }
     }
@@ -100,8 +98,7 @@ fn judge_service(
 
 // Judges the services of a list in turn, as inputs 2, 3 and so on, and stores a byte for each: how many there are, or the first refusal.
 fn judge_parts(
-    pairs: &[u8],
-    index: &[u8; 512],
+    exclusions: Exclusions<'_>,
     supplier: Supplier<'_, 4093>,
     dictionary: &[u8],
     list: &[u8],
@@ -109,22 +106,18 @@ fn judge_parts(
     states: &mut [u16],
     answers: &mut [u8; 64],
 ) -> Reading
-    requires { PairsIndexed pairs.now index.now × Ruled (under pairs.now)
+    requires { Ruled (under exclusions.pairs.now)
         × DictionaryTaken dictionary.now × (8192 ≤ length buffer.old) × (1008 < length states.old) × (length (parts_of list.now) ≤ 64) }
-    ensures { (c : List ℕ) → HeldIn (under pairs.now) c supplier.entry
-        → JudgesAll pairs.now dictionary.now c list.now answers.old result answers.new }
+    ensures { (c : List ℕ) → HeldIn (under exclusions.entry.pairs.now) c supplier.entry
+        → JudgesAll exclusions.entry.pairs.now dictionary.now c list.now answers.old result answers.new }
 {
-    let mut at: usize = 0;
     let mut n: usize = 0;
-    while at < list.len() {
-        let rest = &list[at..list.len()];
-        let len = part_length(rest);
+    for part in Parts::of(list) {
         let judged = judge_service(
-            pairs,
-            index,
+            exclusions,
             supplier,
             dictionary,
-            &rest[0..len],
+            part,
             2 + n as u16,
             buffer,
             states,
@@ -136,7 +129,6 @@ fn judge_parts(
             Judgement::Bit(b) => {
                 answers[n] = b;
                 n += 1;
-                at += len;
             }
         }
     }
@@ -145,17 +137,16 @@ fn judge_parts(
 
 // Slots and settles the supplier's description, which is accepted, with n entries, and judges a list of at most 64 services by its slots.
 fn judge_all(
-    pairs: &[u8],
-    index: &[u8; 512],
+    exclusions: Exclusions<'_>,
     dictionary: &[u8],
     c: &[u8],
     n: usize,
     list: &[u8],
     answers: &mut [u8; 64],
 ) -> Reading
-    requires { PairsIndexed pairs.now index.now × Ruled (under pairs.now) × DictionaryTaken dictionary.now × (reading_of Schema.Description 1 c.now ≡ Reading.Accepted n)
+    requires { Ruled (under exclusions.pairs.now) × DictionaryTaken dictionary.now × (reading_of Schema.Description 1 c.now ≡ Reading.Accepted n)
         × (length (parts_of list.now) ≤ 64) }
-    ensures { JudgesAll pairs.now dictionary.now c.now list.now answers.old result answers.new }
+    ensures { JudgesAll exclusions.entry.pairs.now dictionary.now c.now list.now answers.old result answers.new }
 {
     let mut table = [0u64; 1009];
     let mut next = [0u16; 1009];
@@ -164,14 +155,13 @@ fn judge_all(
     let mut bad = [0u8; 1009];
     let mut full = [0u8; 1009];
     let used = chained_slots(
-        pairs, index, c, n, &mut table, &mut next, &mut head, &mut node, &mut bad, &mut full,
+        exclusions, c, n, &mut table, &mut next, &mut head, &mut node, &mut bad, &mut full,
     );
     let supplier = Supplier::new(&table, &next, &head, used, &bad);
     let mut buffer = [0u8; 8192];
     let mut states = [0u16; 1009];
     judge_parts(
-        pairs,
-        index,
+        exclusions,
         supplier,
         dictionary,
         list,
@@ -183,16 +173,15 @@ fn judge_all(
 
 // The same for any list.
 fn judge_cut(
-    pairs: &[u8],
-    index: &[u8; 512],
+    exclusions: Exclusions<'_>,
     dictionary: &[u8],
     c: &[u8],
     n: usize,
     list: &[u8],
     answers: &mut [u8; 64],
 ) -> Reading
-    requires { PairsIndexed pairs.now index.now × Ruled (under pairs.now) × DictionaryTaken dictionary.now × (reading_of Schema.Description 1 c.now ≡ Reading.Accepted n) }
-    ensures { JudgesListed pairs.now dictionary.now c.now list.now answers.old result answers.new }
+    requires { Ruled (under exclusions.pairs.now) × DictionaryTaken dictionary.now × (reading_of Schema.Description 1 c.now ≡ Reading.Accepted n) }
+    ensures { JudgesListed exclusions.entry.pairs.now dictionary.now c.now list.now answers.old result answers.new }
 {
     if list.len() == 0 {
         return Reading::Refused(1, 2, 0);
@@ -203,33 +192,31 @@ fn judge_cut(
     if 64 < parts_in(list) {
         return Reading::Refused(8, 2, 0);
     }
-    judge_all(pairs, index, dictionary, c, n, list, answers)
+    judge_all(exclusions, dictionary, c, n, list, answers)
 }
 
 // Reads the supplier's description, under a list of pairs that is accepted and indexed, with a buffer that has room for it.
 fn judge_supplied(
-    pairs: &[u8],
-    index: &[u8; 512],
+    exclusions: Exclusions<'_>,
     dictionary: &[u8],
     c: &[u8],
     list: &[u8],
     buffer: &mut [u8],
     answers: &mut [u8; 64],
 ) -> Reading
-    requires { PairsIndexed pairs.now index.now × Ruled (under pairs.now) × (8192 ≤ length buffer.old) }
-    ensures { JudgesSupplied pairs.now dictionary.now c.now list.now answers.old result answers.new }
+    requires { Ruled (under exclusions.pairs.now) × (8192 ≤ length buffer.old) }
+    ensures { JudgesSupplied exclusions.entry.pairs.now dictionary.now c.now list.now answers.old result answers.new }
 {
     let reading = read_sent(dictionary, c, 1, buffer);
     match reading {
         Reading::Refused(number, i, place) => Reading::Refused(number, i, place),
         Reading::Accepted(n) => {
             if dictionary.len() == 0 {
-                return judge_cut(pairs, index, dictionary, c, usize::from(n), list, answers);
+                return judge_cut(exclusions, dictionary, c, usize::from(n), list, answers);
             }
             let end = bytes_for(n);
             judge_cut(
-                pairs,
-                index,
+                exclusions,
                 dictionary,
                 &buffer[0..end],
                 usize::from(n),
@@ -258,9 +245,9 @@ pub fn judge_list(
         Reading::Refused(number, input, place) => Reading::Refused(number, input, place),
         Reading::Accepted(_) => {
             let mut index = [0u8; 512];
-            pairs::index_pairs(pairs, &mut index);
+            let exclusions = Exclusions::new(pairs, &mut index);
             let mut buffer = [0u8; 8192];
-            judge_supplied(pairs, &index, dictionary, c, list, &mut buffer, answers)
+            judge_supplied(exclusions, dictionary, c, list, &mut buffer, answers)
         }
     }
 }

@@ -7,7 +7,6 @@ ghost use Rattle.base.specs.Range.{bit};
 ghost use Rattle.logic.specs.Background.{Background, Ruled};
 ghost use Rattle.passes.specs.code.Slots.{inconsistent};
 ghost use Rattle.pairs.specs.Pairs.{pair_count, under};
-ghost use Rattle.pairs.specs.code.Index.{PairsIndexed};
 ghost use Rattle.slots.specs.Holding.{failing_in, holding_by, holding_of};
 ghost use Rattle.slots.specs.code.Lent.{HeldIn};
 ghost use Rattle.slots.specs.code.Standing.{JudgedBy, Judges, table_judged};
@@ -17,6 +16,7 @@ use crate::Holding;
 use crate::filling::chained_slots;
 use crate::slots::Slots;
 use blocks::{Reading, Schema};
+use pairs::Exclusions;
 
 // The answer of the number of the entry that fails, if one does, and of the number of slots.
 fn answer_of(failing: Option<usize>, used: usize) -> Holding
@@ -65,38 +65,36 @@ impl<'a, const BUCKETS: usize> Supplier<'a, BUCKETS> {
     // judges, and it leaves the slots: they serve for many descriptions.
     pub(crate) fn judge(
         self,
-        pairs: &[u8],
-        index: &[u8; 512],
+        exclusions: Exclusions<'_>,
         d: &[u8],
         m: usize,
         states: &mut [u16],
     ) -> Option<usize>
-        requires { PairsIndexed pairs.now index.now × Ruled (under pairs.now) × (reading_of Schema.Description 2 d.now ≡ Reading.Accepted m) × (m < length states.old) }
+        requires { Ruled (under exclusions.pairs.now) × (reading_of Schema.Description 2 d.now ≡ Reading.Accepted m) × (m < length states.old) }
         ensures { (unwrap_or result 0 ≤ 1008) × IfSome result (λ n. 1 ≤ n)
-            × ((c : List ℕ) → HeldIn (under pairs.now) c self.entry
-            → unwrap_or result 0 ≡ failing_in (under pairs.now) c d.now) }
+            × ((c : List ℕ) → HeldIn (under exclusions.entry.pairs.now) c self.entry
+            → unwrap_or result 0 ≡ failing_in (under exclusions.entry.pairs.now) c d.now) }
     {
         if self.impossible {
             return None;
         }
-        self.slots.first_failing_entry(pairs, index, d, m, states)
+        self.slots.first_failing_entry(exclusions, d, m, states)
     }
 }
 
 // Slots and settles the first description and judges the second by its slots, where both are accepted, with n and m entries, fewer than N.
 // All tables but that of the slots are its own.
 fn judge<const N: usize, const BUCKETS: usize>(
-    pairs: &[u8],
-    index: &[u8; 512],
+    exclusions: Exclusions<'_>,
     c: &[u8],
     n: usize,
     d: &[u8],
     m: usize,
     table: &mut [u64],
 ) -> Holding
-    requires { PairsIndexed pairs.now index.now × Ruled (under pairs.now) × (reading_of Schema.Description 1 c.now ≡ Reading.Accepted n) × (reading_of Schema.Description 2 d.now ≡ Reading.Accepted m) × (n < length table.old)
+    requires { Ruled (under exclusions.pairs.now) × (reading_of Schema.Description 1 c.now ≡ Reading.Accepted n) × (reading_of Schema.Description 2 d.now ≡ Reading.Accepted m) × (n < length table.old)
         × (n < N) × (m < N) × (N ≤ 1009) × (61 ≤ BUCKETS) × (BUCKETS ≤ 4093) }
-    ensures { Judges (under pairs.now) c.now d.now table.old result table.new }
+    ensures { Judges (under exclusions.entry.pairs.now) c.now d.now table.old result table.new }
 {
     let mut next = [0u16; N];
     let mut head = [0u16; BUCKETS];
@@ -104,71 +102,63 @@ fn judge<const N: usize, const BUCKETS: usize>(
     let mut bad = [0u8; N];
     let mut full = [0u8; N];
     let used = chained_slots(
-        pairs, index, c, n, table, &mut next, &mut head, &mut node, &mut bad, &mut full,
+        exclusions, c, n, table, &mut next, &mut head, &mut node, &mut bad, &mut full,
     );
     let mut states = [0u16; N];
     let supplier = Supplier::new(table, &next, &head, used, &bad);
-    let e = supplier.judge(pairs, index, d, m, &mut states);
+    let e = supplier.judge(exclusions, d, m, &mut states);
     answer_of(e, used)
 }
 
 // The answer for two accepted descriptions: 7 where the table is too short for the first. Few entries take small tables, which are sooner
 // cleared.
 fn judge_read(
-    pairs: &[u8],
-    index: &[u8; 512],
+    exclusions: Exclusions<'_>,
     c: &[u8],
     n: usize,
     d: &[u8],
     m: usize,
     table: &mut [u64],
 ) -> Holding
-    requires { PairsIndexed pairs.now index.now × Ruled (under pairs.now) × (reading_of Schema.Description 1 c.now ≡ Reading.Accepted n) × (reading_of Schema.Description 2 d.now ≡ Reading.Accepted m) }
-    ensures { Judges (under pairs.now) c.now d.now table.old result table.new }
+    requires { Ruled (under exclusions.pairs.now) × (reading_of Schema.Description 1 c.now ≡ Reading.Accepted n) × (reading_of Schema.Description 2 d.now ≡ Reading.Accepted m) }
+    ensures { Judges (under exclusions.entry.pairs.now) c.now d.now table.old result table.new }
 {
     if table.len() <= n {
         return Holding::Refused(7, 0, 0);
     }
     if n < 64 && m < 64 {
-        return judge::<64, 61>(pairs, index, c, n, d, m, table);
+        return judge::<64, 61>(exclusions, c, n, d, m, table);
     }
-    judge::<1009, 4093>(pairs, index, c, n, d, m, table)
+    judge::<1009, 4093>(exclusions, c, n, d, m, table)
 }
 
 // Reads the second description, where the first is accepted, with n entries.
 fn second_failing(
-    pairs: &[u8],
-    index: &[u8; 512],
+    exclusions: Exclusions<'_>,
     c: &[u8],
     n: usize,
     d: &[u8],
     table: &mut [u64],
 ) -> Holding
-    requires { PairsIndexed pairs.now index.now × Ruled (under pairs.now) × (reading_of Schema.Description 1 c.now ≡ Reading.Accepted n) }
-    ensures { Judges (under pairs.now) c.now d.now table.old result table.new }
+    requires { Ruled (under exclusions.pairs.now) × (reading_of Schema.Description 1 c.now ≡ Reading.Accepted n) }
+    ensures { Judges (under exclusions.entry.pairs.now) c.now d.now table.old result table.new }
 {
     let reading = reading::read(d, Schema::Description, 2);
     match reading {
         Reading::Refused(number, input, place) => Holding::Refused(number, input, place),
-        Reading::Accepted(m) => judge_read(pairs, index, c, n, d, usize::from(m), table),
+        Reading::Accepted(m) => judge_read(exclusions, c, n, d, usize::from(m), table),
     }
 }
 
 // Reads the first description, under a list of pairs that is accepted and indexed.
-fn failing_indexed(
-    pairs: &[u8],
-    index: &[u8; 512],
-    c: &[u8],
-    d: &[u8],
-    table: &mut [u64],
-) -> Holding
-    requires { PairsIndexed pairs.now index.now × Ruled (under pairs.now) }
-    ensures { Judges (under pairs.now) c.now d.now table.old result table.new }
+fn failing_indexed(exclusions: Exclusions<'_>, c: &[u8], d: &[u8], table: &mut [u64]) -> Holding
+    requires { Ruled (under exclusions.pairs.now) }
+    ensures { Judges (under exclusions.entry.pairs.now) c.now d.now table.old result table.new }
 {
     let reading = reading::read(c, Schema::Description, 1);
     match reading {
         Reading::Refused(number, input, place) => Holding::Refused(number, input, place),
-        Reading::Accepted(n) => second_failing(pairs, index, c, usize::from(n), d, table),
+        Reading::Accepted(n) => second_failing(exclusions, c, usize::from(n), d, table),
     }
 }
 
@@ -178,8 +168,8 @@ fn failing_listed(pairs: &[u8], c: &[u8], d: &[u8], table: &mut [u64]) -> Holdin
     ensures { Judges (under pairs.now) c.now d.now table.old result table.new }
 {
     let mut index = [0u8; 512];
-    pairs::index_pairs(pairs, &mut index);
-    failing_indexed(pairs, &index, c, d, table)
+    let exclusions = Exclusions::new(pairs, &mut index);
+    failing_indexed(exclusions, c, d, table)
 }
 
 // Looks for the first entry of the second description that the normal form of the first, under a list of pairs, does not hold, and returns

@@ -2,7 +2,6 @@
 ghost use Rattle.std.specs.Prelude.{◌≡◌, ◌<◌, ◌≤◌, length};
 ghost use Rattle.blocks.specs.Reading.{reading_of};
 ghost use Rattle.pairs.specs.Pairs.{pair_count, under};
-ghost use Rattle.pairs.specs.code.Index.{PairsIndexed};
 ghost use Rattle.slots.specs.code.Tables.{Blank, Chained, Exact, Readable, Settled, Workspace};
 ghost use Rattle.slots.specs.code.Standing.{FilledBy, Fills, bad_after, full_after, room_in, slotting_of, table_after};
 
@@ -11,11 +10,11 @@ use crate::build::build;
 use crate::restrict::restrict_slots;
 use crate::settle::settle;
 use blocks::{Reading, Schema};
+use pairs::Exclusions;
 
 // The slots of a description with `total` entries, settled, with the chains that find them; returns their number.
 pub(crate) fn chained_slots<const BUCKETS: usize>(
-    pairs: &[u8],
-    index: &[u8; 512],
+    exclusions: Exclusions<'_>,
     d: &[u8],
     total: usize,
     table: &mut [u64],
@@ -25,92 +24,87 @@ pub(crate) fn chained_slots<const BUCKETS: usize>(
     bad: &mut [u8],
     full: &mut [u8],
 ) -> usize
-    requires { PairsIndexed pairs.now index.now × Readable d.now total × (total < length table.old) × Workspace total next.old head.old node.old × Blank total bad.old × Blank total full.old }
-    ensures { Chained (under pairs.now) d.now result table.old table.new next.new head.new bad.new full.new }
+    requires { Readable d.now total × (total < length table.old) × Workspace total next.old head.old node.old × Blank total bad.old × Blank total full.old }
+    ensures { Chained (under exclusions.entry.pairs.now) d.now result table.old table.new next.new head.new bad.new full.new }
 {
     let used = build(d, total, table, next, head, node);
-    restrict_slots(pairs, index, table, next, head, used);
+    restrict_slots(exclusions, table, next, head, used);
     settle(table, bad, full, used);
     used
 }
 
 // The slots of a description of fewer than N entries, settled, with tables of their own for what only the passes need.
 fn settled_within<const N: usize, const BUCKETS: usize>(
-    pairs: &[u8],
-    index: &[u8; 512],
+    exclusions: Exclusions<'_>,
     d: &[u8],
     total: usize,
     table: &mut [u64],
     bad: &mut [u8],
     full: &mut [u8],
 ) -> usize
-    requires { PairsIndexed pairs.now index.now × Readable d.now total × (total < N) × (N ≤ 1009) × (61 ≤ BUCKETS) × (BUCKETS ≤ 4093) × (total < length table.old) × Blank total bad.old × Blank total full.old }
-    ensures { Settled (under pairs.now) d.now result table.new bad.new full.new × Exact table.old table.new result }
+    requires { Readable d.now total × (total < N) × (N ≤ 1009) × (61 ≤ BUCKETS) × (BUCKETS ≤ 4093) × (total < length table.old) × Blank total bad.old × Blank total full.old }
+    ensures { Settled (under exclusions.entry.pairs.now) d.now result table.new bad.new full.new × Exact table.old table.new result }
 {
     let mut next = [0u16; N];
     let mut head = [0u16; BUCKETS];
     let mut node = [0u16; N];
     chained_slots(
-        pairs, index, d, total, table, &mut next, &mut head, &mut node, bad, full,
+        exclusions, d, total, table, &mut next, &mut head, &mut node, bad, full,
     )
 }
 
 // The slots of a description with `total` entries, settled; returns their number. Few entries take small tables, which are sooner cleared.
 fn settled_slots(
-    pairs: &[u8],
-    index: &[u8; 512],
+    exclusions: Exclusions<'_>,
     d: &[u8],
     total: usize,
     table: &mut [u64],
     bad: &mut [u8],
     full: &mut [u8],
 ) -> usize
-    requires { PairsIndexed pairs.now index.now × Readable d.now total × (total < length table.old) × Blank total bad.old × Blank total full.old }
-    ensures { Settled (under pairs.now) d.now result table.new bad.new full.new × Exact table.old table.new result }
+    requires { Readable d.now total × (total < length table.old) × Blank total bad.old × Blank total full.old }
+    ensures { Settled (under exclusions.entry.pairs.now) d.now result table.new bad.new full.new × Exact table.old table.new result }
 {
     if total < 64 {
-        return settled_within::<64, 61>(pairs, index, d, total, table, bad, full);
+        return settled_within::<64, 61>(exclusions, d, total, table, bad, full);
     }
-    settled_within::<1009, 4093>(pairs, index, d, total, table, bad, full)
+    settled_within::<1009, 4093>(exclusions, d, total, table, bad, full)
 }
 
 // Fills the tables with the slots of an accepted description with `total` entries; or 7 where one of them is too short for it.
 fn fill_accepted(
-    pairs: &[u8],
-    index: &[u8; 512],
+    exclusions: Exclusions<'_>,
     d: &[u8],
     total: usize,
     table: &mut [u64],
     bad: &mut [u8],
     full: &mut [u8],
 ) -> Slotting
-    requires { PairsIndexed pairs.now index.now × (reading_of Schema.Description 1 d.now ≡ Reading.Accepted total) }
-    ensures { Fills (under pairs.now) d.now table.old bad.old full.old result table.new bad.new full.new }
+    requires { reading_of Schema.Description 1 d.now ≡ Reading.Accepted total }
+    ensures { Fills (under exclusions.entry.pairs.now) d.now table.old bad.old full.old result table.new bad.new full.new }
 {
     if table.len().min(bad.len().min(full.len())) <= total {
         return Slotting::Refused(7, 0, 0);
     }
     bad.fill(0);
     full.fill(0);
-    Slotting::Filled(settled_slots(pairs, index, d, total, table, bad, full) as u16)
+    Slotting::Filled(settled_slots(exclusions, d, total, table, bad, full) as u16)
 }
 
 // The same for any description, under a list of pairs that is accepted and indexed.
 fn fill_indexed(
-    pairs: &[u8],
-    index: &[u8; 512],
+    exclusions: Exclusions<'_>,
     d: &[u8],
     table: &mut [u64],
     bad: &mut [u8],
     full: &mut [u8],
 ) -> Slotting
-    requires { PairsIndexed pairs.now index.now }
-    ensures { Fills (under pairs.now) d.now table.old bad.old full.old result table.new bad.new full.new }
+    ensures { Fills (under exclusions.entry.pairs.now) d.now table.old bad.old full.old result table.new bad.new full.new }
 {
     let reading = reading::read(d, Schema::Description, 1);
     match reading {
         Reading::Refused(number, input, place) => Slotting::Refused(number, input, place),
-        Reading::Accepted(n) => fill_accepted(pairs, index, d, usize::from(n), table, bad, full),
+        Reading::Accepted(n) => fill_accepted(exclusions, d, usize::from(n), table, bad, full),
     }
 }
 
@@ -126,8 +120,8 @@ fn fill_listed(
     ensures { Fills (under pairs.now) d.now table.old bad.old full.old result table.new bad.new full.new }
 {
     let mut index = [0u8; 512];
-    pairs::index_pairs(pairs, &mut index);
-    fill_indexed(pairs, &index, d, table, bad, full)
+    let exclusions = Exclusions::new(pairs, &mut index);
+    fill_indexed(exclusions, d, table, bad, full)
 }
 
 // Reads a list of pairs and a description and fills the tables: with the slots of the description under the list, from number 1 on, and with

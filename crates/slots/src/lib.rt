@@ -11,7 +11,6 @@
 
 mod build;
 mod catalogue;
-mod entries;
 mod excluding;
 mod failing;
 mod filling;

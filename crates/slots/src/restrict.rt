@@ -1,12 +1,12 @@
 // The pass between the first and the second, under what every record keeps: a link from 32,768 up leads to one item at most, and no item has
 // both properties of a pair.
 ghost use Rattle.std.specs.Prelude.{◌≡◌, ◌&&◌, ◌%◌, ◌/◌, ◌<◌, ◌≤◌, eqb, ltb, get_or};
-ghost use Rattle.pairs.specs.code.Index.{PairsIndexed, bucket_of};
+ghost use Rattle.pairs.specs.code.Index.{bucket_of};
 ghost use Rattle.slots.specs.code.Tables.{Kept, Placed, Restricted, excluded_high, excluded_slot, key_in, link_word, no_bound, property_word, restricted_word, single_high};
 
 use crate::slots::{NO_BOUND, Slots, high_in, key_in, low_in, make_slot};
 use blocks::Property;
-use pairs::last_naming;
+use pairs::Exclusions;
 
 // The upper bound of such a link: 0, so that nothing meets the slot, where more than one are asked for; none where one or more are
 // allowed, since every record keeps that.
@@ -55,48 +55,43 @@ fn of_property(x: u64) -> bool
 
 // Whether a slot of this key stays as it is whatever the others are: no pair has a property of its bucket, and it is not that of a link from
 // 32,768 up. Most slots stay, of either class, so that the jump by class, which nothing foretells, is for the few others.
-fn stays(index: &[u8; 512], key: u64) -> bool
-    ensures { result ≡ (eqb (get_or index.now (bucket_of (key % 65536)) 0) 0 && ltb (key % 131072) 98304) }
+fn stays(exclusions: Exclusions<'_>, key: u64) -> bool
+    ensures { result ≡ (eqb (get_or exclusions.entry.index.now (bucket_of (key % 65536)) 0) 0 && ltb (key % 131072) 98304) }
 {
-    if last_naming(index, Property((key % 65536) as u16)) != 0 {
-        return false;
-    }
-    key % 131072 < 98304
+    exclusions.none_with(Property((key % 65536) as u16)) && key % 131072 < 98304
 }
 
 // A slot under the rule: a link's by its name, a property's by whether it is excluded.
 fn restricted<const BUCKETS: usize>(
-    pairs: &[u8],
-    index: &[u8; 512],
+    exclusions: Exclusions<'_>,
     slots: Slots<'_, BUCKETS>,
     x: u64,
 ) -> u64
-    requires { PairsIndexed pairs.now index.now × (key_in x / 131072 < 1024) }
-    ensures { result ≡ restricted_word (excluded_slot pairs.now slots.entry.table.now slots.entry.used x) x }
+    requires { key_in x / 131072 < 1024 }
+    ensures { result ≡ restricted_word (excluded_slot exclusions.entry.pairs.now slots.entry.table.now slots.entry.used x) x }
 {
     let k = key_in(x);
-    if stays(index, k) {
+    if stays(exclusions, k) {
         return x;
     }
     if !of_property(x) {
         return restricted_link(x);
     }
     let p = Property((k % 65536) as u16);
-    let out = slots.excluded(pairs, index, k / 131072, p);
+    let out = slots.excluded(exclusions, k / 131072, p);
     restricted_property(x, out)
 }
 
 // Puts the slots 1 to `used` under the rule. What a place has does not change on the way.
 pub(crate) fn restrict_slots<const BUCKETS: usize>(
-    pairs: &[u8],
-    index: &[u8; 512],
+    exclusions: Exclusions<'_>,
     table: &mut [u64],
     next: &[u16],
     head: &[u16; BUCKETS],
     used: usize,
 )
-    requires { PairsIndexed pairs.now index.now × Kept table.old next.now head.now used × (used ≤ 1008) × Placed table.old used }
-    ensures { Restricted pairs.now table.old used used table.new }
+    requires { Kept table.old next.now head.now used × (used ≤ 1008) × Placed table.old used }
+    ensures { Restricted exclusions.entry.pairs.now table.old used used table.new }
 {
     for s in 1..used + 1 {
         let slots = Slots {
@@ -105,7 +100,7 @@ pub(crate) fn restrict_slots<const BUCKETS: usize>(
             head: head,
             used: used,
         };
-        let x = restricted(pairs, index, slots, slots.table[s]);
+        let x = restricted(exclusions, slots, slots.table[s]);
         table[s] = x;
     }
 }

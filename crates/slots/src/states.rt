@@ -2,23 +2,20 @@
 // an entry. The slots are not sorted.
 ghost use Rattle.std.specs.Prelude.{◌≡◌, cond, List, ◌+◌, ◌*◌, ◌≤◌, ◌<◌, eqb, get_or, length, unwrap_or, IfSome, ◌||◌, is_some};
 ghost use Rattle.blocks.specs.Entries.{entries_of};
-ghost use Rattle.blocks.specs.code.Blockwise.{InBlock};
 ghost use Rattle.base.specs.Range.{bit};
 ghost use Rattle.base.specs.Search.{first_from};
 ghost use Rattle.logic.specs.Background.{standing};
 ghost use Rattle.logic.specs.Normal.{at_most};
-ghost use Rattle.meaning.specs.Owned.{Owned};
 ghost use Rattle.pairs.specs.Pairs.{under};
-ghost use Rattle.pairs.specs.code.Index.{PairsIndexed};
 ghost use Rattle.passes.specs.code.Restrict.{excluded_at};
 ghost use Rattle.passes.specs.code.Slots.{Slot};
-ghost use Rattle.slots.specs.code.Lent.{IndexedIn, SearchedIn, StatedIn};
+ghost use Rattle.slots.specs.code.Lent.{IndexedIn};
 ghost use Rattle.slots.specs.code.States.{beside_bounds, bounds_support, entry_slot, holds_in_state, holds_by_slots, least_asked, most_asked, nowhere, passed, state_below};
 ghost use Rattle.slots.specs.code.Tables.{Readable, high_in, high_part, low_part, no_bound, slots_in};
 
-use crate::entries::entry_from;
 use crate::slots::{NO_BOUND, Slots, entry_key, high_in, low_in};
-use blocks::{Entry, next_count};
+use blocks::{Entry, entries_in_order};
+use pairs::Exclusions;
 
 // Two states that are no place of the normal form: below NOWHERE nothing stands, and after PASSED, an at most 0, all holds. A slot has
 // neither number. They stay numbers and no enum, since a state is looked up as a place: there is no slot at NOWHERE, which needs no test.
@@ -123,32 +120,32 @@ impl<const BUCKETS: usize> Slots<'_, BUCKETS> {
 
     // Whether an entry holds at a place that does not list it: an at most that every record keeps, or a lack that the place implies, since it
     // has a property that excludes the entry's.
-    fn holds_beside(self, pairs: &[u8], index: &[u8; 512], place: u64, e: Entry) -> bool
-        requires { PairsIndexed pairs.now index.now × (place < 1024) }
-        ensures { result ≡ beside_bounds standing (excluded_at (under pairs.now) (slots_in self.entry.table.now self.entry.used) place e.name) e.kind e.name e.number }
+    fn holds_beside(self, exclusions: Exclusions<'_>, place: u64, e: Entry) -> bool
+        requires { place < 1024 }
+        ensures { result ≡ beside_bounds standing (excluded_at (under exclusions.entry.pairs.now) (slots_in self.entry.table.now self.entry.used) place e.name) e.kind e.name e.number }
     {
         let kind = e.kind;
         match kind {
-            2 => self.excluded(pairs, index, place, e.property()),
+            2 => self.excluded(exclusions, place, e.property()),
             4 => always(e.name, e.number),
             _ => false,
         }
     }
 
     // Whether an entry holds at a place, by the bounds of its slot or beside them.
-    fn holds_at(self, pairs: &[u8], index: &[u8; 512], place: u64, e: Entry, x: u64) -> bool
-        requires { PairsIndexed pairs.now index.now × (place < 1024) }
+    fn holds_at(self, exclusions: Exclusions<'_>, place: u64, e: Entry, x: u64) -> bool
+        requires { place < 1024 }
         ensures { result ≡ (bounds_support e.kind e.number (low_part x) (high_in (high_part x))
-            || beside_bounds standing (excluded_at (under pairs.now) (slots_in self.entry.table.now self.entry.used) place e.name) e.kind e.name e.number) }
+            || beside_bounds standing (excluded_at (under exclusions.entry.pairs.now) (slots_in self.entry.table.now self.entry.used) place e.name) e.kind e.name e.number) }
     {
-        supported(e.kind, e.number, x) || self.holds_beside(pairs, index, place, e)
+        supported(e.kind, e.number, x) || self.holds_beside(exclusions, place, e)
     }
 
     // Looks an entry up in a place of this state: if it holds there, the state of the place that it owns, should it be an 'every'.
-    pub(crate) fn look(self, pairs: &[u8], index: &[u8; 512], state: u16, e: Entry) -> Option<u16>
-        requires { PairsIndexed pairs.now index.now × (state ≤ passed) }
+    pub(crate) fn look(self, exclusions: Exclusions<'_>, state: u16, e: Entry) -> Option<u16>
+        requires { state ≤ passed }
         ensures { IfSome result (λ y. y ≤ passed)
-            × ((ss : List Slot) → IndexedIn ss self.entry → is_some result ≡ holds_in_state (under pairs.now) ss state e)
+            × ((ss : List Slot) → IndexedIn ss self.entry → is_some result ≡ holds_in_state (under exclusions.entry.pairs.now) ss state e)
             × (e.kind ≡ 5 → (ss : List Slot) → IndexedIn ss self.entry
             → IfSome result (λ y. y ≡ state_below ss state e.name)) }
     {
@@ -158,73 +155,36 @@ impl<const BUCKETS: usize> Slots<'_, BUCKETS> {
         let place = u64::from(state);
         let s = self.entry_slot(place, e);
         let x = self.bounds(s);
-        if !self.holds_at(pairs, index, place, e, x) {
+        if !self.holds_at(exclusions, place, e, x) {
             return None;
         }
         Some(state_below(s, high_in(x)))
     }
 
-    // The number of the first that fails of `count` entries, those after the first `done`, whose bytes start at `from`.
-    fn failing_in_block(
-        self,
-        pairs: &[u8],
-        index: &[u8; 512],
-        d: &[u8],
-        from: usize,
-        count: usize,
-        done: usize,
-        states: &mut [u16],
-    ) -> Option<usize>
-        requires { PairsIndexed pairs.now index.now × Owned (entries_of d.now) × (length (entries_of d.now) ≤ 1008)
-            × InBlock d.now from count done × StatedIn d.now self done states.old }
-        ensures { SearchedIn (under pairs.now) d.now self.entry done count states.new (unwrap_or result 0)
-            × IfSome result (λ n. 1 ≤ n) }
-    {
-        let mut i: usize = 0;
-        loop {
-            if count <= i {
-                break None;
-            }
-            let e = entry_from(d, from + 8 * i);
-            let s = states[usize::from(e.owner)];
-            i += 1;
-            match self.look(pairs, index, s, e) {
-                Some(below) => states[done + i] = below,
-                None => break Some(done + i),
-            }
-        }
-    }
-
-    // The number of the first entry of a description with `total` entries that fails. Block by block. What the lent states held does not
-    // count, so that one table of them serves for many descriptions.
+    // The number of the first entry of a description with `total` entries that fails. What the lent states held does not count, so that one
+    // table of them serves for many descriptions.
+    #[inline(always)]
     pub(crate) fn first_failing_entry(
         self,
-        pairs: &[u8],
-        index: &[u8; 512],
+        exclusions: Exclusions<'_>,
         d: &[u8],
         total: usize,
         states: &mut [u16],
     ) -> Option<usize>
-        requires { PairsIndexed pairs.now index.now × Readable d.now total × (total < length states.old) }
+        requires { Readable d.now total × (total < length states.old) }
         ensures { (unwrap_or result 0 ≤ total) × IfSome result (λ n. 1 ≤ n)
             × ((ss : List Slot) → IndexedIn ss self.entry
-            → unwrap_or result 0 ≡ first_from (holds_by_slots (under pairs.now) ss (entries_of d.now)) 1 total) }
+            → unwrap_or result 0 ≡ first_from (holds_by_slots (under exclusions.entry.pairs.now) ss (entries_of d.now)) 1 total) }
     {
         states[0] = 0;
-        let mut n: usize = 0;
-        let mut at: usize = 4;
-        loop {
-            if total <= n {
-                break None;
-            }
-            let count = next_count(total - n);
-            match self.failing_in_block(pairs, index, d, at, count, n, states) {
-                Some(e) => break Some(e),
-                None => {
-                    n += count;
-                    at += 512;
-                }
+        for (before, bytes) in entries_in_order(d, total).enumerate() {
+            let e = Entry::from(bytes);
+            let s = states[usize::from(e.owner)];
+            match self.look(exclusions, s, e) {
+                Some(below) => states[before + 1] = below,
+                None => return Some(before + 1),
             }
         }
+        None
     }
 }

@@ -7,23 +7,19 @@ use lib.Seq.{drop-cons, get_or-set_other, get_or-set_same}
 use mathlib.Core.Bool.{◌&&◌, cond, false, true}
 use mathlib.Core.List.{List, ◌∷◌}
 use mathlib.Core.Logic.{◌≢◌}
-use mathlib.Core.Path.{◌∙◌, ◌≡◌, ap, refl, subst, sym}
+use mathlib.Core.Path.{◌∙◌, ◌≡◌, ap, refl, sym}
 use native.Mathlib.Omega.{arith}
 use Rattle.base.proofs.Tests.{bool_cases, eq-cases, eq-eqb, lt-cases, lt-ltb, ne_eqb, tests}
 use Rattle.blocks.specs.Entries.{form_ok, is_named, name_given, nth, zero_entry}
-use Rattle.blocks.specs.Faults.{first}
-use Rattle.blocks.specs.code.ReadingSteps.{Levels, entry_refusal, level_by, level_under, rule_faults}
+use Rattle.blocks.specs.code.ReadingSteps.{entry_refusal, level_by, level_under}
 use Rattle.blocks.specs.declared.Entry.{Entry}
-use Rattle.blocks.specs.declared.Finding.TheVariants as finding
 use Rattle.blocks.specs.declared.Schema.TheVariants.{Description, Named}
 use Rattle.names.proofs.Legality.NamedReadings.{form-named}
 use Rattle.names.proofs.Legality.NoNames.{form-same}
 use Rattle.names.specs.Measures.{levels_by, levels_from, size_by, under}
 use Rattle.names.specs.NamedForm.{named_form_ok}
 use Rattle.names.specs.Unfold.{noted}
-use Rattle.unfolding.specs.code.Checking.{CheckedTo, Gone}
-use Rattle.unfolding.specs.declared.Checked.TheVariants.{Faulty, Sound}
-use Rattle.unfolding.specs.declared.Checked.{Checked}
+use Rattle.unfolding.specs.code.Checking.{Gone}
 
 -- some levels at a depth
 pub under_some : (d l : ℕ) → l ≢ 0 → d + l ≡ under d l
@@ -90,16 +86,6 @@ module _ (S L : ℕ → ℕ) (es : List Entry) where
       let l : levels_from L G.depth (suc i) (drop i es) ≡ 0 = rw none in
       (omega (arith, G.size), omega (arith, G.deep))
 
--- ---- the answer for a block
-
-module _ (most : ℕ) (S L : ℕ → ℕ) (es : List Entry) (n count : ℕ) (t : List ℕ) {c : Checked} (C : CheckedTo most S L es n count t c) where
-  pub block-faulty : {k p : ℕ} → c ≡ Faulty k p → first (rule_faults (Named most) es (n + 1) count) ≡ finding.Faulty k p
-  block-faulty q = subst (CheckedTo most S L es n count t) q C
-
-  pub block-sound : {z l : ℕ} → c ≡ Sound z l
-      → (first (rule_faults (Named most) es (n + 1) count) ≡ finding.Clean) × Levels (Named most) es t (n + count + 1) × Gone S L es t z l (n + count)
-  block-sound q = subst (CheckedTo most S L es n count t) q C
-
 -- ---- the rules of one entry
 
 module _ (most : ℕ) (e : Entry) (l : ℕ) where
@@ -136,6 +122,6 @@ module _ (most : ℕ) (e : Entry) (l : ℕ) where
       (λ p. let g = rw (entry_refusal, p) at h in absurd (omega arith))
 
 -- the level of an entry that may own others
-pub other-level : (most kind l : ℕ) {v : ℕ} → v ≡ cond (eqb kind 5) (l + 1) 0 → v ≡ level_under (Named most) kind l
+pub other-level : (most kind l : ℕ) {v : ℕ} → v ≡ level_under Description kind l → v ≡ level_under (Named most) kind l
 unfolding level_under
 other-level most kind l e = e

@@ -23,7 +23,7 @@ use Rattle.names.specs.Promise.{FormsOk, OwnersOk}
 use Rattle.names.specs.Unfold.{noted, owned_by, relocate, shifted, unfold_from, unfolded}
 use Rattle.names.specs.code.Passes.{inside, kept_by, name_again}
 use Rattle.unfolding.proofs.Alike.{alike-read}
-use Rattle.unfolding.specs.code.Replacing.{NamesFew, NamesOf, Passing, StandsAt, Stood, again, pending}
+use Rattle.unfolding.specs.code.Replacing.{NamesFew, NamesOf, Passing, StandsAt, Stood, again}
 use Rattle.unfolding.specs.code.Rows.{entry_of_row}
 use Rattle.unfolding.specs.declared.passes.Place.{Place}
 
@@ -73,11 +73,6 @@ module _ {T : ℕ → List Entry} {es : List Entry} where
     passed-within =
         let parts = length-append out (unfold_from T (λ j. get_or number j 0) (suc i) (length out) (drop i es)) in
         omega (arith, ap length P.all)
-
-    -- a pass over some of the entries that are left
-    pub pass_on : {number' : List ℕ} {i' : ℕ} {out' : List Entry} → Passing T es (pending T es number i out) number' i' out'
-        → Passing T es whole number' i' out'
-    pass_on Q = record { all = Q.all ∙ P.all }
 
     -- after the last entry
     pub pass-ends : length es ≤ i → out ≡ whole

@@ -15,7 +15,7 @@ use crate::measure::check;
 use crate::tables::{Described, Tables};
 use crate::{Checked, Measured};
 use blocks::{Reading, Schema};
-use lists::{part_length, parts_in};
+use lists::{Parts, part_length, parts_in};
 use reading::read_blocks;
 
 // A dictionary that is read and accepted: its bytes, and what is kept of its descriptions.
@@ -78,10 +78,8 @@ fn read_parts(bytes: &[u8], tables: &mut Tables) -> Reading
         × ((n : ℕ) → result ≡ Reading.Accepted n → (n ≡ tables.new.count) × Ready bytes.now tables.new) }
 {
     let mut at: usize = 0;
-    while at < bytes.len() {
-        let rest = &bytes[at..];
-        let len = part_length(rest);
-        let m = read_named(&rest[..len], 101 + tables.count, tables);
+    for part in Parts::of(bytes) {
+        let m = read_named(part, 101 + tables.count, tables);
         match m {
             Measured::Refused(number, i, place) => return Reading::Refused(number, i, place),
             Measured::Taken(_, size, levels) => {
@@ -90,7 +88,7 @@ fn read_parts(bytes: &[u8], tables: &mut Tables) -> Reading
                     size,
                     levels,
                 });
-                at += len;
+                at += part.len();
             }
         }
     }

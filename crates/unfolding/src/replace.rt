@@ -3,17 +3,17 @@
 ghost use Rattle.std.specs.Prelude.{◌≡◌, cond, true, ◌++◌, map, ◌+◌, ◌-◌, ◌≤◌, ◌<◌, ℕ, leb, get_or, length};
 ghost use Rattle.base.proofs.Lists.{listed};
 ghost use Rattle.blocks.specs.Entries.{entries_of, is_named, zero_entry};
-ghost use Rattle.blocks.specs.code.Blockwise.{InBlock, Whole};
+ghost use Rattle.blocks.specs.code.Blockwise.{Whole};
 ghost use Rattle.names.specs.NamedForm.{named_form_ok};
 ghost use Rattle.names.specs.Promise.{FormsOk, OwnersOk};
 ghost use Rattle.names.specs.Unfold.{relocate, unfolded};
 ghost use Rattle.names.specs.code.Passes.{kept_by};
 ghost use Rattle.unfolding.specs.code.Known.{size_in};
-ghost use Rattle.unfolding.specs.code.Replacing.{NamesFew, Passing, again, pending};
+ghost use Rattle.unfolding.specs.code.Replacing.{NamesFew, again};
 
-use crate::rows::{Rows, entry_from};
+use crate::rows::Rows;
 use crate::tables::Tables;
-use blocks::{Entry, next_count};
+use blocks::{Entry, entries_in_order};
 
 // Puts in a name, at the place of o, if it stands for something.
 fn keep_name(e: Entry, o: u16, tables: &Tables, out: &mut Rows)
@@ -26,38 +26,8 @@ fn keep_name(e: Entry, o: u16, tables: &Tables, out: &mut Rows)
     out.push(Entry { owner: o, ..e });
 }
 
-// Puts in `count` entries of a description, those after the first `done`, whose bytes start at `from`, without names that stand for nothing.
-// The table has the new numbers of owners.
-fn put_block(
-    s: &[u8],
-    from: usize,
-    count: usize,
-    done: usize,
-    tables: &Tables,
-    number: &mut [u16; 1009],
-    out: &mut Rows,
-)
-    requires { InBlock s.now from count done × (done + count ≤ 1008) × FormsOk (entries_of s.now) × OwnersOk (entries_of s.now) × NamesFew (entries_of s.now)
-        × (length (pending (kept_by (size_in tables.now.of)) (entries_of s.now) number.old done out.old) ≤ 1008) }
-    ensures { Passing (kept_by (size_in tables.now.of)) (entries_of s.now)
-        (pending (kept_by (size_in tables.now.of)) (entries_of s.now) number.old done out.old)
-        number.new (done + count) out.new }
-{
-    for i in 0..count {
-        let e = entry_from(s, from + 8 * i);
-        let o = number[usize::from(e.owner)];
-        if e.kind == 9 {
-            keep_name(e, o, tables, out);
-        } else {
-            out.push(Entry { owner: o, ..e });
-            number[done + i + 1] = out.len() as u16;
-        }
-    }
-}
-
 // Puts in the `total` entries of a description, at the place of o, without names that stand for nothing. The table is for the new numbers of
 // owners.
-#[tactic(auto, using(blocks::proofs::Refusing::Blockwise::at_next, crate::proofs::ReplaceLaws::pass_on), unfolding(blocks::specs::code::Blockwise::next_count))]
 pub(crate) fn put_part(
     s: &[u8],
     total: usize,
@@ -71,13 +41,15 @@ pub(crate) fn put_part(
     ensures { out.new ≡ out.old ++ map (relocate (length out.old) o) (unfolded (kept_by (size_in tables.now.of)) (entries_of s.now)) }
 {
     number[0] = o;
-    let mut n: usize = 0;
-    let mut at: usize = 4;
-    while n < total {
-        let count = next_count(total - n);
-        put_block(s, at, count, n, tables, number, out);
-        n += count;
-        at += 512;
+    for (before, bytes) in entries_in_order(s, total).enumerate() {
+        let e = Entry::from(bytes);
+        let owner = number[usize::from(e.owner)];
+        if e.kind == 9 {
+            keep_name(e, owner, tables, out);
+        } else {
+            out.push(Entry { owner, ..e });
+            number[before + 1] = out.len() as u16;
+        }
     }
 }
 

@@ -1,12 +1,12 @@
 // Entries in a lent table, each as one number of its 8 bytes, as they are packed for writing.
-ghost use Rattle.std.specs.Prelude.{◌≡◌, ◌++◌, ◌∷◌, [], ◌+◌, ◌≤◌, ◌<◌, List, get_or, length, map, take};
+ghost use Rattle.std.specs.Prelude.{◌≡◌, ◌++◌, ◌∷◌, [], ◌≤◌, ◌<◌, List, get_or, length, map};
 ghost use Rattle.std.specs.List.{list_any};
-ghost use Rattle.blocks.specs.Entries.{entries_of, entry_from, is_named, zero_entry};
-ghost use Rattle.blocks.specs.code.Blockwise.{InBlock, Whole};
+ghost use Rattle.blocks.specs.Entries.{entries_of, is_named, zero_entry};
+ghost use Rattle.blocks.specs.code.Blockwise.{Whole};
 ghost use Rattle.blocks.specs.declared.Entry.{Entry};
 ghost use Rattle.unfolding.specs.code.Rows.{entries_in, entry_of_row};
 
-use blocks::{Entry, entry_of_bytes, next_count, pack};
+use blocks::{Entry, entries_in_order, entry_of_bytes, pack};
 use std::marker::Model;
 
 // A table of at most 1,008 entries, which a contract sees as their list.
@@ -106,45 +106,12 @@ pub(crate) fn entry_of_row(x: u64) -> Entry
     )
 }
 
-// The entry whose 8 bytes start at an index: a pass over a block knows that they are there.
-pub(crate) fn entry_from(s: &[u8], at: usize) -> Entry
-    requires { at + 8 ≤ length s.now }
-    ensures { result ≡ entry_from s.now at }
-{
-    entry_of_bytes(
-        s[at],
-        s[at + 1],
-        s[at + 2],
-        s[at + 3],
-        s[at + 4],
-        s[at + 5],
-        s[at + 6],
-        s[at + 7],
-    )
-}
-
-// Puts in `count` entries of a description, those after the first `done`, whose bytes start at `from`.
-fn load_block(s: &[u8], from: usize, count: usize, done: usize, rows: &mut Rows)
-    requires { InBlock s.now from count done × (done + count ≤ 1008) × (rows.old ≡ take done (entries_of s.now)) }
-    ensures { rows.new ≡ take (done + count) (entries_of s.now) }
-{
-    for i in 0..count {
-        rows.push(entry_from(s, from + 8 * i));
-    }
-}
-
-// Puts the `total` entries of a description into a table, block by block.
-#[tactic(auto, using(blocks::proofs::Refusing::Blockwise::in_block, blocks::proofs::Refusing::Blockwise::at_next), unfolding(blocks::specs::code::Blockwise::next_count))]
+// Puts the `total` entries of a description into a table.
 pub(crate) fn load(s: &[u8], total: usize, rows: &mut Rows)
     requires { (total ≡ length (entries_of s.now)) × Whole s.now total × (total ≤ 1008) × (rows.old ≡ []) }
     ensures { rows.new ≡ entries_of s.now }
 {
-    let mut n: usize = 0;
-    let mut at: usize = 4;
-    while n < total {
-        let count = next_count(total - n);
-        load_block(s, at, count, n, rows);
-        n += count;
-        at += 512;
+    for bytes in entries_in_order(s, total) {
+        rows.push(Entry::from(bytes));
     }
 }

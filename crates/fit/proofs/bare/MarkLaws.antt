@@ -9,6 +9,7 @@ use mathlib.Core.List.{List}
 use mathlib.Core.Path.{◌∙◌, ◌≡◌, ap, refl, sym}
 use native.Mathlib.Numerals.{add-one}
 use native.Mathlib.Omega.{arith}
+use Rattle.std.proofs.Math.Bool.{or-false}
 use Rattle.std.proofs.lemmas.List.{get_or-replicate}
 use Rattle.base.proofs.Tests.{bool_cases, eq-cases, eq-eqb, ne_eqb, or-one}
 use Rattle.blocks.specs.Entries.{nth}
@@ -16,10 +17,6 @@ use Rattle.blocks.specs.Owners.{owner_of}
 use Rattle.blocks.specs.declared.Entry.{Entry}
 use Rattle.fit.specs.code.Bare.{Marked, quiet}
 use Rattle.meaning.specs.Owned.{all_where}
-
-or-none : (b : Bool) → (b || false) ≡ b
-or-none true = refl
-or-none false = refl
 
 module _ (tells : Entry → Bool) (es : List Entry) where
   -- no entries
@@ -63,7 +60,7 @@ module _ (tells : Entry → Bool) (es : List Entry) where
         (λ y. let same : marks' ≡ set marks o true = is ∙ rw (y, or-one old) in marks-told y refl h same)
         (λ y.
         let M' = marks-silent y in
-        let same : marks' ≡ set marks o old = is ∙ rw (y, or-none old) in
+        let same : marks' ≡ set marks o old = is ∙ rw (y, or-false old) in
         rw same (record {
           size = length-set marks o old ∙ M.size;
           mark = λ p l. eq-cases p o

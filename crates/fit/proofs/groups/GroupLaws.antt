@@ -6,7 +6,7 @@ use lib.ListN.{length}
 use mathlib.Core.Bool.{Bool, ◌&&◌, ◌||◌, false, not, true}
 use mathlib.Core.List.{List}
 use mathlib.Core.Logic.{◌≢◌}
-use mathlib.Core.Path.{◌∙◌, ◌≡◌, ap, refl, sym}
+use mathlib.Core.Path.{◌∙◌, ◌≡◌, ap, sym}
 use native.Mathlib.Omega.{arith}
 use Rattle.std.proofs.Math.Logic.{∥∥₁_elim}
 use Rattle.std.proofs.Props.{props}
@@ -60,9 +60,9 @@ module _ (es : List Entry) (g kind name k : ℕ) {e : Entry} {r : Bool} (a : e �
 
 -- ---- properties
 
-pub property-bucket : (most : ℕ) (es : List Entry) (g p : ℕ) {b : ℕ} {r : Bool} → b ≡ hash_of most g 1 p → r ≡ any_of most es b g 1 p → r ≡ has_property es g p
+pub property_bucket : (most : ℕ) (es : List Entry) (g p : ℕ) {b : ℕ} {r : Bool} → b ≡ hash_of most g 1 p → r ≡ any_of most es b g 1 p → r ≡ has_property es g p
 unfolding has_property any_of
-property-bucket most es g p is h =
+property_bucket most es g p is h =
     h ∙ rw (is, any_of) (ap not (sym (all-bucket (owner_of es) (bucket_of Specimen most es) (λ k. not (gives_property es p k)) g (hash_of most g 1 p)
     (λ k out. elsewhere most es g 1 1 p k out (λ q. code_other _ _ (λ z. omega arith) ∙ q) (λ o. rw o) (λ m. rw m (or-one (not (eqb (owner_of es k) g))))) (length es))))
 
@@ -88,9 +88,9 @@ module _ (most : ℕ) (es : List Entry) (g l k : ℕ) (more : (most - 1) % 2 ≡
   bare-here e =
       bool_cases (bare es k) (λ y. y) (λ n. absurd (hash-apart most g l more (sym e ∙ at_code (code-full _ kind-is n))))
 
-pub bare-bucket : (most : ℕ) (es : List Entry) (g l : ℕ) {b : ℕ} {r : Bool} → (most - 1) % 2 ≡ 1 → b ≡ hash_of most g 8 l → r ≡ any_of most es b g 7 l → r ≡ has_bare es g l
+pub bare_bucket : (most : ℕ) (es : List Entry) (g l : ℕ) {b : ℕ} {r : Bool} → (most - 1) % 2 ≡ 1 → b ≡ hash_of most g 8 l → r ≡ any_of most es b g 7 l → r ≡ has_bare es g l
 unfolding groups_by any_of
-bare-bucket most es g l more is h =
+bare_bucket most es g l more is h =
     h ∙ rw (is, any_of, groups_by)
     (ap not (where-ext (bucket_of Specimen most es) (not_of es g 7 l) (λ k. not (eqb (owner_of es k) g) || (not (is_group es l k) || not (bare es k))) (hash_of most g 8 l) (length es)
     (λ k at. bool_cases (eqb (owner_of es k) g)
@@ -100,10 +100,6 @@ bare-bucket most es g l more is h =
     (λ k out. bool_cases (bare es k)
     (λ y. elsewhere most es g 7 8 l k out (λ q. code-bare _ q y) (λ o. rw o) (λ m. rw m (or-one (not (eqb (owner_of es k) g)))))
     (λ y. rw (y, or-one (not (is_group es l k)), or-one (not (eqb (owner_of es k) g))))) (length es))))
-
-pub twice-not : (b : Bool) → b ≡ not (not b)
-twice-not true = refl
-twice-not false = refl
 
 -- an entry that is none of the four is not met
 pub no-atom : (s : List Entry) (g : ℕ) (e : Entry) → e.kind ≢ 1 → e.kind ≢ 2 → e.kind ≢ 3 → e.kind ≢ 4 → false ≡ meets_atom s g e

@@ -9,6 +9,7 @@ use mathlib.Core.List.{List}
 use mathlib.Core.Logic.{◌≢◌}
 use mathlib.Core.Path.{◌∙◌, ◌≡◌, ap, refl, sym}
 use native.Mathlib.Omega.{arith}
+use Rattle.std.proofs.Math.Bool.{not-not}
 use Rattle.base.proofs.Tests.{and_cases, and_left, and_right, bool_cases, both_ways, eq-eqb, eqb-eq, ne_eqb}
 use Rattle.blocks.specs.Entries.{nth}
 use Rattle.blocks.specs.Owners.{owner_of}
@@ -25,10 +26,10 @@ pub hash-below : (most o k n : ℕ) → 0 < most → hash_of most o k n < most
 unfolding hash_of
 hash-below most o k n pos = omega (arith, and_le_r (o + (31 * n + k)) (most - 1))
 
-pub hash-is : (most o k n : ℕ) {q m : ℕ} → 0 < most → q ≡ k → m ≡ n
+pub hash_is : (most o k n : ℕ) {q m : ℕ} → 0 < most → q ≡ k → m ≡ n
     → (bit_and (o + (31 * m + q)) (most - 1) ≡ hash_of most o k n) × (bit_and (o + (31 * m + q)) (most - 1) < most)
 unfolding hash_of
-hash-is most o k n {q} {m} pos d e = (rw (hash_of, d, e), omega (arith, and_le_r (o + (31 * m + q)) (most - 1)))
+hash_is most o k n {q} {m} pos d e = (rw (hash_of, d, e), omega (arith, and_le_r (o + (31 * m + q)) (most - 1)))
 
 pub bucket-below : (σ : Schema) (most : ℕ) (es : List Entry) (k : ℕ) → Ordered es → 1 ≤ k → k ≤ length es → length es < most → bucket_of σ most es k < most
 bucket-below Description most es k O lo hi few = omega (arith, O.earlier k lo hi)
@@ -54,10 +55,6 @@ code-full kind q n = rw (code_of, q, n)
 pub code-bare : (kind : ℕ) {b : Bool} → kind ≡ 7 → b ≡ true → code_of kind b ≡ 8
 unfolding code_of
 code-bare kind q y = rw (code_of, q, y)
-
-not-not : (b : Bool) → not (not b) ≡ b
-not-not true = refl
-not-not false = refl
 
 -- a mark says whether one of the owner's entries tells
 pub marked-tells : {tells : Entry → Bool} {es : List Entry} {total most : ℕ} {marks : List Bool} → Marked tells es total most marks → total ≡ length es

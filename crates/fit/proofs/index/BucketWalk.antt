@@ -66,14 +66,14 @@ pub record Walk {A : Type 0} (c : ℕ → ℕ) (b n : ℕ) (f : ℕ → A) (answ
 
 module _ {c : ℕ → ℕ} {most n : ℕ} {t : List ℕ} (I : Indexed most c t n) where
   -- numbers fall along it
-  pub falls-from : {k : ℕ} → k ≤ n → Falls most t k
-  falls-from h = record {
+  pub falls_from : {k : ℕ} → k ≤ n → Falls most t k
+  falls_from h = record {
     room = omega (arith, I.size, I.below);
     lower = λ j lo hi. walk-falls I.chains (c j) (record { bound = omega (arith, hi, h); bucket = λ z. refl }) (λ z. omega arith) refl;
   }
 
-  pub falls-bucket : {b : ℕ} → b < most → (b < length t) × Falls most t (get_or t b 0)
-  falls-bucket {b} h = (omega (arith, I.size), falls-from (walk-starts I.chains b h refl).bound)
+  pub falls_bucket : {b : ℕ} → b < most → (b < length t) × Falls most t (get_or t b 0)
+  falls_bucket {b} h = (omega (arith, I.size), falls_from (walk-starts I.chains b h refl).bound)
 
   -- what numbers of other buckets do not change
   module _ {A : Type 0} (b : ℕ) (f : ℕ → A) (skip : (i : ℕ) → eqb (c (suc i)) b ≡ false → f (suc i) ≡ f i) where

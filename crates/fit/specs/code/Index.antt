@@ -1,7 +1,7 @@
 -- The index of the entries of an input, as the code keeps it: of a description by owner, of a specimen by owner, kind and name. No public
 -- promise names it.
 -- Assumes nothing.
-use Rattle.std.specs.Prelude.{MatchOption, Option, ◌≢◌, ◌≡◌, Bool, ◌&&◌, ◌||◌, cond, not, List, ℕ, ◌+◌, ◌*◌, ◌%◌, ◌≤◌, ◌<◌, ◌-◌, eqb, length, get_or, set}
+use Rattle.std.specs.Prelude.{MatchOption, Option, ◌≢◌, ◌≡◌, Bool, ◌&&◌, ◌||◌, cond, not, List, ℕ, ◌+◌, ◌*◌, ◌≤◌, ◌<◌, ◌-◌, eqb, length, get_or, set}
 use Rattle.std.specs.Int.Bits.{bit_and}
 use Rattle.base.specs.Chain.{Chains}
 use Rattle.blocks.specs.declared.Entry.{Entry}
@@ -12,10 +12,6 @@ use Rattle.blocks.specs.Owners.{owner_of}
 use Rattle.blocks.specs.code.Blockwise.{Whole}
 use Rattle.fit.specs.code.Bare.{bare}
 use Rattle.meaning.specs.Owned.{all_where}
-
--- the index of the bytes of the entry after one: a block has 63 entries, from its byte 4 on
-unfoldable pub next_pos : ℕ → ℕ
-next_pos at = cond (eqb (at % 512) 500) (at + 16) (at + 8)
 
 -- entry k is there, with its bytes
 pub record Has (s : List ℕ) (k : ℕ) : Type 0 where

@@ -2,13 +2,12 @@
 -- Assumes nothing.
 use Prim.Native.Nat.{◌%◌, ◌*◌, ◌+◌, ◌-◌, ◌<◌, ◌≤◌, suc, ℕ}
 use lib.Dec.{eqb}
-use lib.ListN.{drop, drop_of_length-le, get_or, length, length-map, set, take}
-use lib.Seq.{length-take-le, take-suc}
-use mathlib.Core.List.{List, [], ◌++◌, ◌∷◌, append_assoc, append-nil, map, map-append}
+use lib.ListN.{length, set, take}
+use mathlib.Core.List.{List, [], ◌++◌, ◌∷◌, append_assoc, append-nil}
 use mathlib.Core.Logic.{◌≢◌}
 use mathlib.Core.Path.{◌∙◌, ◌≡◌, ap, refl, sym}
 use native.Mathlib.Omega.{arith}
-use Rattle.base.proofs.Parts.{high_of, low_of}
+use Rattle.std.proofs.lemmas.List.{length_push}
 use Rattle.base.proofs.StoresLaws.{stored-none, stored_one, stored-then}
 use Rattle.base.proofs.Tests.{eq-eqb, ge-ltb, lt-ltb, ne_eqb}
 use Rattle.base.specs.Range.{bit}
@@ -20,8 +19,7 @@ use Rattle.blocks.specs.Reading.{reading_of}
 use Rattle.blocks.specs.declared.Reading.TheVariants as reading
 use Rattle.blocks.specs.declared.Reading.{Reading}
 use Rattle.blocks.specs.declared.Schema.TheVariants.{Named}
-use Rattle.lists.proofs.LoopLaws.{Reached, reached-all, reached-left, reached-more, reached-part, reached-some, reached-start}
-use Rattle.lists.specs.Parts.{first_length, parts_of}
+use Rattle.lists.specs.Parts.{parts_of}
 use Rattle.names.proofs.Legality.AcceptedReadings.{both-taken, nameless-sent}
 use Rattle.names.specs.NamedReading.{dictionary_of, named_unfolding, sent_of, unfolding_of}
 use Rattle.pairs.specs.Pairs.{pairs_reading, under}
@@ -108,72 +106,51 @@ module _ (P D s : List ℕ) (i : ℕ) (d : List ℕ) where
 
 -- ---- the services in turn
 
--- n services are judged, by the bytes s of the supplier: their bytes stand in the table, and the answer is what the others give
-pub record Passing (P D s list old : List ℕ) (at n : ℕ) (answers : List ℕ) : Type 0 where
-  pub reached : Reached list at n
-  pub filled : answers ≡ stored old 0 (map (service_bit P D s) (take n (parts_of list)))
-  pub same : services_reading (dictionary_of D) 2 (parts_of list) ≡ services_reading (dictionary_of D) (2 + n) (drop n (parts_of list))
-  pub bits : bits_before P D s 2 (parts_of list) ≡ map (service_bit P D s) (take n (parts_of list)) ++ bits_before P D s (2 + n) (drop n (parts_of list))
+-- n services are judged, by the bytes s of the supplier: their bytes stand in the table, and the answer is what those left give
+pub record Passing (P D s list old : List ℕ) (left : List (List ℕ)) (n : ℕ) (answers : List ℕ) : Type 0 where
+  pub done : List ℕ
+  pub count : n ≡ length done
+  pub filled : answers ≡ stored old 0 done
+  pub same : services_reading (dictionary_of D) 2 (parts_of list) ≡ services_reading (dictionary_of D) (2 + n) left
+  pub bits : bits_before P D s 2 (parts_of list) ≡ done ++ bits_before P D s (2 + n) left
 
-pub passing-start : (P D s list old : List ℕ) → Passing P D s list old 0 0 old
-passing-start P D s list old = record { reached = reached-start list; filled = stored-none old 0; same = refl; bits = refl }
+pub passing-start : (P D s list old : List ℕ) {left : List (List ℕ)} → left ≡ parts_of list → Passing P D s list old left 0 old
+passing-start P D s list old e = rw e (record { done = []; count = refl; filled = stored-none old 0; same = refl; bits = refl })
 
-module _ {P D s list old : List ℕ} {at n : ℕ} {answers : List ℕ} (A : Passing P D s list old at n answers) where
-  abbrev next : List ℕ
-  next = get_or (parts_of list) n []
-
-  abbrev done : ℕ → List ℕ
-  done k = map (service_bit P D s) (take k (parts_of list))
-
-  module _ (h : at < length list) {f : ℕ} (e : f ≡ first_length (high_of at list)) where
-    left : drop n (parts_of list) ≡ next ∷ drop (suc n) (parts_of list)
-    left = reached-left A.reached h
-
-    -- what is judged is the next service
-    judged-next : {r : Judgement} → r ≡ service_judged P D s (2 + n) (low_of f (high_of at list)) → r ≡ service_judged P D s (2 + n) next
-    judged-next q = q ∙ ap (service_judged P D s (2 + n)) (reached-part A.reached h e)
-
+module _ {P D s list old : List ℕ} {left : List (List ℕ)} {n : ℕ} {answers : List ℕ} (A : Passing P D s list old left n answers) where
+  module _ {next : List ℕ} {rest : List (List ℕ)} (e : left ≡ next ∷ rest) {r : Judgement} (w : r ≡ service_judged P D s (2 + n) next) where
     -- refused, it is the answer, and the bytes are those before it
-    pub passing-refused : {r : Judgement} {k j p : ℕ} → r ≡ judgement.Refused k j p → r ≡ service_judged P D s (2 + n) (low_of f (high_of at list))
-        → JudgesAll P D s list old (reading.Refused k j p) answers
-    unfolding services_reading bits_before service_judged
-    passing-refused {k = k} {j = j} {p = p} q w =
-        let R = refused_as P D s (2 + n) next (sym q ∙ judged-next w) in (
-          sym (rw (A.same, left, R)),
-          A.filled ∙ ap (stored old 0) (sym (A.bits ∙ rw (left, R, append-nil (done n)))),
+    pub passing-refused : {k j p : ℕ} → r ≡ judgement.Refused k j p → JudgesAll P D s list old (reading.Refused k j p) answers
+    unfolding services_reading bits_before
+    passing-refused q =
+        let R = refused_as P D s (2 + n) next (sym q ∙ w) in (
+          sym (rw (A.same, e, R)),
+          A.filled ∙ ap (stored old 0) (sym (A.bits ∙ rw (e, R, append-nil A.done))),
         )
 
     -- judged, it is one of those that are passed
-    pub passing-more : {r : Judgement} {b : ℕ} → r ≡ judgement.Bit b → r ≡ service_judged P D s (2 + n) (low_of f (high_of at list))
-        → Passing P D s list old (at + f) (n + 1) (set answers n b)
+    pub passing-more : {b : ℕ} → r ≡ judgement.Bit b → Passing P D s list old rest (n + 1) (set answers n b)
     unfolding services_reading bits_before
-    passing-more {b = b} q w =
-        judged-as P D s (2 + n) next (sym q ∙ judged-next w) (λ m M is.
-        let one : n + 1 ≡ suc n = omega arith in
+    passing-more {b} q =
+        judged-as P D s (2 + n) next (sym q ∙ w) (λ m M is.
         let two : 2 + (n + 1) ≡ suc (2 + n) = omega arith in
-        let some = reached-some A.reached h in
-        let more : done (suc n) ≡ done n ++ (service_bit P D s next ∷ []) =
-        ap (map (service_bit P D s)) (take-suc (parts_of list) n [] some) ∙ map-append (service_bit P D s) (take n (parts_of list)) (next ∷ []) in
-        let many : length (done n) ≡ n = length-map (take n (parts_of list)) (service_bit P D s) ∙ length-take-le n (parts_of list) A.reached.few in
-        let put : set answers n b ≡ stored old 0 (done n ++ (b ∷ [])) = stored-then old (done n) (b ∷ []) 0 n A.filled (stored_one answers n b) (omega (arith, many)) in
-        let rest = bits_before P D s (suc (2 + n)) (drop (suc n) (parts_of list)) in
-        let same : bits_before P D s 2 (parts_of list) ≡ done n ++ (service_bit P D s next ∷ rest) = A.bits ∙ rw (left, M) in
+        let behind = bits_before P D s (suc (2 + n)) rest in
+        let more : bits_before P D s 2 (parts_of list) ≡ A.done ++ (b ∷ behind) = A.bits ∙ rw (e, M, is) in
         record {
-          reached = reached-more A.reached h e;
-          filled = put ∙ rw (one, more, is);
-          same = A.same ∙ rw (left, M, two, one);
-          bits = rw (two, one, more) (same ∙ sym (append_assoc (done n) (service_bit P D s next ∷ []) rest));
+          done = A.done ++ (b ∷ []);
+          count = sym (length_push A.done b ∙ ap (λ (k : ℕ). k + 1) (sym A.count));
+          filled = stored-then old A.done (b ∷ []) 0 n A.filled (stored_one answers n b) (omega (arith, A.count));
+          same = A.same ∙ rw (e, M, two);
+          bits = rw two (more ∙ sym (append_assoc A.done (b ∷ []) behind));
         })
 
   -- at the end all are judged
-  pub passing-all : length list ≤ at → JudgesAll P D s list old (reading.Accepted n) answers
+  pub passing-all : left ≡ [] → n ≡ length (parts_of list) → JudgesAll P D s list old (reading.Accepted n) answers
   unfolding services_reading bits_before
-  passing-all h =
-      let all = reached-all A.reached h in
-      let none : drop n (parts_of list) ≡ [] = drop_of_length-le (parts_of list) {i = n} (omega (arith, all)) in (
-        sym (rw (A.same, none, all)),
-        A.filled ∙ ap (stored old 0) (sym (A.bits ∙ rw (none, append-nil (done n)))),
-      )
+  passing-all z all = (
+    sym (rw (A.same, z, all)),
+    A.filled ∙ ap (stored old 0) (sym (A.bits ∙ rw (z, append-nil A.done))),
+  )
 
 -- ---- the list
 

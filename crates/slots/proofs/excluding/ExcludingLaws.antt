@@ -1,41 +1,26 @@
 -- A place has a property by the slot of its key, and lacks one where it has a partner of it.
 -- Assumes nothing.
-use Prim.Native.Nat.{◌%◌, ◌*◌, ◌+◌, ◌-◌, ◌<◌, ◌≤◌, suc, zero, ℕ}
+use Prim.Native.Nat.{◌+◌, ◌<◌, ◌≤◌, suc, zero, ℕ}
 use lib.Dec.{eqb}
-use lib.ListN.{get_or, length}
+use lib.ListN.{get_or}
 use mathlib.Core.Bool.{Bool, ◌&&◌, false, not, or-false, true}
 use mathlib.Core.List.{List, [], ◌∷◌}
 use mathlib.Core.Logic.{◌≢◌}
 use mathlib.Core.Path.{◌∙◌, ◌≡◌, refl, sym}
 use native.Mathlib.Omega.{arith}
 use Rattle.base.proofs.ChainLaws.{last-bucket, last-most, last_none}
-use Rattle.base.proofs.Tests.{and_both, and_left, and_right, both_ways, eq-cases, eq-eqb, eqb-eq, eqb-self, eqb-sym, lt-cases, ne_eqb, or_cases, or_left, or_right}
+use Rattle.base.proofs.Tests.{and_both, and_left, and_right, both_ways, eq-cases, eq-eqb, eqb-eq, eqb-self, eqb-sym, lt-cases, or_cases, or_left, or_right}
 use Rattle.base.specs.Chain.{last_where}
-use Rattle.pairs.proofs.IndexLaws.{partner-ends, partner-starts}
-use Rattle.pairs.proofs.Partners.{Partner, partnered-is}
-use Rattle.pairs.specs.Pairs.{excludes_in, pair_count, under}
-use Rattle.pairs.specs.code.Index.{PairsIndexed, bucket_of, named_count, number_beside, partnered}
+use Rattle.pairs.proofs.IndexLaws.{partners-end, partners-start}
+use Rattle.pairs.proofs.Partners.{Partner, partnered-any, partnered-is}
+use Rattle.pairs.specs.Pairs.{excludes_in, under}
+use Rattle.pairs.specs.code.Index.{PairsIndexed, bucket_of, named_count, partnered}
 use Rattle.passes.specs.code.Keys.{key_number}
 use Rattle.passes.specs.code.Restrict.{excluded_at, has_at}
 use Rattle.passes.specs.code.Slots.{Slot, same_key, slot}
 use Rattle.slots.proofs.slots.SearchLaws.{keys_of}
 use Rattle.slots.proofs.slots.TableLaws.{key-test}
 use Rattle.slots.specs.code.Tables.{Kept, key_in, low_part, slot_in, slots_from}
-
--- ---- a property's two bytes
-
-module _ (P : List ℕ) (k : ℕ) (from : 1 ≤ k) (to : k ≤ named_count P) where
-  pub named-there : 2 * k ≤ length P
-  unfolding pair_count
-  named-there = omega arith
-
-  -- those of the property beside it
-  pub beside-there : {j : ℕ} → j ≡ number_beside k → (1 ≤ j) × (2 * j ≤ length P)
-  unfolding pair_count
-  beside-there {j} e =
-      eq-cases (k % 2) 1
-      (λ odd. let f : j ≡ k + 1 = e ∙ rw (eq-eqb odd) in (omega arith, omega arith))
-      (λ even. let f : j ≡ k - 1 = e ∙ rw (ne_eqb even) in (omega arith, omega arith))
 
 -- ---- on lists
 
@@ -83,7 +68,7 @@ module _ (P : List ℕ) (v p : ℕ) where
 
   -- a property whose bucket in the index is empty is excluded nowhere
   pub not-excluded : {index : List ℕ} → PairsIndexed P index → get_or index (bucket_of p) 0 ≡ 0 → (ss : List Slot) → excluded_at (under P) ss v p ≡ false
-  not-excluded I z ss = excluded-partnered ss ∙ partner-starts I (has_at ss v) p (sym z) ∙ partner-ends I (has_at ss v) p refl
+  not-excluded I z ss = excluded-partnered ss ∙ partnered-any P (has_at ss v) p _ ∙ rw (sym (partners-start I p (sym z)) ∙ partners-end P p refl) refl
 
 -- ---- in a table
 

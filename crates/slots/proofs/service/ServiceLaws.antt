@@ -1,34 +1,28 @@
 -- A pass that checks and judges the entries of a service: what it knows at the start, after one entry more, and at the end.
 -- Assumes nothing.
-use Prim.Native.Nat.{◌*◌, ◌+◌, ◌-◌, ◌<◌, ◌≤◌, suc, ℕ}
-use lib.Dec.{eqb}
+use Prim.Native.Nat.{◌+◌, ◌-◌, ◌<◌, ◌≤◌, suc, ℕ}
 use lib.ListN.{get_or, length, length-set, set}
 use lib.Seq.{get_or-set_other, get_or-set_same}
 use mathlib.Core.Bool.{Bool, cond, false, true}
 use mathlib.Core.List.{List}
 use mathlib.Core.Logic.{◌≢◌}
-use mathlib.Core.Path.{◌∙◌, ◌≡◌, ap, refl, subst, sym}
+use mathlib.Core.Path.{◌∙◌, ◌≡◌, ap, refl, sym}
 use native.Mathlib.Omega.{arith}
-use Rattle.std.specs.Prelude.{IfSome, Option, unwrap_or}
+use Rattle.std.specs.Prelude.{IfSome, None, Option, Some, is_some, unwrap_or}
 use Rattle.base.proofs.SearchLaws.{first-later, first-sooner}
-use Rattle.base.proofs.Tests.{bool_cases, eq-cases}
+use Rattle.base.proofs.Tests.{bool_cases, both_ways, eq-cases}
 use Rattle.base.specs.Search.{first_from}
-use Rattle.blocks.specs.Entries.{entries_of, entry_from, nth}
-use Rattle.blocks.specs.code.Blockwise.{InBlock}
-use Rattle.blocks.specs.Faults.{first}
+use Rattle.blocks.specs.Entries.{entries_of, nth}
 use Rattle.blocks.specs.Owners.{owner_of}
-use Rattle.blocks.specs.code.ReadingSteps.{Levels, level_under, rule_faults}
+use Rattle.blocks.specs.code.ReadingSteps.{Levels}
 use Rattle.blocks.specs.declared.Entry.{Entry}
-use Rattle.blocks.specs.declared.Finding.TheVariants as finding
 use Rattle.blocks.specs.declared.Schema.TheVariants.{Named}
 use Rattle.logic.specs.Background.{Background}
 use Rattle.meaning.specs.Owned.{Owned}
 use Rattle.passes.specs.code.Slots.{Slot}
 use Rattle.slots.proofs.states.SlotStates.{holds-here, stated-more, stated-start}
-use Rattle.slots.specs.code.Pass.{CheckedTo, JudgedSoFar, PassedTo}
+use Rattle.slots.specs.code.Pass.{JudgedSoFar}
 use Rattle.slots.specs.code.States.{Indexed, holds_by_slots, holds_in_state, passed, state_below}
-use Rattle.slots.specs.declared.Pass.TheVariants.{Faulty, Through}
-use Rattle.slots.specs.declared.Pass.{Pass}
 
 -- ---- the first that fails among one more
 
@@ -94,22 +88,6 @@ module _ {b : Background} {d t next head : List ℕ} {used : ℕ} where
               q ∙ ap (λ (r : Bool). cond r 0 (suc n)) (sym here) ∙ rw q (first-last (holds_by_slots b ss (entries_of d)) n (sym none ∙ J.first O ss x));
         }
 
--- ---- what a block comes to
-
-module _ (b : Background) (d t next head : List ℕ) (used n count : ℕ) (level states : List ℕ) {r : Pass} (P : PassedTo b d t next head used n count level states r) where
-  pub block-faulty : {k p : ℕ} → r ≡ Faulty k p → first (rule_faults (Named 0) (entries_of d) (n + 1) count) ≡ finding.Faulty k p
-  block-faulty q = subst (PassedTo b d t next head used n count level states) q P
-
-  pub block-through : {f : Option ℕ} → r ≡ Through f
-      → (first (rule_faults (Named 0) (entries_of d) (n + 1) count) ≡ finding.Clean) × Levels (Named 0) (entries_of d) level (n + count + 1)
-      × JudgedSoFar b d t next head used (n + count) states (unwrap_or f 0) × IfSome f (λ k. 1 ≤ k)
-  block-through q = subst (PassedTo b d t next head used n count level states) q P
-
--- the level that the code works out is that of the table
-pub level-plain : (e : Entry) (l : ℕ) {v : ℕ} → v ≡ cond (eqb e.kind 5) (l + 1) 0 → v ≡ level_under (Named 0) e.kind l
-unfolding level_under
-level-plain e l q = q
-
 -- an owner that has a level stands earlier
 pub owner-early : (es : List Entry) {t : List ℕ} {n : ℕ} {e : Entry} → Levels (Named 0) es t (n + 1) → 1 ≤ n → e ≡ nth es n → e.owner < n
 unfolding owner_of
@@ -122,18 +100,9 @@ judged-all J e O ss x = rw (← e) (J.first O ss x)
 
 -- ---- after one that fails, entries are only checked
 
--- the rest of a block
-pub in_rest : {d : List ℕ} {from count n i : ℕ} → InBlock d from count n → i ≤ count → InBlock d (from + 8 * i) (count - i) (n + i)
-in_rest {d} {from} {count} {n} {i} B le =
-    record {
-      there = omega (arith, B.there);
-      within = omega (arith, B.within);
-      each = λ j h. ap (entry_from d) (omega arith) ∙ B.each (i + j) (omega arith) ∙ ap (nth (entries_of d)) (omega arith);
-    }
-
 module _ {b : Background} {d t next head : List ℕ} {used : ℕ} where
   -- what failed first stays the first
-  judged-along : {n f : ℕ} {states : List ℕ} → JudgedSoFar b d t next head used n states f → f ≢ 0 → (count : ℕ) → JudgedSoFar b d t next head used (n + count) states f
+  pub judged-along : {n f : ℕ} {states : List ℕ} → JudgedSoFar b d t next head used n states f → f ≢ 0 → (count : ℕ) → JudgedSoFar b d t next head used (n + count) states f
   judged-along {n} {f} {states} J z count =
       record {
         room = J.room;
@@ -145,14 +114,12 @@ module _ {b : Background} {d t next head : List ℕ} {used : ℕ} where
             ∙ first-sooner (holds_by_slots b ss (entries_of d)) 1 n (n + count + 1) (omega arith) (J.first O ss x) z);
       }
 
-module _ (b : Background) (d t next head : List ℕ) (used n count : ℕ) (level states : List ℕ) (r : Pass) where
-  pub checked-passed : {f : ℕ} → JudgedSoFar b d t next head used n states f → f ≢ 0 → CheckedTo d n count f level r → PassedTo b d t next head used n count level states r
-  checked-passed {f} J z A = elim r as (λ x. CheckedTo d n count f level x → PassedTo b d t next head used n count level states x)
-      [ Faulty k p ↦ λ c. c | Through g ↦ λ c. (c.0, c.1, rw c.2 (judged-along J z count), rw c.2 (omega arith)) ] A
+-- none has failed
+pub none-failed : (f : Option ℕ) → is_some f ≡ false → unwrap_or f 0 ≡ 0
+none-failed None h = refl
+none-failed (Some k) h = both_ways refl h
 
-  -- what the rest of a block comes to, the block does
-  pub passed-on : (n' count' : ℕ) → n' + count' ≡ n + count
-      → first (rule_faults (Named 0) (entries_of d) (n + 1) count) ≡ first (rule_faults (Named 0) (entries_of d) (n' + 1) count')
-      → PassedTo b d t next head used n' count' level states r → PassedTo b d t next head used n count level states r
-  passed-on n' count' s e A = elim r as (λ x. PassedTo b d t next head used n' count' level states x → PassedTo b d t next head used n count level states x)
-      [ Faulty k p ↦ λ c. e ∙ c | Through f ↦ λ c. (e ∙ c.0, rw s at c.1, rw s at c.2, c.3) ] A
+-- one has
+pub one-failed : (f : Option ℕ) → is_some f ≡ true → IfSome f (λ k. 1 ≤ k) → unwrap_or f 0 ≢ 0
+one-failed None h i = both_ways h refl
+one-failed (Some k) h i = λ z. omega arith

@@ -15,7 +15,7 @@ use Rattle.logic.specs.Background.{Background}
 use Rattle.meaning.specs.Owned.{Owned}
 use Rattle.passes.specs.code.Slots.{Slot}
 use Rattle.slots.proofs.HoldingLaws.{state-every}
-use Rattle.slots.proofs.entries.NextEntry.{owner-before}
+use Rattle.slots.proofs.NextEntry.{owner-before}
 use Rattle.slots.specs.code.States.{Indexed, Stated, holds_by_slots, holds_in_state, passed, state_below, state_of}
 
 module _ {d t next head : List ℕ} {used : ℕ} where

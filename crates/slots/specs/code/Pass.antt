@@ -1,10 +1,10 @@
 -- One pass over the entries of a service, which checks and judges them: how far it has come, and what it answers.
 -- Assumes nothing.
-use Rattle.std.specs.Prelude.{◌+◌, ◌<◌, ◌≤◌, ℕ, IfSome, Some, get_or, length, unwrap_or, List, ◌≡◌}
+use Rattle.std.specs.Prelude.{◌<◌, ◌≤◌, ℕ, IfSome, get_or, length, unwrap_or, List, ◌≡◌}
 use Rattle.base.specs.Search.{first_from}
 use Rattle.blocks.specs.Entries.{entries_of}
 use Rattle.blocks.specs.Faults.{first}
-use Rattle.blocks.specs.code.ReadingSteps.{Levels, rule_faults}
+use Rattle.blocks.specs.code.ReadingSteps.{rule_faults}
 use Rattle.blocks.specs.declared.Finding.TheVariants as finding
 use Rattle.blocks.specs.declared.Schema.TheVariants.{Named}
 use Rattle.logic.specs.Background.{Background}
@@ -21,19 +21,6 @@ pub record JudgedSoFar (b : Background) (d t next head : List ℕ) (used n : ℕ
   pub small : f ≡ 0 → (j : ℕ) → j ≤ n → get_or states j 0 ≤ passed
   pub stated : f ≡ 0 → Owned (entries_of d) → Stated d t next head used n states
   pub first : Owned (entries_of d) → (ss : List Slot) → Indexed ss t next head used → f ≡ first_from (holds_by_slots b ss (entries_of d)) 1 n
-
--- what going over `count` entries after the first n answers, with the tables of levels and of states as they are then
-abbrev pub PassedTo : Background → List ℕ → List ℕ → List ℕ → List ℕ → ℕ → ℕ → ℕ → List ℕ → List ℕ → Pass → Type 0
-PassedTo b d t next head used n count level states (Faulty k p) = first (rule_faults (Named 0) (entries_of d) (n + 1) count) ≡ finding.Faulty k p
-PassedTo b d t next head used n count level states (Through f) =
-    (first (rule_faults (Named 0) (entries_of d) (n + 1) count) ≡ finding.Clean) × Levels (Named 0) (entries_of d) level (n + count + 1)
-    × JudgedSoFar b d t next head used (n + count) states (unwrap_or f 0) × IfSome f (λ k. 1 ≤ k)
-
--- what checking `count` entries after the first n answers, where entry f does not hold and none is judged
-abbrev pub CheckedTo : List ℕ → ℕ → ℕ → ℕ → List ℕ → Pass → Type 0
-CheckedTo d n count f level (Faulty k p) = first (rule_faults (Named 0) (entries_of d) (n + 1) count) ≡ finding.Faulty k p
-CheckedTo d n count f level (Through g) =
-    (first (rule_faults (Named 0) (entries_of d) (n + 1) count) ≡ finding.Clean) × Levels (Named 0) (entries_of d) level (n + count + 1) × (g ≡ Some f)
 
 -- what going over all of them does
 abbrev pub PassedAll : Background → List ℕ → List ℕ → List ℕ → List ℕ → ℕ → ℕ → Pass → Type 0

@@ -1,8 +1,7 @@
 -- Which entries hold, by the slots of a normal form. No public promise names these.
 -- Assumes nothing.
-use Rattle.std.specs.Prelude.{◌+◌, ◌<◌, ◌≤◌, suc, zero, ℕ, eqb, leb, get_or, length, Bool, ◌||◌, cond, false, not, true, List, ◌≢◌, ◌≡◌}
+use Rattle.std.specs.Prelude.{◌<◌, ◌≤◌, suc, zero, ℕ, eqb, leb, get_or, length, Bool, ◌||◌, cond, false, not, true, List, ◌≢◌, ◌≡◌}
 use Rattle.std.proofs.Math.Option.{Option, none}
-use Rattle.base.specs.Search.{first_from}
 use Rattle.blocks.specs.Entries.{entries_of, nth}
 use Rattle.blocks.specs.Owners.{owner_of}
 use Rattle.blocks.specs.declared.Entry.{Entry}
@@ -98,9 +97,3 @@ pub record Stated (d : List ℕ) (t next head : List ℕ) (used n : ℕ) (states
   pub room : length (entries_of d) < length states
   pub small : (j : ℕ) → j ≤ n → get_or states j 0 ≤ passed
   pub right : (ss : List Slot) → Indexed ss t next head used → (o : ℕ) → o ≤ n → (o ≢ 0 → (nth (entries_of d) o).kind ≡ 5) → get_or states o 0 ≡ state_of ss (entries_of d) o o
-
--- what a search of `count` entries after the first n answers: the first that fails or 0, and where it is 0 the table of states has theirs
-pub record Searched (b : Background) (d : List ℕ) (t next head : List ℕ) (used n count : ℕ) (states : List ℕ) (r : ℕ) : Type 0 where
-  pub low : r ≤ n + count
-  pub stated : r ≡ 0 → Stated d t next head used (n + count) states
-  pub first : (ss : List Slot) → Indexed ss t next head used → r ≡ first_from (holds_by_slots b ss (entries_of d)) (n + 1) count

@@ -2,7 +2,7 @@
 -- Assumes nothing.
 use Rattle.std.specs.Prelude.{◌*◌, ◌+◌, ◌≤◌, max, suc, ℕ, drop, get_or, length, List, ◌≢◌, ◌≡◌}
 use Rattle.blocks.specs.Faults.{first}
-use Rattle.blocks.specs.code.ReadingSteps.{Levels, rule_faults}
+use Rattle.blocks.specs.code.ReadingSteps.{rule_faults}
 use Rattle.blocks.specs.declared.Entry.{Entry}
 use Rattle.blocks.specs.declared.Finding.TheVariants as finding
 use Rattle.blocks.specs.declared.Schema.TheVariants.{Named}
@@ -20,13 +20,7 @@ pub record Gone (S L : ℕ → ℕ) (es : List Entry) (t : List ℕ) (total most
   pub size : size_by S es ≡ total + size_by S (drop i es)
   pub deep : levels_by L es ≡ max most (levels_from L depth (suc i) (drop i es))
 
--- what going over `count` entries after the first n answers, with the table as it is then
-abbrev pub CheckedTo : ℕ → (ℕ → ℕ) → (ℕ → ℕ) → List Entry → ℕ → ℕ → List ℕ → Checked → Type 0
-CheckedTo most S L es n count t (Faulty k p) = first (rule_faults (Named most) es (n + 1) count) ≡ finding.Faulty k p
-CheckedTo most S L es n count t (Sound z l) =
-    (first (rule_faults (Named most) es (n + 1) count) ≡ finding.Clean) × Levels (Named most) es t (n + count + 1) × Gone S L es t z l (n + count)
-
--- what going over all of them does
+-- what going over all of them answers
 abbrev pub CheckedAll : ℕ → (ℕ → ℕ) → (ℕ → ℕ) → List Entry → ℕ → Checked → Type 0
 CheckedAll most S L es total (Faulty k p) = first (rule_faults (Named most) es 1 total) ≡ finding.Faulty k p
 CheckedAll most S L es total (Sound z l) = (first (rule_faults (Named most) es 1 total) ≡ finding.Clean) × (z ≡ size_by S es) × (l ≡ levels_by L es)

@@ -6,7 +6,7 @@ use Rattle.fit.specs.declared.Counted.{Counted}
 use Rattle.fit.proofs.answer.fit.Goals as goal
 
 pub fit_accepted-counted-requires : goal.fit_accepted-counted-requires
-fit_accepted-counted-requires c = reading-accepted _ _ (sym c.read_specimen-first.ensures ∙ c.in-Accepted.is)
+fit_accepted-counted-requires c = rw c.from.ensures (reading-accepted _ _ (sym c.read_specimen-first.ensures ∙ c.in-Accepted.is))
 
 pub returns-in-Refused : goal.returns-in-Refused
 returns-in-Refused c = first-refused _ _ _ c.read_specimen-first.ensures c.in-Refused.is

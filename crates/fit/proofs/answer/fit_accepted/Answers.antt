@@ -5,7 +5,7 @@ use Rattle.fit.proofs.answer.fit_accepted.Goals as goal
 
 pub judge_top-j-requires : goal.judge_top-j-requires
 judge_top-j-requires c =
-    (c.requires, sym c.read-second.ensures ∙ c.in-Accepted.is)
+    (c.requires, rw c.from.ensures (sym c.read-second.ensures ∙ c.in-Accepted.is))
 
 pub returns-in-Refused : goal.returns-in-Refused
 returns-in-Refused c =

@@ -4,7 +4,7 @@ use Rattle.fit.proofs.AnswerLaws.{counted-first, counted-first-refused}
 use Rattle.fit.proofs.answer.fit_counted.Goals as goal
 
 pub fit_accepted-requires : goal.fit_accepted-requires
-fit_accepted-requires c = sym c.read-first.ensures ∙ c.in-Accepted.is
+fit_accepted-requires c = rw c.from.ensures (sym c.read-first.ensures ∙ c.in-Accepted.is)
 
 pub returns-in-Refused : goal.returns-in-Refused
 returns-in-Refused c =

@@ -1,13 +1,13 @@
--- `entry_at` meets its contract.
-use native.Mathlib.Omega.{arith}
-use Rattle.fit.proofs.entries.PassLaws.{has-read, has_there}
+-- `entry_at` meets its contract: the bytes are there, and are those of the entry.
+use Rattle.std.proofs.Common.{arith}
+use Rattle.fit.proofs.entries.EntryLaws.{has_small, has_there, has_read}
 use Rattle.fit.proofs.entries.entry_at.Goals as goal
 
-pub place_of-requires : goal.place_of-requires
-place_of-requires c = let H = c.requires in (H.some, omega (arith, H.within, H.few))
+pub overflow_add-at : goal.overflow_add-at
+overflow_add-at c = omega (arith, has_small c.requires c.place_of-at.ensures)
 
-pub entry_from-requires : goal.entry_from-requires
-entry_from-requires c = has_there c.requires c.place_of.ensures
+pub slice_bounds-as_chunks-end : goal.slice_bounds-as_chunks-end
+slice_bounds-as_chunks-end c = omega (arith, has_there c.requires c.place_of-at.ensures)
 
 pub returns : goal.returns
-returns c = has-read c.requires c.place_of.ensures c.entry_from.ensures
+returns c = has_read c.requires c.place_of-at.ensures (omega arith) c.as_chunks.ensures.front c.from.ensures

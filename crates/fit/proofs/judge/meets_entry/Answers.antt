@@ -22,16 +22,16 @@ entry_at-entry-requires c =
 pub returns-then-meets_atom : goal.returns-then-meets_atom
 returns-then-meets_atom c =
     let m = c.meets_atom.ensures in
-    (sym (meets-atoms _ _ _ _ _ c.if-left-eq0.false c.entry_at-entry.ensures c.if-kind-ne5.true m.0) ∙ c.if-meets_atom.true, m.1)
+    (sym (meets-atoms _ _ _ _ _ c.if-left-eq0.false c.entry_at-entry.ensures c.if-kind-ne-EVERY.true m.0) ∙ c.if-meets_atom.true, m.1)
 
-pub returns-then-kind-ne5 : goal.returns-then-kind-ne5
-returns-then-kind-ne5 c =
+pub returns-then-kind-ne-EVERY : goal.returns-then-kind-ne-EVERY
+returns-then-kind-ne-EVERY c =
     let m = c.meets_atom.ensures in
-    (sym (meets-atoms _ _ _ _ _ c.if-left-eq0.false c.entry_at-entry.ensures c.if-kind-ne5.true m.0) ∙ c.if-meets_atom.false, m.1)
+    (sym (meets-atoms _ _ _ _ _ c.if-left-eq0.false c.entry_at-entry.ensures c.if-kind-ne-EVERY.true m.0) ∙ c.if-meets_atom.false, m.1)
 
 pub returns-then-has_bare : goal.returns-then-has_bare
 returns-then-has_bare c = (
-  sym (meets-bare _ _ _ _ _ c.if-left-eq0.false c.entry_at-entry.ensures c.if-kind-ne5.false c.link-link.ensures
+  sym (meets-bare _ _ _ _ _ c.if-left-eq0.false c.entry_at-entry.ensures c.if-kind-ne-EVERY.false c.link-link.ensures
       (bare-fail _ _ c.demands.ensures c.has_bare.ensures c.if-demands.true c.if-has_bare.true)),
   refl,
 )
@@ -48,7 +48,7 @@ loop-h-init c =
       | else-demands-via-else-demands w ↦ bare-asked _ _ c.demands.ensures w.if-demands.false
     ] in
     rw c.into_iter-h-iterator.ensures.into_iter_gives
-    (pass-first R _ _ (meets-bucket _ _ _ _ _ c.if-left-eq0.false c.entry_at-entry.ensures c.if-kind-ne5.false c.link-link.ensures _ asked)
+    (pass-first R _ _ (meets-bucket _ _ _ _ _ c.if-left-eq0.false c.entry_at-entry.ensures c.if-kind-ne-EVERY.false c.link-link.ensures _ asked)
     (hash-below _ _ _ _ (omega (arith, R.index.below))) b.0 b.1 b.2)
 
 pub entry_at-requires : goal.entry_at-requires

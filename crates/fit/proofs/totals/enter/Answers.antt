@@ -10,9 +10,9 @@ use Rattle.fit.specs.code.Rows.{empty_row, pair_of}
 use Rattle.fit.proofs.totals.enter.Goals.{In-Some}
 use Rattle.fit.proofs.totals.enter.Goals as goal
 
-pub returns-then-e-ne7 : goal.returns-then-e-ne7
-returns-then-e-ne7 c =
-    (c.requires.0, small-other c.requires.1, rw (ne_eqb c.if-e-ne7.true) (omega arith), λ es at T. enter-other at T c.if-e-ne7.true)
+pub returns-then-e-ne-GROUP : goal.returns-then-e-ne-GROUP
+returns-then-e-ne-GROUP c =
+    (c.requires.0, small-other c.requires.1, rw (ne_eqb c.if-e-ne-GROUP.true) (omega arith), λ es at T. enter-other at T c.if-e-ne-GROUP.true)
 
 -- ---- the row is found
 
@@ -37,8 +37,8 @@ returns-in-Some c =
     let small = c.requires.1.items _ w.from w.to in (
       rows-found c.requires.0 i.result w.to (omega (arith, i.ensures.0, few)) refl,
       small-set c.requires.1 i.result there (omega arith) (omega arith) (λ h. absurd (omega arith)) (omega (arith, i.ensures.0, few, small, i.ensures.1)) refl,
-      rw (eq-eqb c.if-e-ne7.false) i.ensures.2,
-      λ es at T. enter-found at T c.if-e-ne7.false (omega (arith, c.link-link.ensures, c.in-Some.ensures.1)) i.ensures.1 w there few i.ensures.0 refl,
+      rw (eq-eqb c.if-e-ne-GROUP.false) i.ensures.2,
+      λ es at T. enter-found at T c.if-e-ne-GROUP.false (omega (arith, c.link-link.ensures, c.in-Some.ensures.1)) i.ensures.1 w there few i.ensures.0 refl,
     )
 
 -- ---- a new row
@@ -56,6 +56,6 @@ returns-in-None c =
     let there : c.args.used + 1 < length c.args.rows.now = omega (arith, c.requires.1.within, c.requires.2, c.requires.0.room) in (
       rows_new c.requires.0 i.result (omega (arith, c.requires.1.within, c.requires.2)) (omega (arith, y, i.ensures.1)) b refl c.put.ensures,
       small-set c.requires.1 i.result there (omega arith) (omega arith) (λ h. omega arith) (omega (arith, y, i.ensures.1)) refl,
-      rw (eq-eqb c.if-e-ne7.false) i.ensures.2,
-      λ es at T. enter-new at T c.if-e-ne7.false small i.ensures.1 (found_none _ _ _ _ f.1 (sym f.0) owner link refl) there y refl,
+      rw (eq-eqb c.if-e-ne-GROUP.false) i.ensures.2,
+      λ es at T. enter-new at T c.if-e-ne-GROUP.false small i.ensures.1 (found_none _ _ _ _ f.1 (sym f.0) owner link refl) there y refl,
     )

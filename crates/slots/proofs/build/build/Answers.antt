@@ -1,38 +1,113 @@
-use mathlib.Core.Path.{refl}
-use native.Mathlib.Omega.{arith}
-use Rattle.blocks.proofs.Refusing.Blockwise.{at_first, at_next, in_block}
-use Rattle.blocks.specs.code.Blockwise.{next_count}
-use Rattle.slots.proofs.build.BuildLaws.{building-ends, building-starts, exact-starts}
+use Rattle.std.proofs.Common.{◌≡◌, ◌+◌, ℕ, suc, sym, refl, ◌++◌, ◌∷◌, [], ap, get_or, length, length-set, ◌∙◌, arith}
+use Rattle.std.proofs.lemmas.List.{length_push}
+use Rattle.blocks.proofs.Refusing.InOrder.{Turn, may-number, over-numbered, turn-numbered, turned-all-numbered}
+use Rattle.blocks.specs.Entries.{Bounded, entries_of, entry_from, nth}
+use Rattle.slots.proofs.build.BuildLaws.{building-ends, building-more, building-starts, exact-starts}
+use Rattle.slots.proofs.NextEntry.{owner-before}
+use Rattle.slots.specs.code.Tables.{Entered, high_kind, link_kind, low_kind}
+use Rattle.slots.proofs.build.build.Goals.{After-from-e, In-Some}
 use Rattle.slots.proofs.build.build.Goals as goal
 
-pub loop-n-init : goal.loop-n-init
-loop-n-init g c =
+-- the turn: which entry it has
+here : (g : _) (c : In-Some g) → (c.in-Some.before ≡ length c.loop-before.yielded) × Turn c.args.d.now c.args.total c.in-Some.before (entry_from c.in-Some.bytes.now 0)
+here g c =
+    let l = c.loop-before in
+    turn-numbered l.invariant.over l.yielded l.before-iterator l.yielded_by c.next.result c.next.new.self c.in-Some.before c.in-Some.bytes c.in-Some.is c.next.ensures.steps
+
+-- what is read is of its type
+bounded : (g : _) (c : After-from-e g) → Bounded c.from-e.result
+bounded g c =
+    let k = c.from-e.type_inv in
+    record { kind = omega (arith, k); reserved = omega (arith, k); owner = omega (arith, k); name = omega (arith, k); number = omega (arith, k) }
+
+pub loop-before-init : goal.loop-before-init
+loop-before-init g c =
     let p = c.requires in
-    (at_first, building-starts p.0.0 p.1 p.2, exact-starts _, refl, refl, refl)
+    let n = c.enumerate-before-items.ensures in
+    let o = over-numbered p.0.3 (omega (arith, p.0.0)) c.entries_in_order.ensures.items n.source n.count c.into_iter-before-iterator.ensures.into_iter_gives in
+    record {
+      goes = (tt, tt, may-number o (omega arith));
+      ends = tt;
+      over = o;
+      building = building-starts p.0.0 p.1 p.2;
+      exact = exact-starts _;
+      tables = refl;
+      nexts = refl;
+      nodes = refl;
+    }
 
-pub build_block-used-requires : goal.build_block-used-requires
-build_block-used-requires g c =
+pub bounds-node-from : goal.bounds-node-from
+bounds-node-from g c =
+    let h = here g (goal.at.bounds-node-from g c).In-Some in
     let p = c.requires.0 in
-    let l = c.loop-n.invariant in
-    (omega (arith, l.1.kept.most, c.told-head), (p.2, omega (arith, p.0, p.1), in_block l.0 c.loop-n-test.true c.next_count-count.ensures p.0 p.3, l.1))
+    omega (arith, c.from.ensures, owner-before p.2 {n = c.in-Some.before} (omega (arith, h.1.before, p.0)) (c.from-e.ensures ∙ h.1.entry ∙ ap (nth _) (omega arith)), h.1.before, p.0, c.loop-before.invariant.building.places)
 
-pub overflow_add-n : goal.overflow_add-n
-unfolding next_count
-overflow_add-n g c = omega (arith, c.next_count-count.ensures, c.loop-n-test.true, c.requires.0.1)
+pub entry_key-requires : goal.entry_key-requires
+entry_key-requires g c =
+    let h = here g (goal.at.entry_key-requires g c).In-Some in
+    let B = c.loop-before.invariant.building in
+    omega (arith, c.from-place.ensures, B.nodes.small c.from.result, B.few, h.0, h.1.before, c.requires.0.0, c.requires.0.1)
 
-pub loop-n-smaller : goal.loop-n-smaller
-unfolding next_count
-loop-n-smaller g c = omega (arith, c.next_count-count.ensures, c.loop-n-test.true)
+pub enter-s-requires : goal.enter-s-requires
+enter-s-requires g c =
+    let h = here g (goal.at.enter-s-requires g c).In-Some in
+    let B = c.loop-before.invariant.building in
+    let p = c.requires.0 in (
+      omega (arith, B.kept.most, c.told-head),
+      (
+        B.kept,
+        omega (arith, B.few, h.0, h.1.before, p.1),
+        omega (arith, B.few, h.0, h.1.before, p.0, B.room),
+        omega (arith, B.few, h.0, h.1.before, p.0, B.nexts),
+        c.entry_key.ensures.1,
+        c.entry_bounds.ensures.3,
+        c.entry_bounds.ensures.2,
+      ),
+    )
 
-pub loop-n-preserved : goal.loop-n-preserved
-loop-n-preserved g c =
-    let l = c.loop-n.invariant in
-    let r = c.build_block-used.ensures in
-    let k = c.build_block-used.auto in
-    (at_next l.0 c.loop-n-test.true c.next_count-count.ensures, r.0, r.1 _ l.2, omega (arith, k, l.3), omega (arith, k, l.4), omega (arith, k, l.5))
+pub overflow_cast-node : goal.overflow_cast-node
+overflow_cast-node g c =
+    let h = here g (goal.at.overflow_cast-node g c).In-Some in
+    omega (arith, c.enter-s.ensures.0, c.loop-before.invariant.building.few, h.0, h.1.before, c.requires.0.1)
+
+pub offset_bounds-node-before : goal.offset_bounds-node-before
+offset_bounds-node-before g c = let h = here g (goal.at.offset_bounds-node-before g c).In-Some in omega (arith, h.1.before, c.requires.0.1)
+
+pub bounds-node-before : goal.bounds-node-before
+bounds-node-before g c =
+    let h = here g (goal.at.bounds-node-before g c).In-Some in
+    omega (arith, h.1.before, c.requires.0.0, c.loop-before.invariant.building.places)
+
+pub loop-before-preserved : goal.loop-before-preserved
+loop-before-preserved g c =
+    let h = here g (goal.at.loop-before-preserved g c).In-Some in
+    let l = c.loop-before in
+    let i = l.invariant in
+    let p = c.requires.0 in
+    let e = c.from-e.result in
+    let is : e ≡ nth (entries_of c.args.d.now) (suc c.in-Some.before) = c.from-e.ensures ∙ h.1.entry ∙ ap (nth _) (omega arith) in
+    let b = bounded g (goal.at.loop-before-preserved g c).After-from-e in
+    let n : length (l.yielded ++ (c.in-Some.before, c.in-Some.bytes) ∷ []) ≡ c.in-Some.before + 1 = length_push l.yielded (c.in-Some.before, c.in-Some.bytes) ∙ ap (λ k. k + 1) (sym h.0) in
+    let place : c.from-place.result ≡ get_or l.node e.owner 0 = c.from-place.ensures ∙ ap (λ (j : ℕ). get_or l.node j 0) c.from.ensures in
+    let E : Entered l.table l.next l.head l.used (get_or l.node e.owner 0) (link_kind e.kind) e.name
+    (low_kind e.kind e.number) (high_kind e.kind e.number) c.enter-s.result _ _ _ =
+    rw (c.entry_bounds.ensures.0, c.entry_bounds.ensures.1) at
+    (c.enter-s.ensures.1 (get_or l.node e.owner 0) (link_kind e.kind) e.name b.name (c.entry_key.ensures.0 ∙ rw place)) in
+    let k = c.enter-s.auto in
+    record {
+      goes = c.in-Some.ensures.goes.keeps;
+      ends = tt;
+      over = i.over;
+      building = rw (n, c.max-used.ensures) (building-more p.2 (rw (← h.0) at i.building) (omega (arith, h.1.before, p.0)) is b c.enter-s.ensures.0 (omega arith) (omega (arith, k)) (omega (arith, k)) E);
+      exact = rw c.max-used.ensures (E.exact _ i.exact);
+      tables = omega (arith, k, i.tables);
+      nexts = omega (arith, k, i.nexts);
+      nodes = simp length-set i.nodes;
+    }
 
 pub returns : goal.returns
 returns g c =
-    let l = c.loop-n.invariant in
+    let l = c.loop-before in
+    let n = turned-all-numbered l.invariant.over l.yielded l.before-iterator l.yielded_by c.next.result c.next.new.self c.in-None.is c.next.ensures.steps in
     let p = c.requires.0 in
-    building-ends (omega (arith, c.loop-n-test.false, p.0)) l.1 l.2 (omega (arith, l.1.few, l.0.few, p.0))
+    building-ends (omega (arith, n, p.0)) l.invariant.building l.invariant.exact (omega (arith, l.invariant.building.few, n, p.0))

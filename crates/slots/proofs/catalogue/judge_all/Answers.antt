@@ -10,10 +10,9 @@ use Rattle.slots.proofs.catalogue.judge_all.Goals as goal
 pub chained_slots-used-requires : goal.chained_slots-used-requires
 chained_slots-used-requires c =
     let p = c.requires in
-    let few = accepted-few 1 _ p.3 in (
+    let few = accepted-few 1 _ p.2 in (
       omega arith,
       (
-        p.0,
         few,
         omega (arith, few.1, length-replicate {A = ℕ} 1009 0),
         workspace-zeros _ 1009 4093 (omega (arith, few.1)) (omega arith) (omega arith),

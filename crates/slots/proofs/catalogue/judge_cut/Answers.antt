@@ -4,13 +4,13 @@ use Rattle.slots.proofs.catalogue.CatalogueLaws.{list-broken, list-empty, list-j
 use Rattle.slots.proofs.catalogue.judge_cut.Goals as goal
 
 pub returns-then-list-eq0 : goal.returns-then-list-eq0
-returns-then-list-eq0 c = list-empty c.args.pairs.now c.args.dictionary.now c.args.c.now c.args.list.now c.args.answers.now c.if-list-eq0.true
+returns-then-list-eq0 c = list-empty c.args.exclusions.pairs.now c.args.dictionary.now c.args.c.now c.args.list.now c.args.answers.now c.if-list-eq0.true
 
 pub returns-then-list-ne0 : goal.returns-then-list-ne0
-returns-then-list-ne0 c = list-broken c.args.pairs.now c.args.dictionary.now c.args.c.now c.args.list.now c.args.answers.now c.if-list-eq0.false c.if-list-ne0.true
+returns-then-list-ne0 c = list-broken c.args.exclusions.pairs.now c.args.dictionary.now c.args.c.now c.args.list.now c.args.answers.now c.if-list-eq0.false c.if-list-ne0.true
 
 pub returns-then-parts_in-gt64 : goal.returns-then-parts_in-gt64
-returns-then-parts_in-gt64 c = list-many c.args.pairs.now c.args.dictionary.now c.args.c.now c.args.list.now c.args.answers.now c.if-list-eq0.false c.if-list-ne0.false c.parts_in.ensures c.if-parts_in-gt64.true
+returns-then-parts_in-gt64 c = list-many c.args.exclusions.pairs.now c.args.dictionary.now c.args.c.now c.args.list.now c.args.answers.now c.if-list-eq0.false c.if-list-ne0.false c.parts_in.ensures c.if-parts_in-gt64.true
 
 pub returns : goal.returns
-returns c = list-judged c.args.pairs.now c.args.dictionary.now c.args.c.now c.args.list.now c.args.answers.now c.if-list-eq0.false c.if-list-ne0.false c.parts_in.ensures (omega (arith, c.if-parts_in-gt64.false)) c.judge_all.ensures
+returns c = list-judged c.args.exclusions.pairs.now c.args.dictionary.now c.args.c.now c.args.list.now c.args.answers.now c.if-list-eq0.false c.if-list-ne0.false c.parts_in.ensures (omega (arith, c.if-parts_in-gt64.false)) c.judge_all.ensures

@@ -13,17 +13,17 @@ pub judge_cut-requires : goal.judge_cut-requires
 judge_cut-requires c =
     let e = sym c.read_sent-reading.ensures.0 ∙ c.in-Accepted.is in
     let same = judged-sent c.args.dictionary.now c.args.c.now c.if-dictionary-eq0.true in
-    (c.requires.0, c.requires.1, taken-by c.args.dictionary.now 1 c.args.c.now e, ap (reading_of Description 1) same ∙ (sent-accepted c.args.dictionary.now 1 c.args.c.now e 1).0 ∙ ap Accepted (sym c.from.ensures))
+    (c.requires.0, taken-by c.args.dictionary.now 1 c.args.c.now e, ap (reading_of Description 1) same ∙ (sent-accepted c.args.dictionary.now 1 c.args.c.now e 1).0 ∙ ap Accepted (sym c.from.ensures))
 
 pub returns-then-dictionary-eq0 : goal.returns-then-dictionary-eq0
 returns-then-dictionary-eq0 c =
     let same = judged-sent c.args.dictionary.now c.args.c.now c.if-dictionary-eq0.true in
-    supplier-read c.args.pairs.now c.args.dictionary.now c.args.c.now c.args.list.now c.args.answers.now c.read_sent-reading.ensures.0 c.in-Accepted.is same c.judge_cut.ensures
+    supplier-read c.args.exclusions.pairs.now c.args.dictionary.now c.args.c.now c.args.list.now c.args.answers.now c.read_sent-reading.ensures.0 c.in-Accepted.is same c.judge_cut.ensures
 
 pub slice_bounds-judge_cut-end : goal.slice_bounds-judge_cut-end
 slice_bounds-judge_cut-end c =
     let e = sym c.read_sent-reading.ensures.0 ∙ c.in-Accepted.is in
-    omega (arith, c.bytes_for-end.ensures.0, blocks-room _ (unfolded-few c.args.dictionary.now 1 c.args.c.now e), c.read_sent-reading.auto, c.requires.2)
+    omega (arith, c.bytes_for-end.ensures.0, blocks-room _ (unfolded-few c.args.dictionary.now 1 c.args.c.now e), c.read_sent-reading.auto, c.requires.1)
 
 pub judge_cut-requires-in-Accepted : goal.judge_cut-requires-in-Accepted
 judge_cut-requires-in-Accepted c =
@@ -31,7 +31,7 @@ judge_cut-requires-in-Accepted c =
     let q = c.in-Accepted.is in
     let e = sym r.0 ∙ q in
     let same = judged-buffer c.args.dictionary.now c.args.c.now _ _ c.if-dictionary-eq0.false c.bytes_for-end.ensures.0 (r.1 _ q) in
-    (c.requires.0, c.requires.1, taken-by c.args.dictionary.now 1 c.args.c.now e, ap (reading_of Description 1) same ∙ (sent-accepted c.args.dictionary.now 1 c.args.c.now e 1).0 ∙ ap Accepted (sym c.from-in-Accepted.ensures))
+    (c.requires.0, taken-by c.args.dictionary.now 1 c.args.c.now e, ap (reading_of Description 1) same ∙ (sent-accepted c.args.dictionary.now 1 c.args.c.now e 1).0 ∙ ap Accepted (sym c.from-in-Accepted.ensures))
 
 pub returns-in-Refused : goal.returns-in-Refused
-returns-in-Refused c = supplier-refused c.args.pairs.now c.args.dictionary.now c.args.c.now c.args.list.now c.args.answers.now c.read_sent-reading.ensures.0 c.in-Refused.is
+returns-in-Refused c = supplier-refused c.args.exclusions.pairs.now c.args.dictionary.now c.args.c.now c.args.list.now c.args.answers.now c.read_sent-reading.ensures.0 c.in-Refused.is

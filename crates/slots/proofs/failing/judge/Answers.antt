@@ -9,15 +9,14 @@ use Rattle.slots.proofs.failing.judge.Goals as goal
 pub chained_slots-used-requires : goal.chained_slots-used-requires
 chained_slots-used-requires g c =
     let a = c.requires in
-    let few = accepted-few 1 _ a.2 in (
+    let few = accepted-few 1 _ a.1 in (
       omega arith,
       (
-        a.0,
         few,
-        a.4,
-        workspace-zeros _ _ _ a.5 a.8 a.9,
-        blank-zeros _ _ a.5,
-        blank-zeros _ _ a.5,
+        a.3,
+        workspace-zeros _ _ _ a.4 a.7 a.8,
+        blank-zeros _ _ a.4,
+        blank-zeros _ _ a.4,
       ),
     )
 
@@ -26,4 +25,4 @@ returns g c =
     let a = c.requires in
     let s = c.chained_slots-used.ensures in
     let held = c.new-supplier.ensures _ _ s.settled'.tabled (s.settled'.bads 0) in
-    judging-found a.1.lawful _ a.2 a.3 a.4 s (c.judge-e.ensures.2 _ held.1) c.answer_of.ensures
+    judging-found a.0.lawful _ a.1 a.2 a.3 s (c.judge-e.ensures.2 _ held.1) c.answer_of.ensures

@@ -12,7 +12,7 @@ pub restrict_slots-requires : goal.restrict_slots-requires
 restrict_slots-requires g c =
     let built = c.build-used.ensures in
     let a = c.requires in
-    (omega (arith, a.3.most, c.told-head), (a.0, built.kept, omega (arith, built.few, a.1.0, a.1.1), built-placed (slots-early _) built))
+    (omega (arith, a.2.most, c.told-head), (built.kept, omega (arith, built.few, a.0.0, a.0.1), built-placed (slots-early _) built))
 
 pub settle-requires : goal.settle-requires
 settle-requires g c =
@@ -20,8 +20,8 @@ settle-requires g c =
     let r = built-restricted c.restrict_slots.ensures c.build-used.ensures in (
       r.kept.room,
       built-placed (under-early (under _) _) r,
-      blank-less (omega (arith, r.few, a.1.0)) a.4,
-      blank-less (omega (arith, r.few, a.1.0)) a.5,
+      blank-less (omega (arith, r.few, a.0.0)) a.3,
+      blank-less (omega (arith, r.few, a.0.0)) a.4,
     )
 
 pub returns : goal.returns
@@ -29,4 +29,4 @@ returns g c =
     let a = c.requires in
     let r = built-restricted c.restrict_slots.ensures c.build-used.ensures in
     let s = c.settle.ensures in
-    record { settled' = settled-from r s (omega (arith, a.1.0, a.1.1)); exact = settled-exact r.exact s; kept = settled-kept r.kept s }
+    record { settled' = settled-from r s (omega (arith, a.0.0, a.0.1)); exact = settled-exact r.exact s; kept = settled-kept r.kept s }

@@ -1,10 +1,13 @@
--- `fill_listed` meets its contract: the index is that of the whole list.
-use mathlib.Core.Path.{refl}
-use native.Mathlib.Omega.{arith}
-use Rattle.pairs.proofs.IndexLaws.{index-whole}
+-- `fill_listed` meets its contract: the list is indexed whole.
+use Rattle.std.proofs.Common.{◌∙◌, List, ℕ, subst}
+use Rattle.pairs.proofs.IndexLaws.{list-whole}
+use Rattle.pairs.specs.Pairs.{under}
+use Rattle.slots.specs.code.Standing.{Fills}
 use Rattle.slots.proofs.filling.fill_listed.Goals as goal
 
-pub fill_indexed-requires : goal.fill_indexed-requires
-fill_indexed-requires c =
-    let few = c.requires in
-    index-whole _ few refl (omega (arith, few)) c.index_pairs.ensures
+pub returns : goal.returns
+returns c =
+    let a = c.args in
+    let f = c.fill_indexed in
+    subst (λ (P : List ℕ). Fills (under P) a.d.now a.table.now a.bad.now a.full.now f.result f.new.table f.new.bad f.new.full)
+    (c.new-exclusions.ensures ∙ list-whole _ c.requires) f.ensures

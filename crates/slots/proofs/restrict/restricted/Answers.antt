@@ -17,10 +17,10 @@ use Rattle.slots.proofs.restrict.restricted.Goals as goal
 pub returns-then-stays : goal.returns-then-stays
 returns-then-stays g c =
     let x = c.args.x in
-    let index = c.args.index.now in
+    let index = c.args.exclusions.index.now in
     let test : (eqb (get_or index (bucket_of (key_in x % 65536)) 0) 0 && ltb (key_in x % 131072) 98304) ≡ true
     = rw (← c.key_in-k.ensures.0) (sym c.stays.ensures ∙ c.if-stays.true) in
-    sym (word-stays x (not-excluded _ _ _ c.requires.0 (eqb-eq (and_left _ _ test)) _) (and_right (eqb (get_or index (bucket_of (key_in x % 65536)) 0) 0) _ test))
+    sym (word-stays x (not-excluded _ _ _ c.args.exclusions.indexed (eqb-eq (and_left _ _ test)) _) (and_right (eqb (get_or index (bucket_of (key_in x % 65536)) 0) 0) _ test))
 
 pub returns-then-not-of_property : goal.returns-then-not-of_property
 unfolding restricted_word
@@ -31,6 +31,6 @@ unfolding restricted_word
 returns g c =
     let a = c.args in
     let out = c.excluded-out.ensures
-    ∙ ap (λ (key : ℕ). excluded_at (under a.pairs.now) (slots_in a.slots.table.now a.slots.used) (key / 131072) (key % 65536)) c.key_in-k.ensures.0 in
+    ∙ ap (λ (key : ℕ). excluded_at (under a.exclusions.pairs.now) (slots_in a.slots.table.now a.slots.used) (key / 131072) (key % 65536)) c.key_in-k.ensures.0 in
     rw (restricted_word, confirmed c.of_property.ensures (ap not c.if-not-of_property.false))
     (c.restricted_property.ensures ∙ ap (λ (o : _). property_word o a.x) out)

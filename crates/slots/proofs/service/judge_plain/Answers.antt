@@ -7,7 +7,7 @@ use Rattle.slots.proofs.service.judge_plain.Goals as goal
 
 pub returns-then-supplier : goal.returns-then-supplier
 returns-then-supplier c =
-    λ s H. plain-broken c.args.pairs.now s c.args.input c.args.d.now c.requires.1.lawful H c.if-supplier.true c.judge_broken.ensures
+    λ s H. plain-broken c.args.exclusions.pairs.now s c.args.input c.args.d.now c.requires.0.lawful H c.if-supplier.true c.judge_broken.ensures
 
 pub judge_entries-requires : goal.judge_entries-requires
 judge_entries-requires c =
@@ -15,8 +15,8 @@ judge_entries-requires c =
     let r = c.read_blocks-reading.ensures in
     let q = c.in-Accepted.is in
     let w = blocks-whole (Named 0) c.args.input c.args.d.now r q in
-    (p.0, p.1, c.if-supplier.false, blocks-accepted (Named 0) c.args.input c.args.d.now r q, w.0, omega (arith, w.1), w.2, p.2, omega arith)
+    (p.0, c.if-supplier.false, blocks-accepted (Named 0) c.args.input c.args.d.now r q, w.0, omega (arith, w.1), w.2, p.1, omega arith)
 
 pub returns-in-Refused : goal.returns-in-Refused
 returns-in-Refused c =
-    λ s H. plain-refused c.args.pairs.now s c.args.input c.args.d.now (blocks-refused (Named 0) c.args.input c.args.d.now c.read_blocks-reading.ensures c.in-Refused.is)
+    λ s H. plain-refused c.args.exclusions.pairs.now s c.args.input c.args.d.now (blocks-refused (Named 0) c.args.input c.args.d.now c.read_blocks-reading.ensures c.in-Refused.is)

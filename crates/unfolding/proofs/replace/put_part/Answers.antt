@@ -1,37 +1,117 @@
-use lib.ListN.{length, length-append, length-map, set}
+use Rattle.std.proofs.Common.{◌≡◌, ◌+◌, ◌<◌, ◌≤◌, sym, List, ◌++◌, ◌∷◌, [], ap, get_or, length, length-append, map, set, ◌∙◌, arith}
+use Rattle.std.proofs.lemmas.List.{length-map, length_push}
 use lib.Seq.{get_or-set_same}
-use mathlib.Core.List.{map}
-use mathlib.Core.Path.{ap}
-use native.Mathlib.Omega.{arith}
-use Rattle.blocks.proofs.Refusing.Blockwise.{at_first, in_block}
-use Rattle.blocks.specs.Entries.{entries_of}
-use Rattle.blocks.specs.code.Blockwise.{next_count}
-use Rattle.names.specs.Unfold.{relocate, unfolded}
+use Rattle.base.proofs.Tests.{eq-eqb, ne_eqb}
+use Rattle.blocks.proofs.Refusing.InOrder.{Turn, may-number, over-numbered, turn-numbered, turned-all-numbered}
+use Rattle.blocks.specs.Entries.{entries_of, entry_from}
+use Rattle.blocks.specs.declared.Entry.{Entry}
+use Rattle.names.specs.Unfold.{owned_by, relocate, unfolded}
 use Rattle.names.specs.code.Passes.{kept_by}
-use Rattle.unfolding.proofs.ReplaceLaws.{pass-ends, pass-starts-at}
+use Rattle.unfolding.proofs.ReplaceLaws.{entry-few, entry-form, entry_next, entry-owner, pass-ends, pass-entry, pass-name, pass-starts-at, room-entry, room-name}
 use Rattle.unfolding.specs.code.Known.{size_in}
 use Rattle.unfolding.proofs.replace.put_part.Goals as goal
+use Rattle.unfolding.proofs.replace.put_part.Goals.{In-Some}
 
-pub loop-n-init : goal.loop-n-init
-loop-n-init c = (at_first, pass-starts-at (set c.args.number.now 0 c.args.o) c.args.o c.args.out.now (get_or-set_same c.args.number.now 0 c.args.o 0 (omega arith)) c.requires.4)
+-- the turn: which entry it has
+here : (c : In-Some) → (c.in-Some.before ≡ length c.loop-before.yielded) × Turn c.args.s.now c.args.total c.in-Some.before (entry_from c.in-Some.bytes.now 0)
+here c =
+    let l = c.loop-before in
+    turn-numbered l.invariant.over l.yielded l.before-iterator l.yielded_by c.next.result c.next.new.self c.in-Some.before c.in-Some.bytes c.in-Some.is c.next.ensures.steps
 
-pub put_block-requires : goal.put_block-requires
-unfolding next_count
-put_block-requires c =
-    let p = c.requires in
+there : (c : In-Some) → c.in-Some.before < length (entries_of c.args.s.now)
+there c = omega (arith, c.requires.0, (here c).1.before)
+
+-- one entry more is passed
+longer : (c : In-Some) → length (c.loop-before.yielded ++ (c.in-Some.before, c.in-Some.bytes) ∷ []) ≡ c.in-Some.before + 1
+longer c = length_push c.loop-before.yielded (c.in-Some.before, c.in-Some.bytes) ∙ ap (λ k. k + 1) (sym (here c).0)
+
+-- all has room
+room : (c : In-Some)
+    → length (c.args.out.now ++ map (relocate (length c.args.out.now) c.args.o) (unfolded (kept_by (size_in c.args.tables.now.of)) (entries_of c.args.s.now))) ≤ 1008
+room c =
     let a = c.args in
-    let l = c.loop-n in
-    let n = c.next_count-count.ensures in
     let U = unfolded (kept_by (size_in a.tables.now.of)) (entries_of a.s.now) in
-    let room = length-append a.out.now (map (relocate (length a.out.now) a.o) U) in
-    let moved = length-map U (relocate (length a.out.now) a.o) in (
-      in_block l.invariant.0 c.loop-n-test.true n p.0 p.1,
-      omega (arith, n, p.2),
-      p.3,
-      p.4,
-      p.5,
-      omega (arith, ap length l.invariant.1.all, room, moved, p.6),
+    omega (arith, length-append a.out.now (map (relocate (length a.out.now) a.o) U), length-map U (relocate (length a.out.now) a.o), c.requires.6)
+
+pub loop-before-init : goal.loop-before-init
+loop-before-init c =
+    let a = c.args in
+    let n = c.enumerate-before-items.ensures in
+    let o = over-numbered c.requires.1 (omega (arith, c.requires.0)) c.entries_in_order.ensures.items n.source n.count c.into_iter-before-iterator.ensures.into_iter_gives in
+    record {
+      goes = (tt, tt, may-number o (omega arith));
+      ends = tt;
+      over = o;
+      passing = pass-starts-at (set a.number.now 0 a.o) a.o a.out.now (get_or-set_same a.number.now 0 a.o 0 (omega arith)) c.requires.4;
+    }
+
+pub bounds-number-from : goal.bounds-number-from
+bounds-number-from c =
+    let i = (goal.at.bounds-number-from c).In-Some in
+    let o = entry-owner (entries_of c.args.s.now) _ (there i) (c.from-e.ensures ∙ (here i).1.entry) c.requires.4 in
+    omega (arith, o, c.from.ensures, (here i).1.before, c.requires.2)
+
+pub keep_name-requires : goal.keep_name-requires
+keep_name-requires c =
+    let i = (goal.at.keep_name-requires c).In-Some in
+    let h = here i in
+    let es : List Entry = entries_of c.args.s.now in
+    let e = c.from-e.ensures ∙ h.1.entry in
+    let named = eq-eqb c.if-e-eq9.true in
+    let fits = room-name (rw (← h.0) at c.loop-before.invariant.passing) (entry_next es _ (there i) e) named in (
+      named,
+      entry-form es _ (there i) e c.requires.3,
+      entry-few es _ (there i) e c.requires.5 named,
+      omega (arith, fits, room i),
     )
 
+pub push-requires : goal.push-requires
+push-requires c =
+    let i = (goal.at.push-requires c).In-Some in
+    let h = here i in
+    let e = c.from-e.ensures ∙ h.1.entry in
+    let fits = room-entry (rw (← h.0) at c.loop-before.invariant.passing) (entry_next (entries_of c.args.s.now) _ (there i) e) (ne_eqb c.if-e-eq9.false) in
+    omega (arith, fits, room i)
+
+pub bounds-number-before : goal.bounds-number-before
+bounds-number-before c = omega (arith, (here (goal.at.bounds-number-before c).In-Some).1.before, c.requires.2)
+
+pub offset_bounds-number-before : goal.offset_bounds-number-before
+offset_bounds-number-before c = omega (arith, (here (goal.at.offset_bounds-number-before c).In-Some).1.before, c.requires.2)
+
+pub loop-before-preserved-then-e-eq9 : goal.loop-before-preserved-then-e-eq9
+loop-before-preserved-then-e-eq9 c =
+    let i = (goal.at.loop-before-preserved-then-e-eq9 c).In-Some in
+    let h = here i in
+    let l = c.loop-before in
+    let next = entry_next (entries_of c.args.s.now) _ (there i) (c.from-e.ensures ∙ h.1.entry) in
+    let o = ap (λ k. get_or l.number k 0) c.from.ensures in
+    let T = kept_by (size_in c.args.tables.now.of) in
+    record {
+      goes = c.in-Some.ensures.goes.keeps;
+      ends = tt;
+      over = l.invariant.over;
+      passing = rw (longer i)
+          (pass-name (rw (← h.0) at l.invariant.passing) next (eq-eqb c.if-e-eq9.true) (ap (λ k. map (relocate (length l.out) k) (T c.from-e.result.name)) o) c.keep_name.ensures);
+    }
+
+pub loop-before-preserved : goal.loop-before-preserved
+loop-before-preserved c =
+    let i = (goal.at.loop-before-preserved c).In-Some in
+    let h = here i in
+    let l = c.loop-before in
+    let next = entry_next (entries_of c.args.s.now) _ (there i) (c.from-e.ensures ∙ h.1.entry) in
+    let o = ap (λ k. owned_by (get_or l.number k 0) c.from-e.result) c.from.ensures in
+    record {
+      goes = c.in-Some.ensures.goes.keeps;
+      ends = tt;
+      over = l.invariant.over;
+      passing = rw (longer i)
+          (pass-entry (rw (← h.0) at l.invariant.passing) next (ne_eqb c.if-e-eq9.false) (omega (arith, c.told-number, h.1.before, c.requires.2)) o c.push.ensures c.len.ensures.0);
+    }
+
 pub returns : goal.returns
-returns c = pass-ends c.loop-n.invariant.1 (omega (arith, c.requires.0))
+returns c =
+    let l = c.loop-before in
+    let n = turned-all-numbered l.invariant.over l.yielded l.before-iterator l.yielded_by c.next.result c.next.new.self c.in-None.is c.next.ensures.steps in
+    pass-ends l.invariant.passing (omega (arith, n, c.requires.0))

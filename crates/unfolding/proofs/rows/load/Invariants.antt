@@ -1,13 +1,13 @@
--- `load` meets its contract: block by block, the entries passed stand in the table.
-use Prim.Native.Nat.{◌-◌}
-use lib.ListN.{take}
-use mathlib.Core.Path.{◌≡◌}
+-- `load` meets its contract: the entries passed stand in the table.
+use Rattle.std.proofs.Common.{◌≡◌, length, take}
+use Rattle.blocks.proofs.Refusing.InOrder.{Over}
 use Rattle.blocks.specs.Entries.{entries_of}
-use Rattle.blocks.specs.code.Blockwise.{AtBlock}
 use Rattle.unfolding.proofs.rows.load.Given as goal
 
-abbrev pub invariant-loop-n : goal.invariant-loop-n
-invariant-loop-n l = AtBlock l.total l.n l.at × (l.rows ≡ take l.n (entries_of l.s))
-
-abbrev pub decreases-loop-n : goal.decreases-loop-n
-decreases-loop-n l = l.total - l.n
+abbrev pub invariant-loop-bytes : goal.invariant-loop-bytes
+invariant-loop-bytes l = record {
+  goes : (goal.iterator-loop-bytes).can_next l.bytes-iterator;
+  ends : (goal.iterator-loop-bytes).is_finite l.bytes-iterator;
+  over : Over l.s l.total l.initial.bytes-iterator;
+  loaded : l.rows ≡ take (length l.yielded) (entries_of l.s);
+}

@@ -4,7 +4,7 @@ use mathlib.Core.Path.{◌∙◌, ◌≡◌, ap, refl, sym}
 use native.Mathlib.Omega.{arith}
 use Rattle.base.proofs.ChainLaws.{last-here}
 use Rattle.base.specs.Chain.{last_where}
-use Rattle.fit.proofs.index.BucketWalk.{falls-bucket, walk-at, walk-first, walk-on, walk-tells}
+use Rattle.fit.proofs.index.BucketWalk.{falls_bucket, walk-at, walk-first, walk-on, walk-tells}
 use Rattle.fit.proofs.totals.RowLaws.{pair-below, pair-bucket, pair-passes, pair-skips}
 use Rattle.fit.specs.code.Rows.{pair_bucket, pairs_of}
 use Rattle.fit.proofs.totals.Totals.row_of.Goals.{In-Some}
@@ -14,7 +14,7 @@ pub hash-requires : goal.hash-requires
 hash-requires c = (omega (arith, c.args.self.now.kept.index.below), c.requires)
 
 pub of_bucket-r-items-requires : goal.of_bucket-r-items-requires
-of_bucket-r-items-requires c = falls-bucket c.args.self.now.kept.index c.hash.ensures.1
+of_bucket-r-items-requires c = falls_bucket c.args.self.now.kept.index c.hash.ensures.1
 
 pub loop-r-init : goal.loop-r-init
 loop-r-init c =

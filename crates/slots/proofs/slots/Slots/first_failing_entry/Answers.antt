@@ -1,55 +1,92 @@
-use Prim.Native.Nat.{◌+◌, ◌-◌, ◌≤◌}
-use mathlib.Core.Path.{◌∙◌, ◌≡◌, refl, sym}
-use native.Mathlib.Omega.{arith}
-use Rattle.base.proofs.SearchLaws.{first-end, first-later, first-sooner}
-use Rattle.blocks.proofs.Refusing.Blockwise.{at_first, at_next, in_block}
-use Rattle.blocks.specs.code.Blockwise.{next_count}
-use Rattle.slots.proofs.states.SlotStates.{stated-start}
-use Rattle.slots.proofs.slots.Slots.first_failing_entry.Goals.{After-next_count-count}
+use Rattle.std.proofs.Common.{◌≡◌, ◌+◌, ◌-◌, ◌<◌, ℕ, suc, sym, ◌++◌, ◌∷◌, [], ap, get_or, length, ◌∙◌, arith}
+use Rattle.std.proofs.lemmas.List.{length_push}
+use Rattle.base.proofs.SearchLaws.{first-end, first_goes, first_stops}
+use Rattle.blocks.proofs.Refusing.InOrder.{Turn, may-number, over-numbered, turn-numbered, turned-all-numbered}
+use Rattle.blocks.specs.Entries.{entries_of, entry_from, nth}
+use Rattle.pairs.specs.Pairs.{under}
+use Rattle.slots.proofs.NextEntry.{owner-before}
+use Rattle.slots.proofs.states.SlotStates.{holds-here, state-small, stated-more, stated-start}
+use Rattle.slots.proofs.slots.Slots.first_failing_entry.Goals.{In-Some}
 use Rattle.slots.proofs.slots.Slots.first_failing_entry.Goals as goal
 
--- the block ends with the last entry or before
-count-within : (g : _) (c : After-next_count-count g) → c.loop-n.n + 1 + c.next_count-count.result ≤ c.args.total + 1
-unfolding next_count
-count-within g c = omega (arith, c.next_count-count.ensures, c.if-total-n.false)
+-- the turn: which entry it has
+here : (g : _) (c : In-Some g) → (c.in-Some.before ≡ length c.loop-before.yielded) × Turn c.args.d.now c.args.total c.in-Some.before (entry_from c.in-Some.bytes.now 0)
+here g c =
+    let l = c.loop-before in
+    turn-numbered l.invariant.over l.yielded l.before-iterator l.yielded_by c.next.result c.next.new.self c.in-Some.before c.in-Some.bytes c.in-Some.is c.next.ensures.steps
 
-pub loop-n-init : goal.loop-n-init
-loop-n-init g c =
-    let e : c.args.total + 1 - 1 ≡ c.args.total = omega arith in
-    (at_first, stated-start c.args.states.now (omega (arith, c.requires.1.0, c.requires.2)), refl, λ ss x. rw e)
-
-pub failing_in_block-requires : goal.failing_in_block-requires
-failing_in_block-requires g c =
+pub loop-before-init : goal.loop-before-init
+loop-before-init g c =
     let p = c.requires in
-    let l = c.loop-n.invariant in
-    (omega arith, (p.0, p.1.2, omega (arith, p.1.0, p.1.1), in_block l.0 (omega (arith, c.if-total-n.false)) c.next_count-count.ensures p.1.0 p.1.3, l.1))
+    let n = c.enumerate-before-items.ensures in
+    let o = over-numbered p.0.3 (omega (arith, p.0.0)) c.entries_in_order.ensures.items n.source n.count c.into_iter-before-iterator.ensures.into_iter_gives in
+    let e : c.args.total + 1 - 1 ≡ c.args.total = omega arith in
+    record {
+      goes = (tt, tt, may-number o (omega arith));
+      ends = tt;
+      over = o;
+      stated = stated-start c.args.states.now (omega (arith, p.0.0, p.1));
+      rest = λ ss x. rw e;
+    }
 
-pub overflow_add-n : goal.overflow_add-n
-overflow_add-n g c = omega (arith, count-within g (goal.at.overflow_add-n g c).After-next_count-count, c.requires.1.1)
+pub bounds-states-from : goal.bounds-states-from
+bounds-states-from g c =
+    let h = here g (goal.at.bounds-states-from g c).In-Some in
+    let p = c.requires.0 in
+    let is : c.from-e.result ≡ nth (entries_of c.args.d.now) (suc c.in-Some.before) = c.from-e.ensures ∙ h.1.entry ∙ ap (nth _) (omega arith) in
+    omega (arith, c.from.ensures, owner-before p.2 (omega (arith, h.1.before, p.0)) is, h.1.before, p.0, c.loop-before.invariant.stated.room)
 
-pub loop-n-smaller : goal.loop-n-smaller
-unfolding next_count
-loop-n-smaller g c = omega (arith, c.next_count-count.ensures, c.if-total-n.false)
+pub look-requires : goal.look-requires
+look-requires g c =
+    let h = here g (goal.at.look-requires g c).In-Some in
+    let p = c.requires.0 in
+    let l = c.loop-before in
+    let is : c.from-e.result ≡ nth (entries_of c.args.d.now) (suc c.in-Some.before) = c.from-e.ensures ∙ h.1.entry ∙ ap (nth _) (omega arith) in
+    (omega arith, state-small p.2 (rw (← h.0) at l.invariant.stated) (omega (arith, h.1.before, p.0)) is (ap (λ (o : ℕ). get_or l.states o 0) c.from.ensures))
 
-pub loop-n-preserved : goal.loop-n-preserved
-loop-n-preserved g c =
-    let l = c.loop-n in
-    let f = c.in-None.ensures.0 in
-    let e : l.n + c.next_count-count.result + 1 ≡ l.n + 1 + c.next_count-count.result = omega arith in (
-      at_next l.invariant.0 (omega (arith, c.if-total-n.false)) c.next_count-count.ensures,
-      f.stated refl,
-      omega (arith, c.failing_in_block.auto, l.invariant.2),
-      λ ss x. l.invariant.3 ss x ∙ first-later _ _ _ _ (omega arith) (count-within g (goal.at.loop-n-preserved g c).After-next_count-count) (sym (f.first ss x)) ∙ rw e,
+pub offset_bounds-states-before : goal.offset_bounds-states-before
+offset_bounds-states-before g c = let h = here g (goal.at.offset_bounds-states-before g c).In-Some in omega (arith, h.1.before, c.requires.0.1)
+
+pub bounds-states-before : goal.bounds-states-before
+bounds-states-before g c = let h = here g (goal.at.bounds-states-before g c).In-Some in omega (arith, h.1.before, c.requires.0.0, c.loop-before.invariant.stated.room)
+
+pub loop-before-preserved : goal.loop-before-preserved
+loop-before-preserved g c =
+    let h = here g (goal.at.loop-before-preserved g c).In-Some in
+    let p = c.requires.0 in
+    let l = c.loop-before in
+    let i = l.invariant in
+    let is : c.from-e.result ≡ nth (entries_of c.args.d.now) (suc c.in-Some.before) = c.from-e.ensures ∙ h.1.entry ∙ ap (nth _) (omega arith) in
+    let read : get_or l.states c.from.result 0 ≡ get_or l.states c.from-e.result.owner 0 = ap (λ (o : ℕ). get_or l.states o 0) c.from.ensures in
+    let S = rw (← h.0) at i.stated in
+    let there : c.in-Some.before < length (entries_of c.args.d.now) = omega (arith, h.1.before, p.0) in
+    let k = c.in-Some-look.ensures in
+    let n : length (l.yielded ++ (c.in-Some.before, c.in-Some.bytes) ∷ []) ≡ c.in-Some.before + 1 = length_push l.yielded (c.in-Some.before, c.in-Some.bytes) ∙ ap (λ m. m + 1) (sym h.0) in
+    record {
+      goes = c.in-Some.ensures.goes.keeps;
+      ends = tt;
+      over = i.over;
+      stated = rw n (stated-more p.2 S there is read (omega arith) k.0 k.2);
+      rest = λ ss x. rw n (i.rest ss x ∙ rw (← h.0) (first_goes _ _ _ (omega (arith, h.1.before)) (holds-here p.2 S there is read (omega arith) (under c.args.exclusions.pairs.now) ss x (k.1 ss x))));
+    }
+
+pub returns-in-None-look : goal.returns-in-None-look
+returns-in-None-look g c =
+    let h = here g (goal.at.returns-in-None-look g c).In-Some in
+    let p = c.requires.0 in
+    let l = c.loop-before in
+    let i = l.invariant in
+    let is : c.from-e.result ≡ nth (entries_of c.args.d.now) (suc c.in-Some.before) = c.from-e.ensures ∙ h.1.entry ∙ ap (nth _) (omega arith) in
+    let read : get_or l.states c.from.result 0 ≡ get_or l.states c.from-e.result.owner 0 = ap (λ (o : ℕ). get_or l.states o 0) c.from.ensures in
+    let S = rw (← h.0) at i.stated in
+    let k = c.in-None-look.ensures in (
+      omega (arith, h.1.before),
+      omega arith,
+      λ ss x. sym (i.rest ss x ∙ rw (← h.0) (first_stops _ _ _ (omega (arith, h.1.before)) (holds-here p.2 S (omega (arith, h.1.before, p.0)) is read (omega arith) (under c.args.exclusions.pairs.now) ss x (k.1 ss x)))),
     )
 
-pub returns-then-total-n : goal.returns-then-total-n
-returns-then-total-n g c = (omega arith, tt, λ ss x. sym (c.loop-n.invariant.3 ss x ∙ first-end _ _ _ (omega (arith, c.if-total-n.true))))
-
-pub returns-in-Some : goal.returns-in-Some
-returns-in-Some g c =
-    let f = c.in-Some.ensures.0 in
-    let some = c.in-Some.ensures.1 in (
-      omega (arith, f.low, count-within g (goal.at.returns-in-Some g c).After-next_count-count),
-      some,
-      λ ss x. sym (c.loop-n.invariant.3 ss x ∙ first-sooner _ _ _ _ (count-within g (goal.at.returns-in-Some g c).After-next_count-count) (f.first ss x) (λ z. omega (arith, some))),
-    )
+pub returns : goal.returns
+returns g c =
+    let l = c.loop-before in
+    let n = turned-all-numbered l.invariant.over l.yielded l.before-iterator l.yielded_by c.next.result c.next.new.self c.in-None.is c.next.ensures.steps in
+    (omega arith, tt, λ ss x. sym (l.invariant.rest ss x ∙ first-end _ _ _ (omega (arith, n))))

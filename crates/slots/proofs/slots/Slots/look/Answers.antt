@@ -25,10 +25,10 @@ slot-found g c ss i = c.entry_slot-s.ensures.2 ss i ∙ ap (λ (v : ℕ). entry_
 
 -- and whether it holds there is by its bounds, or beside them
 held : (g : _) (c : After-holds_at g) → (ss : List Slot) → Indexed ss c.args.self.table.now c.args.self.next.now c.args.self.head.now c.args.self.used
-    → c.holds_at.result ≡ holds_in_state (under c.args.pairs.now) ss c.args.state c.args.e
+    → c.holds_at.result ≡ holds_in_state (under c.args.exclusions.pairs.now) ss c.args.state c.args.e
 held g c ss i =
     let a = c.args in
-    c.holds_at.ensures ∙ rw c.from-place.ensures (sym (looked-holds i c.entry_slot-s.ensures.0 c.bounds-x.ensures c.if-state-eq-PASSED.false a.e (slot-found g c ss i) a.pairs.now))
+    c.holds_at.ensures ∙ rw c.from-place.ensures (sym (looked-holds i c.entry_slot-s.ensures.0 c.bounds-x.ensures c.if-state-eq-PASSED.false a.e (slot-found g c ss i) a.exclusions.pairs.now))
 
 pub returns-then-not-holds_at : goal.returns-then-not-holds_at
 returns-then-not-holds_at g c =
