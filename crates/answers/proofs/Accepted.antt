@@ -1,16 +1,12 @@
 -- What is accepted: what a call goes on with is a plain description that is accepted, whichever input it is, and that the same items fit.
 -- Assumes nothing.
-use Prim.Native.Nat.{◌*◌, ℕ}
-use lib.ListN.{length}
-use mathlib.Core.List.{List}
-use mathlib.Core.Path.{◌∙◌, ◌≡◌, ap, sym}
+use Rattle.std.proofs.Common.{◌≡◌, ℕ, ◌*◌, List, length, Ok, sym, ap, ◌∙◌}
 use Rattle.answers.specs.Promise.{Admitted, fits_in}
 use Rattle.blocks.proofs.RoundTrip.Decoding.{length-encode}
 use Rattle.blocks.specs.Encoding.{blocks_for}
 use Rattle.blocks.specs.Entries.{entries_of}
 use Rattle.blocks.specs.Frame.{plain}
 use Rattle.blocks.specs.Reading.{reading_of}
-use Rattle.blocks.specs.declared.Reading.TheVariants.{Accepted}
 use Rattle.blocks.specs.declared.Schema.TheVariants.{Description}
 use Rattle.logic.specs.Record.{Record, fits}
 use Rattle.meaning.specs.Description.{place_of}
@@ -21,7 +17,7 @@ use Rattle.names.specs.Promise.{AcceptedNamed}
 use Rattle.names.specs.Unfold.{unfolded_by}
 
 -- accepted as one input, accepted as any
-pub admitted : (D : List ℕ) (i : ℕ) (s : List ℕ) {n : ℕ} → unfolding_of D i s ≡ Accepted n → Admitted D s
+pub admitted : (D : List ℕ) (i : ℕ) (s : List ℕ) {n : ℕ} → unfolding_of D i s ≡ Ok n → Admitted D s
 admitted D i s {n} e = record { entries = n; read = λ j. sent-any D i j s e }
 
 -- ---- the plain description
@@ -38,9 +34,9 @@ module _ (D s : List ℕ) (A : Admitted D s) where
   unfolding plain_of
   plain-entries = (unfolded-accepted (dictionary_of D) (entries_of s) named-legal 1).1
 
-  pub plain-read : (i : ℕ) → reading_of Description i (plain_of D s) ≡ Accepted A.entries
+  pub plain-read : (i : ℕ) → reading_of Description i (plain_of D s) ≡ Ok A.entries
   unfolding plain_of
-  plain-read i = (unfolded-accepted (dictionary_of D) (entries_of s) named-legal i).0 ∙ ap Accepted (sym entries-count)
+  plain-read i = (unfolded-accepted (dictionary_of D) (entries_of s) named-legal i).0 ∙ ap Ok (sym entries-count)
 
   -- the same items fit it, in every record
   pub plain-means : (R : Record) (x : ℕ) → fits R (place_of (entries_of (plain_of D s)) 0) x ≡ fits_in R D s x

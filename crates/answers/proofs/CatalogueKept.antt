@@ -1,27 +1,17 @@
 -- What is promised of the call on a catalogue.
 -- Assumes nothing.
-use Prim.Native.Nat.{◌+◌, ◌<◌, ◌≤◌, ℕ}
-use lib.Dec.{eqb}
-use lib.ListN.{length}
-use mathlib.Core.Bool.{Bool, false, true}
-use mathlib.Core.List.{List}
-use mathlib.Core.Logic.{◌≢◌, ◌↔◌}
-use mathlib.Core.Path.{◌∙◌, ◌≡◌, refl, sym}
-use native.Mathlib.Omega.{arith}
+use Rattle.std.proofs.Common.{◌≡◌, ℕ, ◌+◌, ◌<◌, ◌≤◌, Bool, true, false, eqb, ◌≢◌, ◌↔◌, List, length, None, Ok, sym, refl, ◌∙◌, arith}
 use Rattle.answers.specs.Promise.{AsCompared, ContainedNamed, fits_in}
 use Rattle.base.proofs.Tests.{eq-eqb, eqb-eq, ne_eqb}
 use Rattle.base.specs.Range.{bit}
 use Rattle.blocks.proofs.RoundTrip.Accepting.{sound-of-accepted}
 use Rattle.blocks.specs.Entries.{entries_of}
-use Rattle.blocks.specs.declared.Reading.TheVariants as reading
 use Rattle.blocks.specs.declared.Schema.TheVariants.{Description}
 use Rattle.catalogue.proofs.Bytes.{byte-is, pairs-read, service-read, supplier-read}
 use Rattle.catalogue.specs.Answer.{catalogue_of}
 use Rattle.catalogue.specs.Promise.{byte_at, service_at}
-use Rattle.catalogue.specs.declared.Catalogued.TheVariants.{Filled}
 use Rattle.compare.proofs.AnswerLaws.{compared, contained-verdict, list_read, verdict-contained, verdict-not}
-use Rattle.compare.specs.Answer.{verdict}
-use Rattle.compare.specs.declared.Comparison.TheVariants.{Contained, NotContained}
+use Rattle.compare.specs.Answer.{Comparison, not_contained, verdict}
 use Rattle.logic.specs.Record.{Record, fits}
 use Rattle.meaning.proofs.Verdicts.Contained.{contained-all}
 use Rattle.meaning.specs.Description.{place_of}
@@ -56,11 +46,11 @@ zero-fails P D s d = (λ e z. let one : bit true ≡ 0 = rw (eq-eqb z) at e in a
 -- ---- what it says of every record
 
 -- what a call goes on with means what the description with names means
-sent_means : (D : List ℕ) (j : ℕ) (s : List ℕ) {m : ℕ} → unfolding_of D j s ≡ reading.Accepted m → (r : Record) (x : ℕ)
+sent_means : (D : List ℕ) (j : ℕ) (s : List ℕ) {m : ℕ} → unfolding_of D j s ≡ Ok m → (r : Record) (x : ℕ)
     → fits r (place_of (entries_of (sent_of D s)) 0) x ≡ fits_in r D s x
 sent_means D j s e r x = rw (sent-accepted D j s e j).1 ((unfolds-plainly (dictionary_of D) (entries_of s) (sent-legal D j s e)).means r x)
 
-module _ (P D c list out : List ℕ) {n : ℕ} (F : catalogue_of P D c list out ≡ Filled n) (i : ℕ) (h : i < n) where
+module _ (P D c list out : List ℕ) {n : ℕ} (F : catalogue_of P D c list out ≡ Ok n) (i : ℕ) (h : i < n) where
   -- "1 contained": every item that fits the supplier's description fits the service's, in every finite record that keeps the list of pairs and
   -- the rule on single links
   pub catalogue-means : (byte_at P D c list out i ≡ 1) ↔ ContainedNamed P D c (service_at list i)
@@ -81,7 +71,8 @@ module _ (P D c list out : List ℕ) {n : ℕ} (F : catalogue_of P D c list out 
 
   module _ (o : List ℕ) (room : length (sent_of D c) + length (sent_of D (service_at list i)) ≤ length o) where
     -- the two descriptions that a call goes on with are compared
-    single-verdict : compare_named P D c (service_at list i) o ≡ verdict (under P) (entries_of (sent_of D c)) (entries_of (sent_of D (service_at list i)))
+    single-verdict : compare_named P D c (service_at list i) o
+        ≡ verdict (under P) (entries_of (sent_of D c)) (entries_of (sent_of D (service_at list i)))
     unfolding compare_named
     single-verdict =
         let d = service_at list i in
@@ -109,7 +100,8 @@ module _ (P D c list out : List ℕ) {n : ℕ} (F : catalogue_of P D c list out 
           not-contained = (
             λ b. record { entry = _; entries = _; answer = single-verdict ∙ verdict-not (under P) es ds (none.0 (sym byte ∙ b)) },
             λ A. byte ∙ none.1 (λ z.
-                let c₁ : Contained ≡ NotContained A.entry A.entries = sym (single-verdict ∙ verdict-contained (under P) es ds z) ∙ A.answer in
+                let c₁ : ◌≡◌ {A = Comparison} (Ok None) (not_contained A.entry A.entries)
+                = sym (single-verdict ∙ verdict-contained (under P) es ds z) ∙ A.answer in
                 let y : ◌≡◌ {A = ℕ} 0 1 = cc in
                 absurd (omega arith)),
           );

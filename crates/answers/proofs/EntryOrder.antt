@@ -1,42 +1,40 @@
 -- The lines of the entries of a description with names: 13 is returned exactly where no line before that of the name applies, and 14 exactly
 -- where no other line does.
 -- Assumes nothing.
-use Prim.Native.Nat.{◌+◌, ◌<◌, ◌≤◌, suc, zero, ℕ}
-use lib.Dec.{leb, ltb}
-use lib.ListN.{length}
-use mathlib.Core.Bool.{◌&&◌, false, not, true}
-use mathlib.Core.List.{List, [], ◌∷◌}
-use mathlib.Core.Logic.{◌↔◌, ◌⊎◌, inl, inr, ⊎_elim}
-use mathlib.Core.Path.{◌∙◌, ◌≡◌, ap, refl, sym}
-use native.Mathlib.Omega.{arith}
+use Rattle.std.proofs.Common.{◌≡◌, ℕ, zero, suc, ◌+◌, ◌<◌, ◌≤◌, true, false, not, ◌&&◌, ltb, leb, ◌≢◌, ◌⊎◌, ◌↔◌, List, [], ◌∷◌, length, sym, refl, ap, ◌∙◌, inl, inr, ⊎_elim, arith}
 use Rattle.answers.specs.Refusals.{NameRefused, SizeRefused}
 use Rattle.base.proofs.Tests.{and_cases, bool_cases, eq-cases, gt-leb, leb-gt, ltb-ge, neither_left, neither_right, tests, true_of_not}
 use Rattle.blocks.proofs.Refusing.FirstFault.{clean-none, first-append, first_found, found_first, none-clean, or_else}
 use Rattle.blocks.proofs.RoundTrip.Accepting.{refused-by-first}
 use Rattle.blocks.proofs.RoundTrip.RefusalNumbers.{named-number}
 use Rattle.blocks.specs.Entries.{entries_of, form_ok, is_named, name_given, nth}
-use Rattle.blocks.specs.Faults.{Fault, block_faults, entry_faults, entry_rows, fault, faults, first, length_wrong, rows_from}
+use Rattle.blocks.specs.Faults.{Clean, Fault, Faulty, Finding, block_faults, entry_faults, entry_rows, fault, faults, first, length_wrong, rows_from}
 use Rattle.blocks.specs.Frame.{blocks_in, check_wrong, frame_wrong, plain}
 use Rattle.blocks.specs.Owners.{depth_ok, owner_ok}
-use Rattle.blocks.specs.Promise.{FirstOf, None}
+use Rattle.blocks.specs.Promise.{FirstOf, NoneApplies}
+use Rattle.blocks.specs.Refusals.{number_of}
+use Rattle.blocks.specs.declared.Cause.{Cause}
+use Rattle.blocks.specs.declared.Cause.TheVariants.{Check, Depth, Form, Framing, Length, Name, Owner, Size}
 use Rattle.blocks.specs.declared.Entry.{Entry}
-use Rattle.blocks.specs.declared.Finding.TheVariants.{Clean, Faulty}
-use Rattle.blocks.specs.declared.Finding.{Finding}
 use Rattle.blocks.specs.declared.Schema.TheVariants.{Named}
 use Rattle.names.specs.NamedReading.{named_faults, too_large}
 use Rattle.names.specs.Unfold.{unfolded_by}
 
 -- ---- findings
 
-finding-cases : {X : Type 0} (f : Finding) → (f ≡ Clean → X) → ((k p : ℕ) → f ≡ Faulty k p → X) → X
+finding-cases : {X : Type 0} (f : Finding) → (f ≡ Clean → X) → ((k : Cause) (p : ℕ) → f ≡ Faulty k p → X) → X
 finding-cases Clean a b = a refl
 finding-cases (Faulty k p) a b = b k p refl
 
-no-finding : {X : Type 0} {f : Finding} {k p : ℕ} → f ≡ Clean → f ≡ Faulty k p → X
+no-finding : {X : Type 0} {f : Finding} {k : Cause} {p : ℕ} → f ≡ Clean → f ≡ Faulty k p → X
 no-finding e g = let z : ◌≡◌ {A = ℕ} 0 1 = cc in absurd (omega arith)
 
-same-finding : {f : Finding} {k p k' p' : ℕ} → f ≡ Faulty k p → f ≡ Faulty k' p' → (k ≡ k') × (p ≡ p')
+same-finding : {f : Finding} {k : Cause} {p : ℕ} {k' : Cause} {p' : ℕ} → f ≡ Faulty k p → f ≡ Faulty k' p' → (k ≡ k') × (p ≡ p')
 same-finding {f} {k} {p} {k'} {p'} e g = let a : k ≡ k' = cc in let b : p ≡ p' = cc in (a, b)
+
+other-cause : {X : Type 0} {f : Finding} {k : Cause} {p : ℕ} {k' : Cause} {p' : ℕ} → f ≡ Faulty k p → f ≡ Faulty k' p'
+    → number_of k ≢ number_of k' → X
+other-cause e g h = absurd (h (ap number_of (same-finding e g).0))
 
 -- ---- the lowest entry with a line that applies
 
@@ -45,23 +43,23 @@ abbrev Placed : ℕ → List Fault → Type 0
 Placed n [] = Unit {0}
 Placed n (f ∷ fs) = (f.place ≡ n) × Placed n fs
 
-placed_first : (n : ℕ) (fs : List Fault) {k p : ℕ} → Placed n fs → first fs ≡ Faulty k p → p ≡ n
+placed_first : (n : ℕ) (fs : List Fault) {k : Cause} {p : ℕ} → Placed n fs → first fs ≡ Faulty k p → p ≡ n
 unfolding first
 placed_first n [] h e = no-finding refl e
 placed_first n (f ∷ fs) {k} {p} h e =
     bool_cases f.applies
-    (λ q. let g : Faulty f.number f.place ≡ Faulty k p = rw q at e in let b : p ≡ f.place = cc in b ∙ h.0)
+    (λ q. let g : Faulty f.cause f.place ≡ Faulty k p = rw q at e in let b : p ≡ f.place = cc in b ∙ h.0)
     (λ q. placed_first n fs h.1 (rw q at e))
 
 module _ (rows : ℕ → List Fault) (own : (n : ℕ) → Placed n (rows n)) where
   -- of `left` entries from n on
-  record Lowest (n left k p : ℕ) : Type 0 where
+  record Lowest (n left : ℕ) (k : Cause) (p : ℕ) : Type 0 where
     from : n ≤ p
     to : p < n + left
-    before : (j : ℕ) → n ≤ j → j < p → None (rows j)
+    before : (j : ℕ) → n ≤ j → j < p → NoneApplies (rows j)
     found : first (rows p) ≡ Faulty k p
 
-  lowest-found : (n left : ℕ) {k p : ℕ} → first (rows_from rows n left) ≡ Faulty k p → Lowest n left k p
+  lowest-found : (n left : ℕ) {k : Cause} {p : ℕ} → first (rows_from rows n left) ≡ Faulty k p → Lowest n left k p
   unfolding rows_from first
   lowest-found n zero e = no-finding refl e
   lowest-found n (suc left) {k} {p} e =
@@ -82,7 +80,7 @@ module _ (rows : ℕ → List Fault) (own : (n : ℕ) → Placed n (rows n)) whe
       let found : first (rows n) ≡ Faulty k n = q ∙ rw (s.0, s.1, z) in
       rw z (record { from = omega arith; to = omega arith; before = λ j lo hi. absurd (omega arith); found = found }))
 
-  found-lowest : (n left : ℕ) {k p : ℕ} → Lowest n left k p → first (rows_from rows n left) ≡ Faulty k p
+  found-lowest : (n left : ℕ) {k : Cause} {p : ℕ} → Lowest n left k p → first (rows_from rows n left) ≡ Faulty k p
   unfolding rows_from
   found-lowest n zero r = absurd (omega (arith, r.from, r.to))
   found-lowest n (suc left) {k} {p} r =
@@ -97,14 +95,14 @@ module _ (rows : ℕ → List Fault) (own : (n : ℕ) → Placed n (rows n)) whe
 
 -- ---- the blocks
 
-block-number : (s : List ℕ) (n i left : ℕ) {k p : ℕ} → first (block_faults plain s n i left) ≡ Faulty k p → k ≤ 3
+block-number : (s : List ℕ) (n i left : ℕ) {k : Cause} {p : ℕ} → first (block_faults plain s n i left) ≡ Faulty k p → number_of k ≤ 3
 unfolding block_faults first
 block-number s n i zero e = no-finding refl e
 block-number s n i (suc left) {k} {p} e =
     bool_cases (check_wrong s i)
-    (λ q. let g : Faulty 2 (suc i) ≡ Faulty k p = rw q at e in let a : k ≡ 2 = cc in omega arith)
+    (λ q. let g : Faulty Check (suc i) ≡ Faulty k p = rw q at e in let a = ap number_of (same-finding refl g).0 in omega arith)
     (λ q. bool_cases (frame_wrong plain s n i)
-    (λ w. let g : Faulty 3 (suc i) ≡ Faulty k p = rw (q, w) at e in let a : k ≡ 3 = cc in omega arith)
+    (λ w. let g : Faulty Framing (suc i) ≡ Faulty k p = rw (q, w) at e in let a = ap number_of (same-finding refl g).0 in omega arith)
     (λ w. block-number s n (suc i) left (rw (q, w) at e)))
 
 -- ---- a name
@@ -130,20 +128,21 @@ module _ (most : ℕ) (es : List Entry) (p : ℕ) where
   rows-placed : Placed p (entry_rows (Named most) es p)
   rows-placed = (refl, (refl, (refl, (refl, tt))))
 
-  second-line : {q : ℕ} → first (entry_rows (Named most) es p) ≡ Faulty 13 q → (form_ok (Named most) (nth es p) ≡ true) × (name_given most (nth es p) ≡ false)
+  second-line : {q : ℕ} → first (entry_rows (Named most) es p) ≡ Faulty Name q
+      → (form_ok (Named most) (nth es p) ≡ true) × (name_given most (nth es p) ≡ false)
   unfolding first
   second-line {q} e =
       bool_cases (form_ok (Named most) (nth es p))
       (λ a. bool_cases (name_given most (nth es p))
       (λ b. bool_cases (owner_ok (Named most) es p)
       (λ c. bool_cases (depth_ok es p)
-      (λ d. let g : Clean ≡ Faulty 13 q = rw (a, b, c, d) at e in no-finding refl g)
-      (λ d. let g : Faulty 6 p ≡ Faulty 13 q = rw (a, b, c, d) at e in let z : ◌≡◌ {A = ℕ} 6 13 = cc in absurd (omega arith)))
-      (λ c. let g : Faulty 5 p ≡ Faulty 13 q = rw (a, b, c) at e in let z : ◌≡◌ {A = ℕ} 5 13 = cc in absurd (omega arith)))
+      (λ d. let g : Clean ≡ Faulty Name q = rw (a, b, c, d) at e in no-finding refl g)
+      (λ d. let g : Faulty Depth p ≡ Faulty Name q = rw (a, b, c, d) at e in other-cause refl g (λ z. omega arith)))
+      (λ c. let g : Faulty Owner p ≡ Faulty Name q = rw (a, b, c) at e in other-cause refl g (λ z. omega arith)))
       (λ b. (a, b)))
-      (λ a. let g : Faulty 4 p ≡ Faulty 13 q = rw a at e in let z : ◌≡◌ {A = ℕ} 4 13 = cc in absurd (omega arith))
+      (λ a. let g : Faulty Form p ≡ Faulty Name q = rw a at e in other-cause refl g (λ z. omega arith))
 
-  line_second : form_ok (Named most) (nth es p) ≡ true → name_given most (nth es p) ≡ false → first (entry_rows (Named most) es p) ≡ Faulty 13 p
+  line_second : form_ok (Named most) (nth es p) ≡ true → name_given most (nth es p) ≡ false → first (entry_rows (Named most) es p) ≡ Faulty Name p
   unfolding first
   line_second a b = rw (a, b)
 
@@ -158,7 +157,7 @@ module _ (K : List (List Entry)) (s : List ℕ) where
   blocks = block_faults plain s (blocks_in s) 0 (blocks_in s)
 
   abbrev last : List Fault
-  last = fault (too_large (unfolded_by K es)) 14 0 ∷ []
+  last = fault (too_large (unfolded_by K es)) Size 0 ∷ []
 
   -- the lines but 14, and 14
   in_two : first (named_faults K s) ≡ or_else (first (faults (Named most) s)) (first last)
@@ -166,17 +165,18 @@ module _ (K : List (List Entry)) (s : List ℕ) where
   in_two = first-append (faults (Named most) s) last
 
   -- of 1 to 3, and of the entries
-  in-turn : length_wrong (Named most) s ≡ false → first (faults (Named most) s) ≡ or_else (first blocks) (first (entry_faults (Named most) es 1 (length es)))
+  in-turn : length_wrong (Named most) s ≡ false
+      → first (faults (Named most) s) ≡ or_else (first blocks) (first (entry_faults (Named most) es 1 (length es)))
   unfolding faults first
   in-turn q = rw q (first-append blocks (entry_faults (Named most) es 1 (length es)))
 
   -- ---- 13
 
-  thirteen-refused : {p : ℕ} → first (faults (Named most) s) ≡ Faulty 13 p → NameRefused K s p
+  thirteen-refused : {p : ℕ} → first (faults (Named most) s) ≡ Faulty Name p → NameRefused K s p
   unfolding faults first entry_faults
   thirteen-refused {p} e =
       bool_cases (length_wrong (Named most) s)
-      (λ q. let g : Faulty 1 0 ≡ Faulty 13 p = rw q at e in let z : ◌≡◌ {A = ℕ} 1 13 = cc in absurd (omega arith))
+      (λ q. let g : Faulty Length 0 ≡ Faulty Name p = rw q at e in other-cause refl g (λ z. omega arith))
       (λ q.
       let f = sym (in-turn q) ∙ e in
       finding-cases (first blocks)
@@ -195,15 +195,14 @@ module _ (K : List (List Entry)) (s : List ℕ) where
         wrong = g.1;
       })
       (λ k p' c.
-      let g : Faulty k p' ≡ Faulty 13 p = rw c at f in
-      let a : k ≡ 13 = cc in
-      absurd (omega (arith, block-number s (blocks_in s) 0 (blocks_in s) c))))
+      let g : Faulty k p' ≡ Faulty Name p = rw c at f in
+      other-cause refl g (λ z. omega (arith, block-number s (blocks_in s) 0 (blocks_in s) c))))
 
-  refused-thirteen : {p : ℕ} → NameRefused K s p → first (faults (Named most) s) ≡ Faulty 13 p
+  refused-thirteen : {p : ℕ} → NameRefused K s p → first (faults (Named most) s) ≡ Faulty Name p
   unfolding entry_faults
   refused-thirteen {p} R =
       let c = none-clean blocks R.blocks in
-      let r : Lowest (entry_rows (Named most) es) (rows-placed most es) 1 (length es) 13 p =
+      let r : Lowest (entry_rows (Named most) es) (rows-placed most es) 1 (length es) Name p =
       record {
         from = R.from;
         to = omega (arith, R.to);
@@ -213,42 +212,41 @@ module _ (K : List (List Entry)) (s : List ℕ) where
       in-turn R.whole ∙ rw c (found-lowest (entry_rows (Named most) es) (rows-placed most es) 1 (length es) r)
 
   -- "at its entry after 4"
-  pub thirteen-exactly : {p : ℕ} → FirstOf (named_faults K s) 13 p ↔ NameRefused K s p
+  pub thirteen-exactly : {p : ℕ} → FirstOf (named_faults K s) Name p ↔ NameRefused K s p
   unfolding first
   thirteen-exactly {p} = (
     λ f.
-        let e = sym in_two ∙ first_found (named_faults K s) 13 p f in
+        let e = sym in_two ∙ first_found (named_faults K s) Name p f in
         finding-cases (first (faults (Named most) s))
         (λ c. bool_cases (too_large (unfolded_by K es))
-        (λ t. let g : Faulty 14 0 ≡ Faulty 13 p = rw (c, t) at e in let z : ◌≡◌ {A = ℕ} 14 13 = cc in absurd (omega arith))
-        (λ t. let g : Clean ≡ Faulty 13 p = rw (c, t) at e in no-finding refl g))
-        (λ k q c. let g : Faulty k q ≡ Faulty 13 p = rw c at e in thirteen-refused (c ∙ g)),
-    λ R. let c = refused-thirteen R in found_first (named_faults K s) 13 p (in_two ∙ rw c),
+        (λ t. let g : Faulty Size 0 ≡ Faulty Name p = rw (c, t) at e in other-cause refl g (λ z. omega arith))
+        (λ t. let g : Clean ≡ Faulty Name p = rw (c, t) at e in no-finding refl g))
+        (λ k q c. let g : Faulty k q ≡ Faulty Name p = rw c at e in thirteen-refused (c ∙ g)),
+    λ R. let c = refused-thirteen R in found_first (named_faults K s) Name p (in_two ∙ rw c),
   )
 
   -- ---- 14
 
   -- "place 0, after all other checks of that input"
-  pub fourteen-exactly : {p : ℕ} → FirstOf (named_faults K s) 14 p ↔ ((p ≡ 0) × SizeRefused K s)
+  pub fourteen-exactly : {p : ℕ} → FirstOf (named_faults K s) Size p ↔ ((p ≡ 0) × SizeRefused K s)
   unfolding first
   fourteen-exactly {p} = (
     λ f.
-        let e = sym in_two ∙ first_found (named_faults K s) 14 p f in
+        let e = sym in_two ∙ first_found (named_faults K s) Size p f in
         finding-cases (first (faults (Named most) s))
         (λ c. bool_cases (too_large (unfolded_by K es))
         (λ t.
-        let g : Faulty 14 0 ≡ Faulty 14 p = rw (c, t) at e in
+        let g : Faulty Size 0 ≡ Faulty Size p = rw (c, t) at e in
         let z : p ≡ 0 = cc in
         (z, record { others = clean-none (faults (Named most) s) c; large = t }))
-        (λ t. let g : Clean ≡ Faulty 14 p = rw (c, t) at e in no-finding refl g))
+        (λ t. let g : Clean ≡ Faulty Size p = rw (c, t) at e in no-finding refl g))
         (λ k q c.
-        let g : Faulty k q ≡ Faulty 14 p = rw c at e in
-        let a : k ≡ 14 = cc in
+        let g : Faulty k q ≡ Faulty Size p = rw c at e in
         let r = refused-by-first (Named most) 1 s (found_first (faults (Named most) s) k q c) in
-        absurd (⊎_elim (λ l. omega arith) (λ l. omega arith) (named-number most 1 s r))),
+        other-cause refl g (λ z. ⊎_elim (λ l. omega arith) (λ l. omega arith) (named-number most 1 s r))),
     λ h.
         let c = none-clean (faults (Named most) s) h.1.others in
         let t = h.1.large in
         let z = h.0 in
-        found_first (named_faults K s) 14 p (in_two ∙ rw (c, t, z)),
+        found_first (named_faults K s) Size p (in_two ∙ rw (c, t, z)),
   )

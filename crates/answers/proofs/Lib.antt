@@ -1,3 +1,5 @@
+-- A refusal is no other answer, and of one cause, input and place only.
+pub mod AnswerLaws
 -- What is accepted: the dictionary and the descriptions that are read are legal, and the plain description that each stands for.
 pub mod Accepted
 -- What a call goes on with.

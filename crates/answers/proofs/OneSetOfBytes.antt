@@ -1,14 +1,10 @@
 -- "One meaning, one set of bytes": for every two accepted descriptions their normal forms are equal byte for byte exactly when the same items
 -- fit both in every finite record, under any one list of excluding pairs, and with any one dictionary.
 -- Assumes nothing.
-use Prim.Native.Nat.{◌+◌, ◌≤◌, ℕ}
-use lib.ListN.{length}
-use mathlib.Core.List.{List}
-use mathlib.Core.Logic.{◌↔◌}
-use mathlib.Core.Path.{◌∙◌, ◌≡◌, ap, sym}
+use Rattle.std.proofs.Common.{◌≡◌, ℕ, ◌+◌, ◌≤◌, ◌↔◌, List, length, None, Ok, sym, ap, ◌∙◌}
+use Rattle.answers.proofs.Accepted.{plain-means}
 use Rattle.answers.proofs.Order.{admitted-exactly, normal-answers}
 use Rattle.answers.proofs.PromiseKept.{decided-named}
-use Rattle.answers.proofs.Accepted.{plain-means}
 use Rattle.answers.proofs.Unfolded.{normal-plain}
 use Rattle.answers.proofs.Ways.{normalised-ready}
 use Rattle.answers.specs.Promise.{Admitted, ContainedNamed, SameItemsNamed, fits_in, normal_bytes}
@@ -17,21 +13,19 @@ use Rattle.blocks.proofs.RoundTrip.Decoding.{decode-encode}
 use Rattle.blocks.specs.Encoding.{encode, first_blocks}
 use Rattle.blocks.specs.Entries.{entries_of}
 use Rattle.blocks.specs.declared.Entry.{Entry}
-use Rattle.compare.specs.declared.Comparison.TheVariants.{Contained}
 use Rattle.meaning.proofs.NormalForms.NormalEntriesLaws.{normal-one}
 use Rattle.meaning.specs.NormalEntries.{normal_entries}
 use Rattle.named.specs.Answer.{compare_named, normalise_named, normalised_named}
 use Rattle.names.specs.NamedReading.{plain_of}
 use Rattle.normal.proofs.PromiseKept.{normalised-means}
 use Rattle.normal.specs.Promise.{SameItems}
-use Rattle.normal.specs.declared.NormalAnswer.TheVariants.{Normalised}
 use Rattle.pairs.proofs.PairsAccepted.{accepted-none}
 use Rattle.pairs.proofs.Under.{ruled-under}
 use Rattle.pairs.specs.Pairs.{under}
 use Rattle.pairs.specs.Promise.{ListRead}
 
 -- the blocks that are written are those of one list of entries
-form-blocks : (P D d out : List ℕ) {k : ℕ} → Admitted D d → normalise_named P D d out ≡ Normalised k
+form-blocks : (P D d out : List ℕ) {k : ℕ} → Admitted D d → normalise_named P D d out ≡ Ok k
     → first_blocks k (normalised_named P D d out) ≡ encode (normal_entries (under P) (entries_of (plain_of D d)))
 form-blocks P D d out {k} A e =
     let g = normal-plain P D d out A in
@@ -49,18 +43,20 @@ module _ (P D c d : List ℕ) (C : Admitted D c) (A : Admitted D d) where
     λ h R kept x i. plain-means D c C R x ∙ h R kept x i ∙ sym (plain-means D d A R x),
   )
 
-  module _ (out out' : List ℕ) {k k' : ℕ} (L : ListRead P) (e : normalise_named P D c out ≡ Normalised k) (f : normalise_named P D d out' ≡ Normalised k') where
+  module _ (out out' : List ℕ) {k k' : ℕ} (L : ListRead P) (e : normalise_named P D c out ≡ Ok k) (f : normalise_named P D d out' ≡ Ok k') where
     bytes-exactly : (first_blocks k (normalised_named P D c out) ≡ first_blocks k' (normalised_named P D d out')) ↔ SameItemsNamed P D c d
     bytes-exactly =
         let a = form-blocks P D c out C e in
         let b = form-blocks P D d out' A f in
-        let one = normal-one (ruled-under P L.list_read).lawful (entries_of (plain_of D c)) (entries_of (plain_of D d)) in (
-          λ q. same-named.0 (one.0 (encode_one (normal_entries (under P) (entries_of (plain_of D c))) (normal_entries (under P) (entries_of (plain_of D d))) (sym a ∙ q ∙ b))),
+        let es = entries_of (plain_of D c) in
+        let ds = entries_of (plain_of D d) in
+        let one = normal-one (ruled-under P L.list_read).lawful es ds in (
+          λ q. same-named.0 (one.0 (encode_one (normal_entries (under P) es) (normal_entries (under P) ds) (sym a ∙ q ∙ b))),
           λ h. a ∙ ap encode (one.1 (same-named.1 h)) ∙ sym b,
         )
 
 -- equal bytes exactly if one meaning, whatever the outputs held and however long they are
-pub one-set-of-bytes : (P D c d out out' : List ℕ) {k k' : ℕ} → normalise_named P D c out ≡ Normalised k → normalise_named P D d out' ≡ Normalised k'
+pub one-set-of-bytes : (P D c d out out' : List ℕ) {k k' : ℕ} → normalise_named P D c out ≡ Ok k → normalise_named P D d out' ≡ Ok k'
     → (first_blocks k (normalised_named P D c out) ≡ first_blocks k' (normalised_named P D d out')) ↔ SameItemsNamed P D c d
 one-set-of-bytes P D c d out out' e f =
     normalised-ready P D c out e (λ L C. normalised-ready P D d out' f (λ L' A. bytes-exactly P D c d C A out out' L e f))
@@ -88,10 +84,10 @@ same-contained P D c d = (
 )
 
 -- so files can be compared in place of the call: the bytes are equal exactly if each description is contained in the other
-pub equal-contained : (P D c d out out' o o' : List ℕ) {k k' : ℕ} → normalise_named P D c out ≡ Normalised k → normalise_named P D d out' ≡ Normalised k'
+pub equal-contained : (P D c d out out' o o' : List ℕ) {k k' : ℕ} → normalise_named P D c out ≡ Ok k → normalise_named P D d out' ≡ Ok k'
     → length (plain_of D c) + length (plain_of D d) ≤ length o → length (plain_of D d) + length (plain_of D c) ≤ length o'
     → (first_blocks k (normalised_named P D c out) ≡ first_blocks k' (normalised_named P D d out'))
-    ↔ ((compare_named P D c d o ≡ Contained) × (compare_named P D d c o' ≡ Contained))
+    ↔ ((compare_named P D c d o ≡ Ok None) × (compare_named P D d c o' ≡ Ok None))
 equal-contained P D c d out out' o o' e f r r' =
     normalised-ready P D c out e (λ L C. normalised-ready P D d out' f (λ L' A.
     let one = one-set-of-bytes P D c d out out' e f in

@@ -1,13 +1,8 @@
 -- The order of refusals: each call that takes a dictionary refuses exactly by the first row that applies, and answers where none does.
 -- Assumes nothing.
-use Prim.Native.Nat.{◌+◌, ◌≤◌, ℕ}
-use lib.ListN.{length}
-use mathlib.Core.Bool.{Bool, cond, false, true}
-use mathlib.Core.List.{List}
-use mathlib.Core.Logic.{◌↔◌}
-use mathlib.Core.Path.{◌∙◌, ◌≡◌, sym}
-use native.Mathlib.Omega.{arith}
+use Rattle.std.proofs.Common.{◌≡◌, ℕ, ◌+◌, ◌≤◌, ◌↔◌, List, length, Ok, sym, ◌∙◌}
 use Rattle.answers.proofs.Accepted.{admitted, plain-read}
+use Rattle.answers.proofs.AnswerLaws.{refused-answered, same-refused}
 use Rattle.answers.proofs.DictionaryOrder.{accepted-dictionary, accepted-none, dictionary-accepted, dictionary-cases, dictionary-refused, line_refused, none-accepted, refused-line}
 use Rattle.answers.proofs.Unfolded.{comparison-plain, fit-plain, normal-plain}
 use Rattle.answers.specs.Promise.{Admitted}
@@ -21,47 +16,47 @@ use Rattle.blocks.proofs.Refusing.Readings.{accepted-finding, reading-cases, ref
 use Rattle.blocks.specs.Entries.{entries_of}
 use Rattle.blocks.specs.Faults.{first}
 use Rattle.blocks.specs.Frame.{plain, total_in}
-use Rattle.blocks.specs.Promise.{FirstOf, None}
+use Rattle.blocks.specs.Promise.{FirstOf, NoneApplies}
 use Rattle.blocks.specs.Reading.{answer}
+use Rattle.blocks.specs.Refusals.{refused}
+use Rattle.blocks.specs.declared.Cause.{Cause}
+use Rattle.blocks.specs.declared.Cause.TheVariants.{Room}
 use Rattle.blocks.specs.declared.Entry.{Entry}
-use Rattle.blocks.specs.declared.Reading.TheVariants as reading
 use Rattle.clashes.specs.Clash.{specimen_faults, specimen_reading}
 use Rattle.compare.proofs.AnswerLaws as compare
 use Rattle.compare.proofs.PromiseKept as written
 use Rattle.compare.specs.Answer.{verdict}
-use Rattle.compare.specs.declared.Comparison.TheVariants as comparison
 use Rattle.fit.specs.Answer.{fit_of, top_fits}
-use Rattle.fit.specs.declared.FitAnswer.TheVariants as fit
 use Rattle.meaning.specs.Failing.{failing}
 use Rattle.meaning.specs.NormalEntries.{normal_entries}
-use Rattle.names.proofs.Legality.AcceptedReadings.{both-taken}
 use Rattle.named.specs.Answer.{compare_named, fit_named, normalise_named, normalised_named, output_named}
+use Rattle.names.proofs.Legality.AcceptedReadings.{both-taken}
 use Rattle.names.specs.NamedReading.{dictionary_of, named_faults, named_reading, named_unfolding, plain_of, unfolding_of}
 use Rattle.names.specs.Unfold.{unfolded_by}
 use Rattle.normal.proofs.AnswerLaws as normal
-use Rattle.normal.specs.declared.NormalAnswer.TheVariants as normalised
 use Rattle.pairs.proofs.PairsAccepted as list
 use Rattle.pairs.proofs.PairsRefused.{first-of-pairs, pairs-refused}
 use Rattle.pairs.specs.Pairs.{pair_faults, pairs_reading, under}
 
 -- ---- the list
 
-list_cases : (P : List ℕ) {X : Type 0} → ((k p : ℕ) → FirstOf (pair_faults P) k p → X) → (None (pair_faults P) → X) → X
+list_cases : (P : List ℕ) {X : Type 0} → ((k : Cause) (p : ℕ) → FirstOf (pair_faults P) k p → X) → (NoneApplies (pair_faults P) → X) → X
 list_cases P f g = reading-cases (pairs_reading P) (λ k i p e. f k p (first-of-pairs P e).1.1) (λ n e. g (list.accepted-none P e))
 
 -- ---- a dictionary and a description
 
 module _ (D : List ℕ) (i : ℕ) (s : List ℕ) where
   -- "checked before the other inputs"
-  early : {k j p : ℕ} → DictionaryRefused D k j p → unfolding_of D i s ≡ reading.Refused k j p
+  early : {k : Cause} {j p : ℕ} → DictionaryRefused D k j p → unfolding_of D i s ≡ refused k j p
   unfolding unfolding_of
   early r = let e = dictionary-refused D r in rw e
 
-  late : DictionaryTaken D → {k p : ℕ} → FirstOf (named_faults (dictionary_of D) s) k p → unfolding_of D i s ≡ reading.Refused k i p
+  late : DictionaryTaken D → {k : Cause} {p : ℕ} → FirstOf (named_faults (dictionary_of D) s) k p → unfolding_of D i s ≡ refused k i p
   unfolding unfolding_of named_unfolding
   late T f = let e = dictionary-accepted D T in let r = line_refused (dictionary_of D) i s f in rw (e, r)
 
-  line-cases : {X : Type 0} → ((k p : ℕ) → FirstOf (named_faults (dictionary_of D) s) k p → X) → (None (named_faults (dictionary_of D) s) → X) → X
+  line-cases : {X : Type 0} → ((k : Cause) (p : ℕ) → FirstOf (named_faults (dictionary_of D) s) k p → X)
+      → (NoneApplies (named_faults (dictionary_of D) s) → X) → X
   line-cases f g =
       reading-cases (named_reading (dictionary_of D) i s)
       (λ k j p e. f k p (refused-line (dictionary_of D) i s e).1)
@@ -88,8 +83,8 @@ module _ (D s : List ℕ) where
 
 module _ (P D d out : List ℕ) where
   -- a refusal, and the output "unchanged"
-  pub normal-refuses : {k i p : ℕ} → NormalRefused P D d out k i p
-      → (normalise_named P D d out ≡ normalised.Refused k i p) × (normalised_named P D d out ≡ out)
+  pub normal-refuses : {k : Cause} {i p : ℕ} → NormalRefused P D d out k i p
+      → (normalise_named P D d out ≡ refused k i p) × (normalised_named P D d out ≡ out)
   unfolding normalise_named normalised_named
   normal-refuses (normal-list f) = let e = pairs-refused P f in (rw e, rw e)
   normal-refuses (normal-dictionary n r) = let e = list.none-accepted P n in let u = early D 1 d r in (rw (e, u), rw (e, u))
@@ -97,19 +92,20 @@ module _ (P D d out : List ℕ) where
   normal-refuses (normal-short n B h) =
       let A = by_lines D d B in
       let same = normal-plain P D d out A in
-      let seven = normal.list_read P (plain_of D d) out (list.none-accepted P n) ∙ normal.too_short (under P) (plain_of D d) out (plain-read D d A 1) h in
+      let seven = normal.list_read P (plain_of D d) out (list.none-accepted P n)
+      ∙ normal.too_short (under P) (plain_of D d) out (plain-read D d A 1) h in
       (same.0 ∙ seven, same.1 ∙ normal.refused-unchanged P (plain_of D d) out seven)
 
   -- otherwise it answers: so many entries
-  pub normal-answers : None (pair_faults P) → AcceptedBy D d → length (plain_of D d) ≤ length out
-      → normalise_named P D d out ≡ normalised.Normalised (length (normal_entries (under P) (entries_of (plain_of D d))))
+  pub normal-answers : NoneApplies (pair_faults P) → AcceptedBy D d → length (plain_of D d) ≤ length out
+      → normalise_named P D d out ≡ Ok (length (normal_entries (under P) (entries_of (plain_of D d))))
   normal-answers n B h =
       let A = by_lines D d B in
       (normal-plain P D d out A).0 ∙ normal.list_read P (plain_of D d) out (list.none-accepted P n)
       ∙ normal.normalised (under P) (plain_of D d) out (record { total = A.entries; read = plain-read D d A 1; room = h })
 
-  pub normal-cases : {X : Type 0} → ((k i p : ℕ) → NormalRefused P D d out k i p → X)
-      → (None (pair_faults P) → AcceptedBy D d → length (plain_of D d) ≤ length out → X) → X
+  pub normal-cases : {X : Type 0} → ((k : Cause) (i p : ℕ) → NormalRefused P D d out k i p → X)
+      → (NoneApplies (pair_faults P) → AcceptedBy D d → length (plain_of D d) ≤ length out → X) → X
   normal-cases f g =
       list_cases P
       (λ k p r. f k 0 p (normal-list r))
@@ -119,27 +115,22 @@ module _ (P D d out : List ℕ) where
       (λ k p r. f k 1 p (normal-input n T r))
       (λ z.
       let B : AcceptedBy D d = record { dictionary = T; description = z } in
-      lt-cases (length out) (length (plain_of D d)) (λ h. f 7 0 0 (normal-short n B h)) (λ h. g n B h))))
+      lt-cases (length out) (length (plain_of D d)) (λ h. f Room 0 0 (normal-short n B h)) (λ h. g n B h))))
 
   -- "11; the dictionary; input 1 in full; then 7": exactly by the first that applies
-  pub normal-refused-exactly : {k i p : ℕ} → (normalise_named P D d out ≡ normalised.Refused k i p) ↔ NormalRefused P D d out k i p
-  normal-refused-exactly {k} {i} {p} = (
+  pub normal-refused-exactly : {k : Cause} {i p : ℕ} → (normalise_named P D d out ≡ refused k i p) ↔ NormalRefused P D d out k i p
+  normal-refused-exactly = (
     λ e. normal-cases
-        (λ k' i' p' r.
-        let f : normalised.Refused k' i' p' ≡ normalised.Refused k i p = sym (normal-refuses r).0 ∙ e in
-        let a : k ≡ k' = cc in
-        let b : i ≡ i' = cc in
-        let c : p ≡ p' = cc in
-        rw (a, b, c) r)
-        (λ n B h. let f = sym (normal-answers n B h) ∙ e in let z : ◌≡◌ {A = ℕ} 0 1 = cc in absurd (omega arith)),
+        (λ k' i' p' r. same-refused (NormalRefused P D d out) (normal-refuses r).0 e r)
+        (λ n B h. refused-answered e (normal-answers n B h)),
     λ r. (normal-refuses r).0,
   )
 
 -- ---- the comparison
 
 module _ (P D c d out : List ℕ) where
-  pub comparison-refuses : {k i p : ℕ} → ComparisonRefused P D c d out k i p
-      → (compare_named P D c d out ≡ comparison.Refused k i p) × (output_named P D c d out ≡ out)
+  pub comparison-refuses : {k : Cause} {i p : ℕ} → ComparisonRefused P D c d out k i p
+      → (compare_named P D c d out ≡ refused k i p) × (output_named P D c d out ≡ out)
   unfolding compare_named output_named
   comparison-refuses (compares-list f) = let e = pairs-refused P f in (rw e, rw e)
   comparison-refuses (compares-dictionary n r) = let e = list.none-accepted P n in let u = early D 1 c r in (rw (e, u), rw (e, u))
@@ -158,7 +149,7 @@ module _ (P D c d out : List ℕ) where
       (same.0 ∙ seven, same.1 ∙ written.refused-unchanged P (plain_of D c) (plain_of D d) out seven)
 
   -- otherwise it answers: the verdict on the unfolded entries
-  pub comparison-answers : None (pair_faults P) → AcceptedBy D c → AcceptedBy D d → length (plain_of D c) + length (plain_of D d) ≤ length out
+  pub comparison-answers : NoneApplies (pair_faults P) → AcceptedBy D c → AcceptedBy D d → length (plain_of D c) + length (plain_of D d) ≤ length out
       → compare_named P D c d out ≡ verdict (under P) (entries_of (plain_of D c)) (entries_of (plain_of D d))
   comparison-answers n B B' h =
       let C = by_lines D c B in
@@ -167,8 +158,8 @@ module _ (P D c d out : List ℕ) where
       ∙ compare.compared (under P) (plain_of D c) (plain_of D d) out
       (record { first = C.entries; second = A.entries; first_read = plain-read D c C 1; second-read = plain-read D d A 2; room = h })
 
-  pub comparison-cases : {X : Type 0} → ((k i p : ℕ) → ComparisonRefused P D c d out k i p → X)
-      → (None (pair_faults P) → AcceptedBy D c → AcceptedBy D d → length (plain_of D c) + length (plain_of D d) ≤ length out → X) → X
+  pub comparison-cases : {X : Type 0} → ((k : Cause) (i p : ℕ) → ComparisonRefused P D c d out k i p → X)
+      → (NoneApplies (pair_faults P) → AcceptedBy D c → AcceptedBy D d → length (plain_of D c) + length (plain_of D d) ≤ length out → X) → X
   comparison-cases f g =
       list_cases P
       (λ k p r. f k 0 p (compares-list r))
@@ -182,41 +173,36 @@ module _ (P D c d out : List ℕ) where
       (λ k p r. f k 2 p (compares-second n B r))
       (λ z'.
       let B' : AcceptedBy D d = record { dictionary = T; description = z' } in
-      lt-cases (length out) (length (plain_of D c) + length (plain_of D d)) (λ h. f 7 0 0 (compares-short n B B' h)) (λ h. g n B B' h)))))
+      lt-cases (length out) (length (plain_of D c) + length (plain_of D d)) (λ h. f Room 0 0 (compares-short n B B' h)) (λ h. g n B B' h)))))
 
   -- "11; the dictionary; input 1 in full, input 2 in full, then 7"
-  pub comparison-refused-exactly : {k i p : ℕ} → (compare_named P D c d out ≡ comparison.Refused k i p) ↔ ComparisonRefused P D c d out k i p
-  comparison-refused-exactly {k} {i} {p} = (
+  pub comparison-refused-exactly : {k : Cause} {i p : ℕ} → (compare_named P D c d out ≡ refused k i p) ↔ ComparisonRefused P D c d out k i p
+  comparison-refused-exactly = (
     λ e. comparison-cases
-        (λ k' i' p' r.
-        let f : comparison.Refused k' i' p' ≡ comparison.Refused k i p = sym (comparison-refuses r).0 ∙ e in
-        let a : k ≡ k' = cc in
-        let b : i ≡ i' = cc in
-        let c : p ≡ p' = cc in
-        rw (a, b, c) r)
+        (λ k' i' p' r. same-refused (ComparisonRefused P D c d out) (comparison-refuses r).0 e r)
         (λ n B B' h. absurd (no-refusal (entries_of (plain_of D c)) (entries_of (plain_of D d)) (sym (comparison-answers n B B' h) ∙ e))),
     λ r. (comparison-refuses r).0,
   )
     where
-      no-refusal : (x y : List Entry) {k i p : ℕ} → verdict (under P) x y ≡ comparison.Refused k i p → ⊥
-      no-refusal x y {k} {i} {p} e =
+      no-refusal : (x y : List Entry) {k : Cause} {i p : ℕ} → verdict (under P) x y ≡ refused k i p → ⊥
+      no-refusal x y e =
           eq-cases (failing (under P) x y) 0
-          (λ z. let f : comparison.Contained ≡ comparison.Refused k i p = sym (compare.verdict-contained (under P) x y z) ∙ e in let w : ◌≡◌ {A = ℕ} 0 1 = cc in omega arith)
-          (λ z. let f = sym (compare.verdict-not (under P) x y z) ∙ e in let w : ◌≡◌ {A = ℕ} 0 1 = cc in omega arith)
+          (λ z. refused-answered e (compare.verdict-contained (under P) x y z))
+          (λ z. refused-answered e (compare.verdict-not (under P) x y z))
 
 -- ---- the fit answer
 
 module _ (P D s d : List ℕ) where
   -- a specimen by its lines, under a list that is accepted
-  specimen-refused : None (pair_faults P) → {k p : ℕ} → FirstOf (specimen_faults P s) k p → specimen_reading P s ≡ reading.Refused k 1 p
+  specimen-refused : NoneApplies (pair_faults P) → {k : Cause} {p : ℕ} → FirstOf (specimen_faults P s) k p → specimen_reading P s ≡ refused k 1 p
   unfolding specimen_reading
   specimen-refused n {k} {p} f = let e = list.none-accepted P n in let q = first_found (specimen_faults P s) k p f in rw (e, q)
 
-  pub specimen-accepted : None (pair_faults P) → None (specimen_faults P s) → specimen_reading P s ≡ reading.Accepted (total_in plain s)
+  pub specimen-accepted : NoneApplies (pair_faults P) → NoneApplies (specimen_faults P s) → specimen_reading P s ≡ Ok (total_in plain s)
   unfolding specimen_reading
   specimen-accepted n z = let e = list.none-accepted P n in let q = none-clean (specimen_faults P s) z in rw (e, q)
 
-  specimen-cases : {X : Type 0} → ((k p : ℕ) → FirstOf (specimen_faults P s) k p → X) → (None (specimen_faults P s) → X) → X
+  specimen-cases : {X : Type 0} → ((k : Cause) (p : ℕ) → FirstOf (specimen_faults P s) k p → X) → (NoneApplies (specimen_faults P s) → X) → X
   specimen-cases f g =
       let total = total_in plain s in
       let found = first (specimen_faults P s) in
@@ -224,7 +210,7 @@ module _ (P D s d : List ℕ) where
       (λ k i p e. f k p (found_first (specimen_faults P s) k p (refused-finding 1 total found e).1))
       (λ n e. g (clean-none (specimen_faults P s) (accepted-finding 1 total found e).1))
 
-  pub fit-refuses : {k i p : ℕ} → FitRefused P D s d k i p → fit_named P D s d ≡ fit.Refused k i p
+  pub fit-refuses : {k : Cause} {i p : ℕ} → FitRefused P D s d k i p → fit_named P D s d ≡ refused k i p
   unfolding fit_named named_unfolding
   fit-refuses (judges-list f) = let e = pairs-refused P f in rw e
   fit-refuses (judges-dictionary n r) = let e = list.none-accepted P n in let u = dictionary-refused D r in rw (e, u)
@@ -241,7 +227,8 @@ module _ (P D s d : List ℕ) where
       rw (e, u, v, w)
 
   -- otherwise it answers: yes or no, by the unfolded description
-  pub fit-answers : None (pair_faults P) → AcceptedBy D d → None (specimen_faults P s) → fit_named P D s d ≡ cond (top_fits s (plain_of D d)) fit.Yes fit.No
+  pub fit-answers : NoneApplies (pair_faults P) → AcceptedBy D d → NoneApplies (specimen_faults P s)
+      → fit_named P D s d ≡ Ok (top_fits s (plain_of D d))
   unfolding fit_of
   fit-answers n B z =
       let A = by_lines D d B in
@@ -249,8 +236,8 @@ module _ (P D s d : List ℕ) where
       let w = plain-read D d A 2 in
       fit-plain P D s d A ∙ rw (v, w)
 
-  pub fit-cases : {X : Type 0} → ((k i p : ℕ) → FitRefused P D s d k i p → X)
-      → (None (pair_faults P) → AcceptedBy D d → None (specimen_faults P s) → X) → X
+  pub fit-cases : {X : Type 0} → ((k : Cause) (i p : ℕ) → FitRefused P D s d k i p → X)
+      → (NoneApplies (pair_faults P) → AcceptedBy D d → NoneApplies (specimen_faults P s) → X) → X
   fit-cases f g =
       list_cases P
       (λ k p r. f k 0 p (judges-list r))
@@ -263,19 +250,10 @@ module _ (P D s d : List ℕ) where
       (λ y. g n (record { dictionary = T; description = y }) z))))
 
   -- "11; the dictionary; input 1 in full", a specimen, "input 2 in full"
-  pub fit-refused-exactly : {k i p : ℕ} → (fit_named P D s d ≡ fit.Refused k i p) ↔ FitRefused P D s d k i p
-  fit-refused-exactly {k} {i} {p} = (
+  pub fit-refused-exactly : {k : Cause} {i p : ℕ} → (fit_named P D s d ≡ refused k i p) ↔ FitRefused P D s d k i p
+  fit-refused-exactly = (
     λ e. fit-cases
-        (λ k' i' p' r.
-        let f : fit.Refused k' i' p' ≡ fit.Refused k i p = sym (fit-refuses r) ∙ e in
-        let a : k ≡ k' = cc in
-        let b : i ≡ i' = cc in
-        let c : p ≡ p' = cc in
-        rw (a, b, c) r)
-        (λ n B z. absurd (no-refusal (top_fits s (plain_of D d)) (sym (fit-answers n B z) ∙ e))),
+        (λ k' i' p' r. same-refused (FitRefused P D s d) (fit-refuses r) e r)
+        (λ n B z. refused-answered e (fit-answers n B z)),
     fit-refuses,
   )
-    where
-      no-refusal : (t : Bool) {k i p : ℕ} → cond t fit.Yes fit.No ≡ fit.Refused k i p → ⊥
-      no-refusal true e = let w : ◌≡◌ {A = ℕ} 0 1 = cc in omega arith
-      no-refusal false e = let w : ◌≡◌ {A = ℕ} 0 1 = cc in omega arith

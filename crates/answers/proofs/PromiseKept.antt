@@ -1,45 +1,35 @@
 -- What is promised of the calls that take a dictionary, over the items that fit a description with names: no unfolding is in sight.
 -- Assumes nothing.
-use Prim.Native.Nat.{ℕ}
-use lib.ListN.{length}
-use mathlib.Core.Bool.{false, true}
-use mathlib.Core.List.{List}
-use mathlib.Core.Logic.{◌↔◌, inl, inr, ⊎_elim}
-use mathlib.Core.Path.{◌∙◌, ◌≡◌, ap, sym}
-use native.Mathlib.Omega.{arith}
+use Rattle.std.proofs.Common.{◌≡◌, ℕ, true, false, ◌↔◌, List, length, None, Ok, sym, ap, ◌∙◌, inl, inr, ⊎_elim}
 use Rattle.answers.proofs.Accepted.{plain-means, plain-read}
 use Rattle.answers.proofs.Nameless.{normal-nameless}
 use Rattle.answers.proofs.Order.{comparison-refused-exactly, comparison-refuses, normal-refused-exactly, normal-refuses}
 use Rattle.answers.proofs.Unfolded.{comparison-plain, fit-plain, normal-plain}
-use Rattle.answers.proofs.Ways.{comparison-ways, fit-ways, normal-ways, normalised-ready}
+use Rattle.answers.proofs.Ways.{compared-ready, comparison-ways, judged-ready, normal-ways, normalised-ready}
 use Rattle.answers.specs.Promise.{Admitted, AnswersNotNamed, ComparableNamed, ContainedNamed, CountermodelNamed, DecidedNamed, FitsNamedExactly, JudgeableNamed, NormalisesNamed, RefutedNamed, StandsFor, fits_in}
 use Rattle.blocks.proofs.RoundTrip.Accepting.{accepted-of-sound, none-of-accepted, sound-of-accepted}
 use Rattle.blocks.specs.Encoding.{first_blocks}
 use Rattle.blocks.specs.Entries.{entries_of}
-use Rattle.blocks.specs.declared.Reading.TheVariants as reading
+use Rattle.blocks.specs.Refusals.{refused}
+use Rattle.blocks.specs.declared.Cause.{Cause}
 use Rattle.blocks.specs.declared.Schema.TheVariants.{Description}
 use Rattle.compare.proofs.ContainedFits.{contained-fits}
 use Rattle.compare.proofs.Demand as compared
 use Rattle.compare.proofs.PromiseKept as written
 use Rattle.compare.proofs.PromiseKept.{contained-means}
-use Rattle.compare.specs.Answer.{compare_of, output_of}
+use Rattle.compare.specs.Answer.{compare_of, not_contained, output_of}
 use Rattle.compare.specs.Promise.{AnswersNot, Comparable, ContainedInAll, Countermodel, Refuted}
-use Rattle.compare.specs.declared.Comparison.TheVariants as comparison
-use Rattle.compare.specs.declared.Comparison.TheVariants.{Contained, NotContained}
 use Rattle.fit.proofs.PromiseKept.{fit-exactly}
 use Rattle.fit.specs.Promise.{Judgeable}
-use Rattle.fit.specs.declared.FitAnswer.TheVariants.{No, Yes}
 use Rattle.meaning.specs.Specimen.{record_of}
-use Rattle.names.proofs.Legality.AcceptedReadings.{both-taken}
 use Rattle.named.specs.Answer.{compare_named, fit_named, normalise_named, normalised_named, output_named}
+use Rattle.names.proofs.Legality.AcceptedReadings.{both-taken}
 use Rattle.names.proofs.Legality.UnfoldLegal.{legal-plain}
 use Rattle.names.specs.NamedReading.{plain_of}
 use Rattle.normal.proofs.PromiseKept as normal
 use Rattle.normal.proofs.PromiseKept.{normalised-means}
 use Rattle.normal.specs.Answer.{normalised_of}
 use Rattle.normal.specs.Promise.{Normalises}
-use Rattle.normal.specs.declared.NormalAnswer.TheVariants as normalised
-use Rattle.normal.specs.declared.NormalAnswer.TheVariants.{Normalised}
 use Rattle.pairs.specs.Pairs.{under}
 use Rattle.pairs.specs.Promise.{ListRead}
 
@@ -72,17 +62,11 @@ module _ (P D s d : List ℕ) (J : JudgeableNamed P D s d) where
 
 -- an answer that is no refusal says it without further ado
 module _ (P D s d : List ℕ) where
-  pub yes-means : fit_named P D s d ≡ Yes → fits_in (record_of (entries_of s)) D d 0 ≡ true
-  yes-means e =
-      fit-ways P D s d
-      (λ k i p q. let z : ◌≡◌ {A = ℕ} 0 1 = cc in absurd (omega arith))
-      (λ J. (fits-named-exactly P D s d J).yes.0 e)
+  pub yes-means : fit_named P D s d ≡ Ok true → fits_in (record_of (entries_of s)) D d 0 ≡ true
+  yes-means e = judged-ready P D s d e (λ J. (fits-named-exactly P D s d J).yes.0 e)
 
-  pub no-means : fit_named P D s d ≡ No → fits_in (record_of (entries_of s)) D d 0 ≡ false
-  no-means e =
-      fit-ways P D s d
-      (λ k i p q. let z : ◌≡◌ {A = ℕ} 0 1 = cc in absurd (omega arith))
-      (λ J. (fits-named-exactly P D s d J).no.0 e)
+  pub no-means : fit_named P D s d ≡ Ok false → fits_in (record_of (entries_of s)) D d 0 ≡ false
+  no-means e = judged-ready P D s d e (λ J. (fits-named-exactly P D s d J).no.0 e)
 
 -- ---- the comparison
 
@@ -170,24 +154,21 @@ module _ (P D c d out : List ℕ) (Q : ComparableNamed D c d out) where
 
 module _ (P D c d out : List ℕ) where
   -- 'contained' says that every item that fits c fits d, and leaves the output
-  pub contained-named-means : compare_named P D c d out ≡ Contained → ContainedNamed P D c d × (output_named P D c d out ≡ out)
+  pub contained-named-means : compare_named P D c d out ≡ Ok None → ContainedNamed P D c d × (output_named P D c d out ≡ out)
   contained-named-means e =
-      comparison-ways P D c d out
-      (λ k i p q. let z : ◌≡◌ {A = ℕ} 0 1 = cc in absurd (omega arith))
+      compared-ready P D c d out e
       (λ L Q. let w = decided-named P D c d out Q L in (w.contained.0 e, w.unchanged e))
 
   -- 'not contained' shows a specimen that fits c and does not fit d
-  pub not-contained-named-means : {j k : ℕ} → compare_named P D c d out ≡ NotContained j k → RefutedNamed P D c d out j k × CountermodelNamed P D c d
+  pub not-contained-named-means : {j k : ℕ} → compare_named P D c d out ≡ not_contained j k → RefutedNamed P D c d out j k × CountermodelNamed P D c d
   not-contained-named-means {j} {k} e =
-      comparison-ways P D c d out
-      (λ k i p q. let z : ◌≡◌ {A = ℕ} 0 1 = cc in absurd (omega arith))
+      compared-ready P D c d out e
       (λ L Q. let w = decided-named P D c d out Q L in (w.refuted e, w.not-contained.0 (record { entry = j; entries = k; answer = e })))
 
   -- contained, and fit yes for c, give fit yes for d
-  pub contained-fits-named : (s : List ℕ) → compare_named P D c d out ≡ Contained → fit_named P D s c ≡ Yes → fit_named P D s d ≡ Yes
+  pub contained-fits-named : (s : List ℕ) → compare_named P D c d out ≡ Ok None → fit_named P D s c ≡ Ok true → fit_named P D s d ≡ Ok true
   contained-fits-named s e y =
-      comparison-ways P D c d out
-      (λ k i p q. let z : ◌≡◌ {A = ℕ} 0 1 = cc in absurd (omega arith))
+      compared-ready P D c d out e
       (λ L Q.
       fit-plain P D s d Q.second
       ∙ contained-fits P s (plain_of D c) (plain_of D d) out (sym (answer-plain P D c d out Q) ∙ e) (sym (fit-plain P D s c Q.first) ∙ y))
@@ -205,7 +186,7 @@ module _ (P D d out : List ℕ) (A : Admitted D d) {k : ℕ} where
         room = n.room;
         shorter = n.shorter;
         later = rw o n.later;
-        accepted = rw o (λ i. accepted-of-sound Description i blocks S ∙ ap reading.Accepted (sym count));
+        accepted = rw o (λ i. accepted-of-sound Description i blocks S ∙ ap Ok (sym count));
         ascending = rw o n.ascending;
         irreducible = rw o n.irreducible;
         same = rw o (λ R kept x i. n.same R kept x i ∙ plain-means D d A R x);
@@ -215,7 +196,7 @@ module _ (P D d out : List ℕ) (A : Admitted D d) {k : ℕ} where
       }
 
 -- an answer that is no refusal tells of the normal form
-pub normalised-named : (P D d out : List ℕ) {k : ℕ} → normalise_named P D d out ≡ Normalised k → NormalisesNamed P D d out k
+pub normalised-named : (P D d out : List ℕ) {k : ℕ} → normalise_named P D d out ≡ Ok k → NormalisesNamed P D d out k
 normalised-named P D d out e =
     normalised-ready P D d out e
     (λ L A. normalises-named P D d out A (normalised-means P (plain_of D d) out (sym (normal-plain P D d out A).0 ∙ e)))
@@ -224,7 +205,7 @@ normalised-named P D d out e =
 
 module _ (P D d out : List ℕ) where
   -- a refusal leaves the output
-  pub normal-unchanged : {k i p : ℕ} → normalise_named P D d out ≡ normalised.Refused k i p → normalised_named P D d out ≡ out
+  pub normal-unchanged : {k : Cause} {i p : ℕ} → normalise_named P D d out ≡ refused k i p → normalised_named P D d out ≡ out
   normal-unchanged e = (normal-refuses P D d out ((normal-refused-exactly P D d out).0 e)).1
 
   -- its length never changes
@@ -235,7 +216,7 @@ module _ (P D d out : List ℕ) where
       (λ L A h. ap length (normal-plain P D d out A).1 ∙ normal.output-length P (plain_of D d) out)
 
 module _ (P D c d out : List ℕ) where
-  pub comparison-unchanged : {k i p : ℕ} → compare_named P D c d out ≡ comparison.Refused k i p → output_named P D c d out ≡ out
+  pub comparison-unchanged : {k : Cause} {i p : ℕ} → compare_named P D c d out ≡ refused k i p → output_named P D c d out ≡ out
   comparison-unchanged e = (comparison-refuses P D c d out ((comparison-refused-exactly P D c d out).0 e)).1
 
   pub comparison-length : length (output_named P D c d out) ≡ length out

@@ -1,13 +1,9 @@
 -- What a call goes on with, with a dictionary of length 0 and with any other: a plain description that is accepted, with the unfolded
 -- entries and the length of their blocks.
 -- Assumes nothing.
-use Prim.Native.Nat.{◌*◌, ◌-◌, suc, ℕ}
-use lib.ListN.{length}
-use mathlib.Core.Bool.{true}
-use mathlib.Core.List.{List, [], ◌∷◌}
-use mathlib.Core.Path.{◌∙◌, ◌≡◌, ap, refl, sym}
-use native.Mathlib.Omega.{arith}
+use Rattle.std.proofs.Common.{◌≡◌, ℕ, suc, ◌-◌, ◌*◌, true, List, [], ◌∷◌, length, Ok, sym, refl, ap, ◌∙◌, arith}
 use Rattle.answers.proofs.Accepted.{entries-count, plain-entries, plain-length, plain-read}
+use Rattle.answers.proofs.AnswerLaws.{refused-answered}
 use Rattle.answers.specs.Promise.{Admitted}
 use Rattle.base.proofs.Split.{Split}
 use Rattle.blocks.proofs.Format.Counts.{blocks-for, used-small, used-some}
@@ -21,15 +17,13 @@ use Rattle.blocks.specs.Encoding.{blocks_for}
 use Rattle.blocks.specs.Entries.{entries_of}
 use Rattle.blocks.specs.Frame.{blocks_in, plain, total_in, used_in, used_ok}
 use Rattle.blocks.specs.Reading.{reading_of}
-use Rattle.blocks.specs.declared.Reading.TheVariants.{Accepted}
-use Rattle.blocks.specs.declared.Schema.TheVariants.{Description}
 use Rattle.blocks.specs.declared.Schema.{Schema}
-use Rattle.clashes.proofs.Refusals.{refused-accepted}
+use Rattle.blocks.specs.declared.Schema.TheVariants.{Description}
 use Rattle.named.proofs.SentLaws.{sent-refused}
-use Rattle.unfolding.proofs.BufferLaws.{sent-itself, sent-plain}
 use Rattle.names.proofs.Legality.NoNames.{legal-unfolds}
 use Rattle.names.specs.NamedReading.{dictionary_of, plain_of, sent_of}
 use Rattle.names.specs.Unfold.{unfolded_by}
+use Rattle.unfolding.proofs.BufferLaws.{sent-itself, sent-plain}
 
 -- an input that breaks none of 1 to 3 has the blocks of its entries, and no other
 pub blocks-taken : {σ : Schema} {s : List ℕ} → Unbroken plain σ s → length s ≡ 512 * blocks_for plain (length (entries_of s))
@@ -38,7 +32,8 @@ blocks-taken {σ} {s} u =
     let some = some_block σ s u.length in
     let n = blocks_in s in
     let last : n ≡ suc (n - 1) = omega arith in
-    let used : used_ok plain n (n - 1) (used_in s (n - 1)) ≡ true = (passing plain (u.check (n - 1) (omega arith)) (u.frame (n - 1) (omega arith))).used in
+    let used : used_ok plain n (n - 1) (used_in s (n - 1)) ≡ true
+    = (passing plain (u.check (n - 1) (omega arith)) (u.frame (n - 1) (omega arith))).used in
     let counts : Split 63 (length (entries_of s)) =
     record {
       full = n - 1;
@@ -52,8 +47,8 @@ blocks-taken {σ} {s} u =
 -- ---- a dictionary of length 0
 
 module _ (s : List ℕ) (A : Admitted [] s) where
-  some-total : {X : Type 0} (i : ℕ) → ((n : ℕ) → reading_of Description i s ≡ Accepted n → X) → X
-  some-total i f = reading-cases (reading_of Description i s) (λ k j p q. refused-accepted (sent-refused i s q) (A.read i)) f
+  some-total : {X : Type 0} (i : ℕ) → ((n : ℕ) → reading_of Description i s ≡ Ok n → X) → X
+  some-total i f = reading-cases (reading_of Description i s) (λ k j p q. refused-answered (sent-refused i s q) (A.read i)) f
 
   own-entries : unfolded_by (dictionary_of []) (entries_of s) ≡ entries_of s
   own-entries = some-total 1 (λ n q. legal-unfolds (dictionary_of []) (entries_of s) (sound-of-accepted Description 1 s q).entries)
@@ -61,8 +56,8 @@ module _ (s : List ℕ) (A : Admitted [] s) where
   own-count : A.entries ≡ length (entries_of s)
   own-count = entries-count [] s A ∙ ap length own-entries
 
-  pub own_read : (i : ℕ) → reading_of Description i s ≡ Accepted A.entries
-  own_read i = some-total i (λ n q. q ∙ ap Accepted ((none-of-accepted Description i s q).1 ∙ sym own-count))
+  pub own_read : (i : ℕ) → reading_of Description i s ≡ Ok A.entries
+  own_read i = some-total i (λ n q. q ∙ ap Ok ((none-of-accepted Description i s q).1 ∙ sym own-count))
 
   own-length : length s ≡ 512 * blocks_for plain A.entries
   own-length =
@@ -74,7 +69,7 @@ pub sent-entries : (D s : List ℕ) → Admitted D s → entries_of (sent_of D s
 sent-entries [] s A = ap entries_of (sent-itself [] s refl) ∙ sym (own-entries s A)
 sent-entries (x ∷ D) s A = ap entries_of (sent-plain (x ∷ D) s (omega arith)) ∙ plain-entries (x ∷ D) s A
 
-pub sent-read : (D s : List ℕ) (A : Admitted D s) (i : ℕ) → reading_of Description i (sent_of D s) ≡ Accepted A.entries
+pub sent-read : (D s : List ℕ) (A : Admitted D s) (i : ℕ) → reading_of Description i (sent_of D s) ≡ Ok A.entries
 sent-read [] s A i = ap (reading_of Description i) (sent-itself [] s refl) ∙ own_read s A i
 sent-read (x ∷ D) s A i = ap (reading_of Description i) (sent-plain (x ∷ D) s (omega arith)) ∙ plain-read (x ∷ D) s A i
 

@@ -1,17 +1,15 @@
 -- What the promises on the calls that take a dictionary speak of: which items fit a description with names, descriptions that are accepted,
 -- containment and sameness with no unfolding in sight, and what each answer says.
 -- Assumes nothing.
-use Rattle.std.specs.Prelude.{◌*◌, ◌+◌, ◌<◌, ◌≤◌, ℕ, drop, length, Bool, false, true, List, [], ◌⊎◌, ◌↔◌, ◌≡◌}
+use Rattle.std.specs.Prelude.{◌*◌, ◌+◌, ◌<◌, ◌≤◌, ℕ, drop, length, Bool, false, true, List, [], None, Err, Ok, ◌⊎◌, ◌↔◌, ◌≡◌}
 use Rattle.base.specs.Ascending.{Sorted}
 use Rattle.blocks.specs.Encoding.{blocks_for, first_blocks}
 use Rattle.blocks.specs.Entries.{entries_of}
 use Rattle.blocks.specs.Frame.{plain}
-use Rattle.blocks.specs.Reading.{reading_of}
-use Rattle.blocks.specs.declared.Reading.TheVariants as reading
+use Rattle.blocks.specs.Reading.{Reading, reading_of}
 use Rattle.blocks.specs.declared.Schema.TheVariants.{Description}
 use Rattle.clashes.specs.Clash.{specimen_reading}
-use Rattle.compare.specs.declared.Comparison.TheVariants.{Contained, NotContained}
-use Rattle.fit.specs.declared.FitAnswer.TheVariants.{No, Yes}
+use Rattle.compare.specs.Answer.{not_contained}
 use Rattle.logic.specs.Background.{Keeps}
 use Rattle.logic.specs.Record.{Record, fits}
 use Rattle.meaning.specs.Description.{place_of}
@@ -23,8 +21,6 @@ use Rattle.named.specs.Answer.{compare_named, fit_named, normalise_named, normal
 use Rattle.names.specs.NamedMeaning.{fits_named}
 use Rattle.names.specs.NamedReading.{dictionary_of, plain_of, unfolding_of}
 use Rattle.names.specs.Promise.{Plain}
-use Rattle.normal.specs.declared.NormalAnswer.TheVariants.{Normalised, Refused}
-use Rattle.normal.specs.declared.NormalAnswer.{NormalAnswer}
 use Rattle.pairs.specs.Pairs.{under}
 
 -- ---- descriptions with names
@@ -37,11 +33,11 @@ fits_in R D s x = fits_named R (dictionary_of D) (entries_of s) x
 pub record Admitted (D s : List ℕ) : Type 0 where
   -- how many entries it has once unfolded
   pub entries : ℕ
-  pub read : (i : ℕ) → unfolding_of D i s ≡ reading.Accepted entries
+  pub read : (i : ℕ) → unfolding_of D i s ≡ Ok entries
 
 -- "Unfolding writes a plain description of the same meaning": one that is accepted, without names, and that the same items fit
 pub record StandsFor (D s : List ℕ) (n : ℕ) : Type 0 where
-  pub accepted : (i : ℕ) → reading_of Description i (plain_of D s) ≡ reading.Accepted n
+  pub accepted : (i : ℕ) → reading_of Description i (plain_of D s) ≡ Ok n
   pub nameless : Plain (entries_of (plain_of D s))
   pub same : (R : Record) (x : ℕ) → fits R (place_of (entries_of (plain_of D s)) 0) x ≡ fits_in R D s x
 
@@ -76,7 +72,7 @@ pub record ComparableNamed (D c d out : List ℕ) : Type 0 where
 pub record AnswersNotNamed (P D c d out : List ℕ) : Type 0 where
   pub entry : ℕ
   pub entries : ℕ
-  pub answer : compare_named P D c d out ≡ NotContained entry entries
+  pub answer : compare_named P D c d out ≡ not_contained entry entries
 
 -- What the answer 'not contained', with the numbers j and k, says of the output.
 pub record RefutedNamed (P D c d out : List ℕ) (j k : ℕ) : Type 0 where
@@ -86,21 +82,21 @@ pub record RefutedNamed (P D c d out : List ℕ) (j k : ℕ) : Type 0 where
   pub room : 512 * blocks_for plain k ≤ length out
   pub later : drop (512 * blocks_for plain k) (output_named P D c d out) ≡ drop (512 * blocks_for plain k) out
   -- they are a specimen of k entries, no more than both have together once unfolded, that is accepted under the list
-  pub accepted : specimen_reading P (first_blocks k (output_named P D c d out)) ≡ reading.Accepted k
+  pub accepted : specimen_reading P (first_blocks k (output_named P D c d out)) ≡ Ok k
   pub few : k ≤ length (entries_of (plain_of D c)) + length (entries_of (plain_of D d))
   pub keeps : Keeps (under P) (record_of (entries_of (first_blocks k (output_named P D c d out))))
   pub ascending : Sorted entry_before (entries_of (first_blocks k (output_named P D c d out)))
   -- whose top item fits c and does not fit d, by the fit call with the same list and dictionary
-  pub yes : fit_named P D (first_blocks k (output_named P D c d out)) c ≡ Yes
-  pub no : fit_named P D (first_blocks k (output_named P D c d out)) d ≡ No
+  pub yes : fit_named P D (first_blocks k (output_named P D c d out)) c ≡ Ok true
+  pub no : fit_named P D (first_blocks k (output_named P D c d out)) d ≡ Ok false
 
 -- Demand 3 with names: one of the two answers, each exactly as the finite records have it, and what each says of the output
 pub record DecidedNamed (P D c d out : List ℕ) : Type 0 where
-  pub answers : (compare_named P D c d out ≡ Contained) ⊎ AnswersNotNamed P D c d out
-  pub contained : (compare_named P D c d out ≡ Contained) ↔ ContainedNamed P D c d
-  pub unchanged : compare_named P D c d out ≡ Contained → output_named P D c d out ≡ out
+  pub answers : (compare_named P D c d out ≡ Ok None) ⊎ AnswersNotNamed P D c d out
+  pub contained : (compare_named P D c d out ≡ Ok None) ↔ ContainedNamed P D c d
+  pub unchanged : compare_named P D c d out ≡ Ok None → output_named P D c d out ≡ out
   pub not-contained : AnswersNotNamed P D c d out ↔ CountermodelNamed P D c d
-  pub refuted : {j k : ℕ} → compare_named P D c d out ≡ NotContained j k → RefutedNamed P D c d out j k
+  pub refuted : {j k : ℕ} → compare_named P D c d out ≡ not_contained j k → RefutedNamed P D c d out j k
 
 -- ---- the normal form
 
@@ -111,7 +107,7 @@ pub record NormalisesNamed (P D d out : List ℕ) (k : ℕ) : Type 0 where
   pub shorter : 512 * blocks_for plain k ≤ length (plain_of D d)
   pub later : drop (512 * blocks_for plain k) (normalised_named P D d out) ≡ drop (512 * blocks_for plain k) out
   -- they are a plain description of k entries
-  pub accepted : (i : ℕ) → reading_of Description i (first_blocks k (normalised_named P D d out)) ≡ reading.Accepted k
+  pub accepted : (i : ℕ) → reading_of Description i (first_blocks k (normalised_named P D d out)) ≡ Ok k
   pub ascending : Sorted entry_before (entries_of (first_blocks k (normalised_named P D d out)))
   -- no rule applies to its entries
   pub irreducible : (n : ℕ) → Applies (under P) n (entries_of (first_blocks k (normalised_named P D d out))) → ⊥
@@ -120,13 +116,13 @@ pub record NormalisesNamed (P D d out : List ℕ) (k : ℕ) : Type 0 where
       → fits R (place_of (entries_of (first_blocks k (normalised_named P D d out))) 0) x ≡ fits_in R D d x
   -- it is normalised to its own bytes, with the same dictionary, into any output that is as long
   pub again : (out' : List ℕ) → 512 * blocks_for plain k ≤ length out'
-      → (normalise_named P D (first_blocks k (normalised_named P D d out)) out' ≡ Normalised k)
+      → (normalise_named P D (first_blocks k (normalised_named P D d out)) out' ≡ Ok k)
       × (first_blocks k (normalised_named P D (first_blocks k (normalised_named P D d out)) out') ≡ first_blocks k (normalised_named P D d out))
 
 -- the bytes of the normal form: those that its entries take from the start of the output
-abbrev pub bytes_for : NormalAnswer → List ℕ → List ℕ
-bytes_for (Normalised k) out = first_blocks k out
-bytes_for (Refused k i p) out = []
+abbrev pub bytes_for : Reading → List ℕ → List ℕ
+bytes_for (Ok k) out = first_blocks k out
+bytes_for (Err e) out = []
 
 abbrev pub normal_bytes : List ℕ → List ℕ → List ℕ → List ℕ → List ℕ
 normal_bytes P D d out = bytes_for (normalise_named P D d out) (normalised_named P D d out)
@@ -136,17 +132,17 @@ normal_bytes P D d out = bytes_for (normalise_named P D d out) (normalised_named
 -- the list and the specimen are accepted, and so are the dictionary and the description
 pub record JudgeableNamed (P D s d : List ℕ) : Type 0 where
   pub total : ℕ
-  pub specimen : specimen_reading P s ≡ reading.Accepted total
+  pub specimen : specimen_reading P s ≡ Ok total
   pub description : Admitted D d
 
 -- the answer is yes exactly when the specimen's top item fits the description with names, and no otherwise
 pub record FitsNamedExactly (P D s d : List ℕ) : Type 0 where
-  pub yes : (fit_named P D s d ≡ Yes) ↔ (fits_in (record_of (entries_of s)) D d 0 ≡ true)
-  pub no : (fit_named P D s d ≡ No) ↔ (fits_in (record_of (entries_of s)) D d 0 ≡ false)
+  pub yes : (fit_named P D s d ≡ Ok true) ↔ (fits_in (record_of (entries_of s)) D d 0 ≡ true)
+  pub no : (fit_named P D s d ≡ Ok false) ↔ (fits_in (record_of (entries_of s)) D d 0 ≡ false)
 
 -- ---- a catalogue
 
 -- "Each byte equals the single comparison": 1 exactly if it answers 'contained', and 0 exactly if 'not contained'
 pub record AsCompared (P D c d o : List ℕ) (byte : ℕ) : Type 0 where
-  pub contained : (byte ≡ 1) ↔ (compare_named P D c d o ≡ Contained)
+  pub contained : (byte ≡ 1) ↔ (compare_named P D c d o ≡ Ok None)
   pub not-contained : (byte ≡ 0) ↔ AnswersNotNamed P D c d o

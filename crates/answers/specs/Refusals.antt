@@ -5,7 +5,9 @@ use Rattle.std.specs.Prelude.{◌%◌, ◌+◌, ◌<◌, ◌≤◌, ℕ, get_or,
 use Rattle.blocks.specs.Entries.{entries_of, form_ok, is_named, nth}
 use Rattle.blocks.specs.Faults.{Fault, block_faults, entry_rows, faults, length_wrong}
 use Rattle.blocks.specs.Frame.{blocks_in, plain}
-use Rattle.blocks.specs.Promise.{FirstOf, None}
+use Rattle.blocks.specs.Promise.{FirstOf, NoneApplies}
+use Rattle.blocks.specs.declared.Cause.TheVariants.{Count, Length, Room}
+use Rattle.blocks.specs.declared.Cause.{Cause}
 use Rattle.blocks.specs.declared.Entry.{Entry}
 use Rattle.blocks.specs.declared.Schema.TheVariants.{Named}
 use Rattle.clashes.specs.Clash.{specimen_faults}
@@ -20,17 +22,17 @@ use Rattle.pairs.specs.Pairs.{pair_faults}
 -- 5, 6 or a later line does is not looked at
 pub record NameRefused (K : List (List Entry)) (s : List ℕ) (p : ℕ) : Type 0 where
   pub whole : length_wrong (Named (length K)) s ≡ false
-  pub blocks : None (block_faults plain s (blocks_in s) 0 (blocks_in s))
+  pub blocks : NoneApplies (block_faults plain s (blocks_in s) 0 (blocks_in s))
   pub from : 1 ≤ p
   pub to : p ≤ length (entries_of s)
-  pub before : (j : ℕ) → 1 ≤ j → j < p → None (entry_rows (Named (length K)) (entries_of s) j)
+  pub before : (j : ℕ) → 1 ≤ j → j < p → NoneApplies (entry_rows (Named (length K)) (entries_of s) j)
   pub form : form_ok (Named (length K)) (nth (entries_of s) p) ≡ true
   pub named : is_named (nth (entries_of s) p) ≡ true
   pub wrong : ((nth (entries_of s) p).name ≡ 0) ⊎ (length K < (nth (entries_of s) p).name)
 
 -- "14: .. more than 1,008 entries or depth over 32 once unfolded; .. after all other checks of that input"
 pub record SizeRefused (K : List (List Entry)) (s : List ℕ) : Type 0 where
-  pub others : None (faults (Named (length K)) s)
+  pub others : NoneApplies (faults (Named (length K)) s)
   pub large : too_large (unfolded_by K (entries_of s)) ≡ true
 
 -- ---- a dictionary
@@ -40,61 +42,64 @@ abbrev pub part_faults : List ℕ → ℕ → List Fault
 part_faults D n = named_faults (map entries_of (take n (parts_of D))) (get_or (parts_of D) n [])
 
 -- the first description that is refused: "its n-th description as 100 + n"
-pub record FirstRefused (D : List ℕ) (k i p : ℕ) : Type 0 where
+pub record FirstRefused (D : List ℕ) (k : Cause) (i p : ℕ) : Type 0 where
   pub before : ℕ
   pub there : before < length (parts_of D)
   pub input : i ≡ 101 + before
-  pub accepted : (m : ℕ) → m < before → None (part_faults D m)
+  pub accepted : (m : ℕ) → m < before → NoneApplies (part_faults D m)
   pub first : FirstOf (part_faults D before) k p
 
 -- why a dictionary is refused: "checked before the other inputs, as input 100"
-pub data DictionaryRefused (D : List ℕ) : ℕ → ℕ → ℕ → Type 0 where
+pub data DictionaryRefused (D : List ℕ) : Cause → ℕ → ℕ → Type 0 where
   -- 1, "no multiple of 512"; a dictionary "of length 0" has no descriptions
-  broken : length D % 512 ≢ 0 → DictionaryRefused D 1 100 0
+  broken : length D % 512 ≢ 0 → DictionaryRefused D Length 100 0
   -- 8, "more than 64"
-  many : length D % 512 ≡ 0 → 64 < length (parts_of D) → DictionaryRefused D 8 100 0
+  many : length D % 512 ≡ 0 → 64 < length (parts_of D) → DictionaryRefused D Count 100 0
   -- then its descriptions, each in full before the next
-  part : {k i p : ℕ} → length D % 512 ≡ 0 → length (parts_of D) ≤ 64 → FirstRefused D k i p → DictionaryRefused D k i p
+  part : {k : Cause} {i p : ℕ} → length D % 512 ≡ 0 → length (parts_of D) ≤ 64 → FirstRefused D k i p → DictionaryRefused D k i p
 
 -- and when it is not
 pub record DictionaryTaken (D : List ℕ) : Type 0 where
   pub whole : length D % 512 ≡ 0
   pub few : length (parts_of D) ≤ 64
-  pub each : (m : ℕ) → m < length (parts_of D) → None (part_faults D m)
+  pub each : (m : ℕ) → m < length (parts_of D) → NoneApplies (part_faults D m)
 
 -- ---- the calls
 
 -- "A description is now accepted if 13 and 14 don't apply to it either and the call's dictionary isn't refused": by the lines of both
 pub record AcceptedBy (D s : List ℕ) : Type 0 where
   pub dictionary : DictionaryTaken D
-  pub description : None (named_faults (dictionary_of D) s)
+  pub description : NoneApplies (named_faults (dictionary_of D) s)
 
 -- the normal form
-pub data NormalRefused (P D d out : List ℕ) : ℕ → ℕ → ℕ → Type 0 where
+pub data NormalRefused (P D d out : List ℕ) : Cause → ℕ → ℕ → Type 0 where
   -- "11, input 0, before any other check"
-  list : {k p : ℕ} → FirstOf (pair_faults P) k p → NormalRefused P D d out k 0 p
+  list : {k : Cause} {p : ℕ} → FirstOf (pair_faults P) k p → NormalRefused P D d out k 0 p
   -- "checked before the other inputs"
-  dictionary : {k i p : ℕ} → None (pair_faults P) → DictionaryRefused D k i p → NormalRefused P D d out k i p
+  dictionary : {k : Cause} {i p : ℕ} → NoneApplies (pair_faults P) → DictionaryRefused D k i p → NormalRefused P D d out k i p
   -- "input 1 in full", with 13 "at its entry after 4" and 14 "after all other checks of that input"
-  input : {k p : ℕ} → None (pair_faults P) → DictionaryTaken D → FirstOf (named_faults (dictionary_of D) d) k p → NormalRefused P D d out k 1 p
+  input : {k : Cause} {p : ℕ} → NoneApplies (pair_faults P) → DictionaryTaken D → FirstOf (named_faults (dictionary_of D) d) k p
+      → NormalRefused P D d out k 1 p
   -- "then 7": the output is measured by the unfolded input
-  short : None (pair_faults P) → AcceptedBy D d → length out < length (plain_of D d) → NormalRefused P D d out 7 0 0
+  short : NoneApplies (pair_faults P) → AcceptedBy D d → length out < length (plain_of D d) → NormalRefused P D d out Room 0 0
 
 -- the comparison
-pub data ComparisonRefused (P D c d out : List ℕ) : ℕ → ℕ → ℕ → Type 0 where
-  list : {k p : ℕ} → FirstOf (pair_faults P) k p → ComparisonRefused P D c d out k 0 p
-  dictionary : {k i p : ℕ} → None (pair_faults P) → DictionaryRefused D k i p → ComparisonRefused P D c d out k i p
+pub data ComparisonRefused (P D c d out : List ℕ) : Cause → ℕ → ℕ → Type 0 where
+  list : {k : Cause} {p : ℕ} → FirstOf (pair_faults P) k p → ComparisonRefused P D c d out k 0 p
+  dictionary : {k : Cause} {i p : ℕ} → NoneApplies (pair_faults P) → DictionaryRefused D k i p → ComparisonRefused P D c d out k i p
   -- "input 1 in full, input 2 in full"
-  first : {k p : ℕ} → None (pair_faults P) → DictionaryTaken D → FirstOf (named_faults (dictionary_of D) c) k p → ComparisonRefused P D c d out k 1 p
-  second : {k p : ℕ} → None (pair_faults P) → AcceptedBy D c → FirstOf (named_faults (dictionary_of D) d) k p → ComparisonRefused P D c d out k 2 p
+  first : {k : Cause} {p : ℕ} → NoneApplies (pair_faults P) → DictionaryTaken D → FirstOf (named_faults (dictionary_of D) c) k p
+      → ComparisonRefused P D c d out k 1 p
+  second : {k : Cause} {p : ℕ} → NoneApplies (pair_faults P) → AcceptedBy D c → FirstOf (named_faults (dictionary_of D) d) k p
+      → ComparisonRefused P D c d out k 2 p
   -- "then 7": the output is measured by the unfolded inputs
-  short : None (pair_faults P) → AcceptedBy D c → AcceptedBy D d → length out < length (plain_of D c) + length (plain_of D d)
-      → ComparisonRefused P D c d out 7 0 0
+  short : NoneApplies (pair_faults P) → AcceptedBy D c → AcceptedBy D d → length out < length (plain_of D c) + length (plain_of D d)
+      → ComparisonRefused P D c d out Room 0 0
 
 -- the fit answer: "a specimen (input 1) and a description (input 2)"; it has no output
-pub data FitRefused (P D s d : List ℕ) : ℕ → ℕ → ℕ → Type 0 where
-  list : {k p : ℕ} → FirstOf (pair_faults P) k p → FitRefused P D s d k 0 p
-  dictionary : {k i p : ℕ} → None (pair_faults P) → DictionaryRefused D k i p → FitRefused P D s d k i p
-  specimen : {k p : ℕ} → None (pair_faults P) → DictionaryTaken D → FirstOf (specimen_faults P s) k p → FitRefused P D s d k 1 p
-  description : {k p : ℕ} → None (pair_faults P) → DictionaryTaken D → None (specimen_faults P s) → FirstOf (named_faults (dictionary_of D) d) k p
-      → FitRefused P D s d k 2 p
+pub data FitRefused (P D s d : List ℕ) : Cause → ℕ → ℕ → Type 0 where
+  list : {k : Cause} {p : ℕ} → FirstOf (pair_faults P) k p → FitRefused P D s d k 0 p
+  dictionary : {k : Cause} {i p : ℕ} → NoneApplies (pair_faults P) → DictionaryRefused D k i p → FitRefused P D s d k i p
+  specimen : {k : Cause} {p : ℕ} → NoneApplies (pair_faults P) → DictionaryTaken D → FirstOf (specimen_faults P s) k p → FitRefused P D s d k 1 p
+  description : {k : Cause} {p : ℕ} → NoneApplies (pair_faults P) → DictionaryTaken D → NoneApplies (specimen_faults P s)
+      → FirstOf (named_faults (dictionary_of D) d) k p → FitRefused P D s d k 2 p

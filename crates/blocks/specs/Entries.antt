@@ -19,11 +19,6 @@ entry_from s at = record {
   number = word_at s (at + 6);
 }
 
--- the entry of 8 bytes
-unfoldable pub entry_of_bytes : ℕ → ℕ → ℕ → ℕ → ℕ → ℕ → ℕ → ℕ → Entry
-entry_of_bytes b0 b1 b2 b3 b4 b5 b6 b7 =
-    record { kind = b0; reserved = b1; owner = b2 + 256 * b3; name = b4 + 256 * b5; number = b6 + 256 * b7 }
-
 -- an entry of kind k, owner o, a name and a number
 abbrev pub entry : ℕ → ℕ → ℕ → ℕ → Entry
 entry k o name number = record { kind = k; reserved = 0; owner = o; name = name; number = number }

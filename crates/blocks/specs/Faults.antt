@@ -5,20 +5,20 @@ use Rattle.blocks.specs.Frame.{Frame, plain, blocks_in, check_wrong, frame_wrong
 use Rattle.blocks.specs.Entries.{limit_of, form_ok, name_given, nth, entries_of}
 use Rattle.blocks.specs.Owners.{owner_ok, depth_ok}
 use Rattle.blocks.specs.Single.{single_ok}
+use Rattle.blocks.specs.declared.Cause.{Cause}
+use Rattle.blocks.specs.declared.Cause.TheVariants.{Length, Check, Framing, Form, Owner, Depth, Double, Name}
 use Rattle.blocks.specs.declared.Entry.{Entry}
 use Rattle.blocks.specs.declared.Schema.{Schema}
 use Rattle.blocks.specs.declared.Schema.TheVariants.{Description, Named, Specimen}
-use Rattle.blocks.specs.declared.Finding.{Finding}
-use Rattle.blocks.specs.declared.Finding.TheVariants.{Clean, Faulty}
 
--- a line of the table at one place: whether it applies, the number returned, and the place given
+-- a line of the table at one place: whether it applies, its number as a cause, and the place given
 pub record Fault : Type 0 where
   pub applies : Bool
-  pub number : ℕ
+  pub cause : Cause
   pub place : ℕ
 
-abbrev pub fault : Bool → ℕ → ℕ → Fault
-fault b k p = record { applies = b; number = k; place = p }
+abbrev pub fault : Bool → Cause → ℕ → Fault
+fault b k p = record { applies = b; cause = k; place = p }
 
 -- number 1: "input length 0, no multiple of 512, or over the limit"
 unfoldable pub length_wrong : Schema → List ℕ → Bool
@@ -28,23 +28,23 @@ length_wrong σ s = length s == 0 || (not (length s % 512 == 0) || nat_lt (512 *
 unfoldable pub block_faults : Frame → List ℕ → ℕ → ℕ → ℕ → List Fault
 block_faults F s n i zero = []
 block_faults F s n i (suc left) =
-    fault (check_wrong s i) 2 (suc i) ∷ fault (frame_wrong F s n i) 3 (suc i) ∷ block_faults F s n (suc i) left
+    fault (check_wrong s i) Check (suc i) ∷ fault (frame_wrong F s n i) Framing (suc i) ∷ block_faults F s n (suc i) left
 
 -- the lines of entry n by the entries, one for each number
 abbrev pub form_row : Schema → List Entry → ℕ → Fault
-form_row σ es n = fault (not (form_ok σ (nth es n))) 4 n
+form_row σ es n = fault (not (form_ok σ (nth es n))) Form n
 
 abbrev pub name_row : ℕ → List Entry → ℕ → Fault
-name_row most es n = fault (not (name_given most (nth es n))) 13 n
+name_row most es n = fault (not (name_given most (nth es n))) Name n
 
 abbrev pub owner_row : Schema → List Entry → ℕ → Fault
-owner_row σ es n = fault (not (owner_ok σ es n)) 5 n
+owner_row σ es n = fault (not (owner_ok σ es n)) Owner n
 
 abbrev pub depth_row : List Entry → ℕ → Fault
-depth_row es n = fault (not (depth_ok es n)) 6 n
+depth_row es n = fault (not (depth_ok es n)) Depth n
 
 abbrev pub single_row : List Entry → ℕ → Fault
-single_row es n = fault (not (single_ok es n)) 9 n
+single_row es n = fault (not (single_ok es n)) Double n
 
 -- the lines that an entry of each schema may break, in their order: "4, 5 or 6, in that order", 13 "at its entry after 4", and 9 "after 6
 -- at the same entry"
@@ -65,9 +65,14 @@ entry_faults σ es n left = rows_from (entry_rows σ es) n left
 -- "In one input: 1; then the lowest block .., then the lowest entry .."
 unfoldable pub faults : Schema → List ℕ → List Fault
 faults σ s =
-    fault (length_wrong σ s) 1 0 ∷ (block_faults plain s (blocks_in s) 0 (blocks_in s) ++ entry_faults σ (entries_of s) 1 (length (entries_of s)))
+    fault (length_wrong σ s) Length 0 ∷ (block_faults plain s (blocks_in s) 0 (blocks_in s) ++ entry_faults σ (entries_of s) 1 (length (entries_of s)))
+
+-- what a search for faults finds: none, or why and at which place
+pub data Finding : Type 0 where
+  Clean : Finding
+  Faulty : Cause → ℕ → Finding
 
 -- "the first that applies in its order"
 unfoldable pub first : List Fault → Finding
 first [] = Clean
-first (f ∷ fs) = elim f.applies [ true ↦ Faulty f.number f.place | false ↦ first fs ]
+first (f ∷ fs) = elim f.applies [ true ↦ Faulty f.cause f.place | false ↦ first fs ]

@@ -8,6 +8,8 @@ pub mod Entries
 pub mod Owners
 -- Number 9 of the table of refusals: groups by a link that leads to one item only.
 pub mod Single
+-- Why an input is refused: the numbers of the table of refusals, what a refusal is, and its words.
+pub mod Refusals
 -- The table of refusals: one predicate for each number, listed in the order in which they are looked for.
 pub mod Faults
 -- What reading an input answers.

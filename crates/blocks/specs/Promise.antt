@@ -5,21 +5,22 @@ use Rattle.blocks.specs.Entries.{form_ok, name_given, nth}
 use Rattle.blocks.specs.Faults.{Fault, fault}
 use Rattle.blocks.specs.Owners.{depth_ok, owner_ok}
 use Rattle.blocks.specs.Single.{single_ok}
+use Rattle.blocks.specs.declared.Cause.{Cause}
 use Rattle.blocks.specs.declared.Entry.{Entry}
 use Rattle.blocks.specs.declared.Schema.TheVariants.{Description, Named, Specimen}
 use Rattle.blocks.specs.declared.Schema.{Schema}
 
 -- none of the faults applies
-unfoldable pub None : List Fault → Type 0
-None [] = Unit {0}
-None (f ∷ fs) = (f.applies ≡ false) × None fs
+unfoldable pub NoneApplies : List Fault → Type 0
+NoneApplies [] = Unit {0}
+NoneApplies (f ∷ fs) = (f.applies ≡ false) × NoneApplies fs
 
--- the first that applies returns the number k and gives the place p: none before it applies
-pub record FirstOf (fs : List Fault) (k p : ℕ) : Type 0 where
+-- the first that applies has the cause k and gives the place p: none before it applies
+pub record FirstOf (fs : List Fault) (k : Cause) (p : ℕ) : Type 0 where
   pub before : List Fault
   pub after : List Fault
   pub listed : fs ≡ before ++ (fault true k p ∷ after)
-  pub none : None before
+  pub none : NoneApplies before
 
 -- each entry has an allowed form, an allowed owner, and an allowed depth
 pub record Legal (σ : Schema) (es : List Entry) : Type 0 where

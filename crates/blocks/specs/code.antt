@@ -2,7 +2,7 @@
 
 -- The steps of the passes over blocks and entries, as the code takes them.
 pub mod ReadingSteps
--- Passes over entries that go block by block: where one stands before a block, and the entries of the block.
+-- Passes over entries: which are left, and where one that goes block by block stands.
 pub mod Blockwise
 -- A table of the entries met that count, found by owner and name.
 pub mod EntryTable

@@ -1,8 +1,7 @@
 // Entries read by number straight from the lent blocks.
 ghost use Rattle.std.specs.Prelude.{◌≡◌, ◌+◌, ◌*◌, ◌/◌, ◌^◌, ◌<◌, ◌≤◌, length, take, drop, MatchOption};
 ghost use Rattle.blocks.specs.Frame.{plain, entry_pos};
-ghost use Rattle.blocks.specs.code.Blockwise.{next_count};
-ghost use Rattle.blocks.specs.Entries.{entry_from, entry_of, entry_of_bytes, packed};
+ghost use Rattle.blocks.specs.Entries.{entry_from, entry_of, packed};
 
 use crate::words::{byte, word};
 use crate::{Entry, Link, Property};
@@ -31,13 +30,6 @@ fn entry_pos(n: usize) -> usize
     512 * ((n - 1) / 63) + 4 + 8 * ((n - 1) % 63)
 }
 
-// The entry of 8 bytes, for passes that read them by index.
-pub fn entry_of_bytes(b0: u8, b1: u8, b2: u8, b3: u8, b4: u8, b5: u8, b6: u8, b7: u8) -> Entry
-    ensures { result ≡ entry_of_bytes b0 b1 b2 b3 b4 b5 b6 b7 }
-{
-    Entry::from(&[b0, b1, b2, b3, b4, b5, b6, b7])
-}
-
 // The bytes of an entry that start at an index, if all are there.
 fn bytes_at(s: &[u8], at: usize) -> Option<&[u8; 8]>
     ensures { MatchOption result (length s.now < at + 8) (λ bytes. bytes.now ≡ take 8 (drop at s.now)) }
@@ -45,7 +37,8 @@ fn bytes_at(s: &[u8], at: usize) -> Option<&[u8; 8]>
     s.get(at..)?.first_chunk::<8>()
 }
 
-// The entry whose bytes start at an index, where some may lie past the end and read 0.
+// The entry whose bytes start at an index, where some may lie past the end and read 0. Field by field: an array of its bytes for `Entry::from`,
+// listed or made by `from_fn`, says no more.
 fn entry_near_end(s: &[u8], at: usize) -> Entry
     requires { at + 8 ≤ 2 ^ 64 }
     ensures { result ≡ entry_from s.now at }
@@ -71,13 +64,6 @@ pub fn nth_entry(s: &[u8], total: usize, n: usize) -> Entry
         Some(bytes) => Entry::from(bytes),
         None => entry_near_end(s, at),
     }
-}
-
-// How many of the entries left stand in the next block: for a pass that goes block by block.
-pub fn next_count(left: usize) -> usize
-    ensures { result ≡ next_count left }
-{
-    left.min(63)
 }
 
 // An entry as one number: its 8 bytes, low byte first.

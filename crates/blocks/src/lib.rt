@@ -5,11 +5,13 @@
 // as that reading undoes writing, is proved in proofs/.
 #![tactic(auto)]
 
+mod causes;
 mod entries;
 mod in_order;
+pub mod kinds;
 mod words;
 
-pub use entries::{entry_of_bytes, next_count, nth_entry, pack};
+pub use entries::{nth_entry, pack};
 pub use in_order::{InOrder, entries_in_order};
 pub use words::{block_check, block_second, byte, word, word_of_bytes};
 
@@ -24,6 +26,8 @@ pub struct Link(pub u16);
 // An entry as it stands in a block; `reserved` is the byte that is always zero in an accepted input.
 #[derive(Clone, Copy, Default)]
 pub struct Entry {
+    // The byte as it stands, before any check; `kinds` has its names. An enum would need a variant more for every other byte, and the format, packed
+    // entries and hashes go by the number.
     pub kind: u8,
     pub reserved: u8,
     pub owner: u16,
@@ -40,16 +44,28 @@ pub enum Schema {
     Named(u16),
 }
 
-// What a search for faults finds: none, or the refusal's number and the place, a block or an entry counted from 1.
-#[derive(Clone, Copy)]
-pub enum Finding {
-    Clean,
-    Faulty(u8, u16),
+// Why an input is refused: the table of refusals, whose numbers `number` gives. There is no 10.
+#[derive(Clone, Copy, Debug, PartialEq, Eq)]
+pub enum Cause {
+    Length,
+    Check,
+    Framing,
+    Form,
+    Owner,
+    Depth,
+    Room,
+    Count,
+    Double,
+    Pairs,
+    Clash,
+    Name,
+    Size,
 }
 
-// What reading an input answers: its number of entries, or the refusal's number, the input and the place.
-#[derive(Clone, Copy)]
-pub enum Reading {
-    Accepted(u16),
-    Refused(u8, u16, u16),
+// A refusal: why, of which input, and at which place of it, a block or an entry counted from 1, or 0.
+#[derive(Clone, Copy, Debug, PartialEq, Eq)]
+pub struct Refusal {
+    pub cause: Cause,
+    pub input: u16,
+    pub place: u16,
 }

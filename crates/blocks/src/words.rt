@@ -93,7 +93,8 @@ fn weigh_bytes(bytes: &[u8]) -> u16
     weigh_words(words).wrapping_add(number.wrapping_mul(u16::from(byte(half, 0))))
 }
 
-// The second sum of block i, counted from 0: its first 254 words, each times its number. Bytes past the end count as 0, as above.
+// The second sum of block i, counted from 0: its first 254 words, each times its number. Bytes past the end count as 0, as above. One function for
+// both would be handed the sum and the number of bytes, which is all that is here.
 pub fn block_second(s: &[u8], i: u16) -> u16
     ensures { result ≡ second_of s.now (512 * i) }
 {

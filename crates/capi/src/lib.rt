@@ -9,12 +9,10 @@ ghost use Rattle.blocks.specs.Reading.{reading_of};
 ghost use Rattle.blocks.specs.declared.Schema.{Schema};
 ghost use Rattle.catalogue.specs.Answer.{catalogue_of, filled_of};
 ghost use Rattle.named.specs.Answer.{compare_named, counted_named, fit_named, normalise_named, normalised_named, output_named};
-ghost use Rattle.packing.specs.Packing.{pack_catalogued, pack_comparison, pack_counted, pack_fit, pack_normal, pack_reading};
+ghost use Rattle.packing.specs.Packing.{pack_comparison, pack_counted, pack_fit, pack_reading};
 ghost use Rattle.unfolding.specs.Answer.{unfold_at, unfolded_at};
 
-use packing::{
-    pack_catalogued, pack_comparison, pack_counted, pack_fit, pack_normal, pack_reading,
-};
+use packing::{pack_comparison, pack_counted, pack_fit, pack_reading};
 
 // Reads a description as input 1: its number of entries, or the refusal.
 #[unsafe(no_mangle)]
@@ -48,7 +46,7 @@ pub extern "C" fn gx_unfold(dict: &[u8], d: &[u8], out: &mut [u8]) -> u64
 pub extern "C" fn gx_fit(s: &[u8], d: &[u8]) -> u64
     ensures { result ≡ pack_fit (fit_named [] [] s.now d.now) }
 {
-    pack_fit(named::fit_sent(&s[0..0], s, d))
+    pack_fit(named::fit_sent(&[], s, d))
 }
 
 // The same, with the additions of items that it took: in the walk over entries, and in making the table of totals.
@@ -62,9 +60,9 @@ pub extern "C" fn gx_fit_counted(s: &[u8], d: &[u8]) -> u64
 // Writes the normal form of a description from the start of the output: its number of entries, or the refusal.
 #[unsafe(no_mangle)]
 pub extern "C" fn gx_normal(d: &[u8], out: &mut [u8]) -> u64
-    ensures { (result ≡ pack_normal (normalise_named [] [] d.now out.old)) × (out.new ≡ normalised_named [] [] d.now out.old) }
+    ensures { (result ≡ pack_reading (normalise_named [] [] d.now out.old)) × (out.new ≡ normalised_named [] [] d.now out.old) }
 {
-    pack_normal(named::normalise_sent(&d[0..0], d, out))
+    pack_reading(named::normalise_sent(&[], d, out))
 }
 
 // Compares two descriptions: contained; not contained, and a specimen that shows it is written from the start of the output; or the
@@ -73,7 +71,7 @@ pub extern "C" fn gx_normal(d: &[u8], out: &mut [u8]) -> u64
 pub extern "C" fn gx_compare(c: &[u8], d: &[u8], out: &mut [u8]) -> u64
     ensures { (result ≡ pack_comparison (compare_named [] [] c.now d.now out.old)) × (out.new ≡ output_named [] [] c.now d.now out.old) }
 {
-    pack_comparison(named::compare_sent(&c[0..0], c, d, out))
+    pack_comparison(named::compare_sent(&[], c, d, out))
 }
 
 // ---- under a list of pairs and a dictionary
@@ -89,10 +87,10 @@ pub extern "C" fn gx_fit_with(pairs: &[u8], dict: &[u8], s: &[u8], d: &[u8]) -> 
 // Writes the normal form of a description: its number of entries, or the refusal.
 #[unsafe(no_mangle)]
 pub extern "C" fn gx_normal_with(pairs: &[u8], dict: &[u8], d: &[u8], out: &mut [u8]) -> u64
-    ensures { (result ≡ pack_normal (normalise_named pairs.now dict.now d.now out.old))
+    ensures { (result ≡ pack_reading (normalise_named pairs.now dict.now d.now out.old))
         × (out.new ≡ normalised_named pairs.now dict.now d.now out.old) }
 {
-    pack_normal(named::normalise(pairs, dict, d, out))
+    pack_reading(named::normalise(pairs, dict, d, out))
 }
 
 // Compares two descriptions: contained; not contained, and a specimen that shows it is written from the start of the output; or the
@@ -121,8 +119,8 @@ pub extern "C" fn gx_catalogue(
     list: &[u8],
     out: &mut [u8],
 ) -> u64
-    ensures { (result ≡ pack_catalogued (catalogue_of pairs.now dict.now c.now list.now out.old))
+    ensures { (result ≡ pack_reading (catalogue_of pairs.now dict.now c.now list.now out.old))
         × (out.new ≡ filled_of pairs.now dict.now c.now list.now out.old) }
 {
-    pack_catalogued(catalogue::catalogue(pairs, dict, c, list, out))
+    pack_reading(catalogue::catalogue(pairs, dict, c, list, out))
 }

@@ -12,65 +12,66 @@ use Rattle.base.proofs.StoresLaws.{length-stored, stored-front}
 use Rattle.base.proofs.Tests.{bool_cases, ge-ltb, lt-ltb, ltb-ge}
 use Rattle.base.specs.Stores.{stored}
 use Rattle.blocks.proofs.Refusing.Readings.{reading-cases}
-use Rattle.blocks.specs.Reading.{unless_refused}
-use Rattle.blocks.specs.declared.Reading.TheVariants as reading
-use Rattle.blocks.specs.declared.Reading.{Reading}
+use Rattle.blocks.specs.Refusals.{unless_refused, refused}
+use Rattle.std.specs.Prelude.{Ok, Err}
+use Rattle.blocks.specs.Reading.{Reading}
 use Rattle.catalogue.specs.Answer.{answers_of, catalogue_of, filled_of}
-use Rattle.catalogue.specs.declared.Catalogued.TheVariants.{Filled, Refused}
 use Rattle.lists.specs.Parts.{parts_of}
 use Rattle.names.specs.NamedReading.{dictionary_of, named_unfolding, sent_of, unfolding_of}
 use Rattle.pairs.specs.Pairs.{pairs_reading}
 use Rattle.slots.specs.Catalogue.{answers_after, bits_before, cut_reading, list_bits, list_reading, listed_bits, listed_reading, service_bit, services_reading}
+use Rattle.blocks.specs.declared.Refusal.{Refusal}
+use Rattle.blocks.specs.declared.Cause.TheVariants.{Count, Length, Room}
 
 -- ---- what is accepted
 
 -- the bytes before the first refusal are all bytes where nothing is refused
-bits-all : (P D s : List ℕ) (i : ℕ) (ds : List (List ℕ)) {n : ℕ} → services_reading (dictionary_of D) i ds ≡ reading.Accepted n → bits_before P D s i ds ≡ map (service_bit P D s) ds
+bits-all : (P D s : List ℕ) (i : ℕ) (ds : List (List ℕ)) {n : ℕ} → services_reading (dictionary_of D) i ds ≡ Ok n → bits_before P D s i ds ≡ map (service_bit P D s) ds
 unfolding services_reading bits_before
 bits-all P D s i [] e = refl
 bits-all P D s i (d ∷ ds) {n} e =
     reading-cases (named_unfolding (dictionary_of D) i d)
-    (λ k j p q. let z : reading.Refused k j p ≡ reading.Accepted n = rw q at e in cc)
-    (λ m q. let w : services_reading (dictionary_of D) (suc i) ds ≡ reading.Accepted n = rw q at e in rw (q, bits-all P D s (suc i) ds w))
+    (λ k j p q. let z : refused k j p ≡ Ok n = rw q at e in cc)
+    (λ m q. let w : services_reading (dictionary_of D) (suc i) ds ≡ Ok n = rw q at e in rw (q, bits-all P D s (suc i) ds w))
 
 -- the ways to a list that is accepted: nothing is refused
 pub record Taken (P D c list : List ℕ) (n : ℕ) : Type 0 where
   pub pairs : ℕ
-  pub list_read : pairs_reading P ≡ reading.Accepted pairs
+  pub list_read : pairs_reading P ≡ Ok pairs
   pub entries : ℕ
-  pub supplier : unfolding_of D 1 c ≡ reading.Accepted entries
-  pub cut : cut_reading list ≡ reading.Accepted n
+  pub supplier : unfolding_of D 1 c ≡ Ok entries
+  pub cut : cut_reading list ≡ Ok n
   pub count : n ≡ length (parts_of list)
   pub few : n ≤ 64
   pub judged : ℕ
-  pub services : services_reading (dictionary_of D) 2 (parts_of list) ≡ reading.Accepted judged
+  pub services : services_reading (dictionary_of D) 2 (parts_of list) ≡ Ok judged
 
 -- an answer that is accepted comes after a reading that is
-goes : {X : Type 0} (r a : Reading) {n : ℕ} → unless_refused reading.Refused r a ≡ reading.Accepted n → ((m : ℕ) → r ≡ reading.Accepted m → a ≡ reading.Accepted n → X) → X
-goes (reading.Refused k i p) a e f = cc
-goes (reading.Accepted m) a e f = f m refl e
+goes : {X : Type 0} (r a : Reading) {n : ℕ} → unless_refused Err r a ≡ Ok n → ((m : ℕ) → r ≡ Ok m → a ≡ Ok n → X) → X
+goes (Err x) a e f = cc
+goes (Ok m) a e f = f m refl e
 
-cut-taken : (list : List ℕ) {n : ℕ} → cut_reading list ≡ reading.Accepted n → (n ≡ length (parts_of list)) × (n ≤ 64)
+cut-taken : (list : List ℕ) {n : ℕ} → cut_reading list ≡ Ok n → (n ≡ length (parts_of list)) × (n ≤ 64)
 unfolding cut_reading
 cut-taken list {n} e =
     bool_cases (eqb (length list) 0 || not (eqb (length list % 512) 0))
-    (λ q. let z : reading.Refused 1 2 0 ≡ reading.Accepted n = rw q at e in cc)
+    (λ q. let z : refused Length 2 0 ≡ Ok n = rw q at e in cc)
     (λ q. bool_cases (ltb 64 (length (parts_of list)))
-    (λ w. let z : reading.Refused 8 2 0 ≡ reading.Accepted n = rw (q, w) at e in cc)
+    (λ w. let z : refused Count 2 0 ≡ Ok n = rw (q, w) at e in cc)
     (λ w.
-    let z : reading.Accepted (length (parts_of list)) ≡ reading.Accepted n = rw (q, w) at e in
+    let z : Ok (length (parts_of list)) ≡ Ok n = rw (q, w) at e in
     let y : n ≡ length (parts_of list) = cc in
     let l : length (parts_of list) ≤ 64 = ltb-ge w in
     (y, omega arith)))
 
-module _ (P D c list : List ℕ) {n : ℕ} (e : list_reading P D c list ≡ reading.Accepted n) where
+module _ (P D c list : List ℕ) {n : ℕ} (e : list_reading P D c list ≡ Ok n) where
   pub list-taken : Taken P D c list n
   unfolding list_reading listed_reading
   list-taken =
-      goes (pairs_reading P) (unless_refused reading.Refused (unfolding_of D 1 c) (listed_reading D list)) e (λ m l e₁.
+      goes (pairs_reading P) (unless_refused Err (unfolding_of D 1 c) (listed_reading D list)) e (λ m l e₁.
       goes (unfolding_of D 1 c) (listed_reading D list) e₁ (λ k s e₂.
       goes (cut_reading list) _ e₂ (λ t q e₃.
-      goes (services_reading (dictionary_of D) 2 (parts_of list)) (reading.Accepted (length (parts_of list))) e₃ (λ j r e₄.
+      goes (services_reading (dictionary_of D) 2 (parts_of list)) (Ok (length (parts_of list))) e₃ (λ j r e₄.
       let w = cut-taken list q in
       let is : n ≡ length (parts_of list) = cc in
       let same : t ≡ n = omega (arith, w.0) in
@@ -79,7 +80,7 @@ module _ (P D c list : List ℕ) {n : ℕ} (e : list_reading P D c list ≡ read
         list_read = l;
         entries = k;
         supplier = s;
-        cut = q ∙ ap reading.Accepted same;
+        cut = q ∙ ap Ok same;
         count = is;
         few = omega (arith, w.1);
         judged = j;
@@ -104,26 +105,26 @@ unfolding answers_after
 answer-room P D c list a = sym (ap length a ∙ length-stored (replicate 64 0) (list_bits P D c list) 0 ∙ length-replicate {A = ℕ} 64 0)
 
 module _ (P D c list out : List ℕ) {r : Reading} (q : r ≡ list_reading P D c list) where
-  pub answer-refused : {k i p : ℕ} → r ≡ reading.Refused k i p → (Refused k i p ≡ catalogue_of P D c list out) × (out ≡ filled_of P D c list out)
+  pub answer-refused : {x : Refusal} → r ≡ Err x → (Err x ≡ catalogue_of P D c list out) × (out ≡ filled_of P D c list out)
   unfolding catalogue_of filled_of
   answer-refused e = let w = sym q ∙ e in (rw w, rw w)
 
-  module _ {n : ℕ} (e : r ≡ reading.Accepted n) where
-    accepted : list_reading P D c list ≡ reading.Accepted n
+  module _ {n : ℕ} (e : r ≡ Ok n) where
+    accepted : list_reading P D c list ≡ Ok n
     accepted = sym q ∙ e
 
     -- the table has a byte for each service
     pub answer-few : {answers : List ℕ} → answers ≡ answers_after P D c list (replicate 64 0) → n ≤ length answers
     answer-few a = omega (arith, answer-room P D c list a, (list-taken P D c list accepted).few)
 
-    pub answer-short : length out < n → (Refused 7 0 0 ≡ catalogue_of P D c list out) × (out ≡ filled_of P D c list out)
+    pub answer-short : length out < n → (refused Room 0 0 ≡ catalogue_of P D c list out) × (out ≡ filled_of P D c list out)
     unfolding catalogue_of filled_of
     answer-short h =
         let l : length out < length (parts_of list) = omega (arith, (list-taken P D c list accepted).count) in
         (rw (accepted, lt-ltb l), rw (accepted, lt-ltb l))
 
     pub answer-filled : n ≤ length out → {answers new : List ℕ} → answers ≡ answers_after P D c list (replicate 64 0) → new ≡ take n answers ++ drop n out
-        → (Filled n ≡ catalogue_of P D c list out) × (new ≡ filled_of P D c list out)
+        → (Ok n ≡ catalogue_of P D c list out) × (new ≡ filled_of P D c list out)
     unfolding catalogue_of filled_of answers_after
     answer-filled h a w =
         let T = list-taken P D c list accepted in
@@ -135,4 +136,4 @@ module _ (P D c list out : List ℕ) {r : Reading} (q : r ≡ list_reading P D c
         let zeros = length-replicate {A = ℕ} 64 0 in
         let front : stored (replicate 64 0) 0 bits ≡ bits ++ drop (length bits) (replicate 64 0) = stored-front (replicate 64 0) bits (omega arith) in
         let same : take n (stored (replicate 64 0) 0 (list_bits P D c list)) ≡ bits = rw (bits-listed P D c list accepted, front) (take_at bits (drop (length bits) (replicate 64 0)) n long) in
-        (rw (accepted, ge-ltb l) (ap Filled count), w ∙ rw (a, same, accepted, ge-ltb l, ← count))
+        (rw (accepted, ge-ltb l) (ap Ok count), w ∙ rw (a, same, accepted, ge-ltb l, ← count))

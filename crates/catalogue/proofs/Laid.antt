@@ -10,11 +10,11 @@ use Rattle.blocks.proofs.Refusing.Readings.{reading-cases}
 use Rattle.blocks.proofs.RoundTrip.Accepting.{sound-of-accepted}
 use Rattle.blocks.specs.Encoding.{joined}
 use Rattle.blocks.specs.declared.Entry.{Entry}
-use Rattle.blocks.specs.declared.Reading.TheVariants.{Accepted, Refused}
+use Rattle.std.specs.Prelude.{Ok}
+use Rattle.blocks.specs.Refusals.{refused}
 use Rattle.blocks.specs.declared.Schema.TheVariants.{Named}
 use Rattle.catalogue.proofs.Refusals.{ServiceTaken, all-filled}
 use Rattle.catalogue.specs.Answer.{catalogue_of}
-use Rattle.catalogue.specs.declared.Catalogued.TheVariants.{Filled}
 use Rattle.lists.proofs.JoinedParts.{AllNumbered, Numbered, joined-parts, numbered}
 use Rattle.lists.specs.Parts.{parts_of}
 use Rattle.names.proofs.Legality.AcceptedReadings.{taken-read}
@@ -27,7 +27,7 @@ taken-numbered : (K : List (List Entry)) (i : ℕ) (d : List ℕ) → ServiceTak
 unfolding named_unfolding
 taken-numbered K i d T =
     reading-cases (named_reading K i d)
-    (λ k j p q. let z : Refused k j p ≡ Accepted T.entries = rw q at T.taken in let y : ◌≡◌ {A = ℕ} 0 1 = cc in absurd (omega arith))
+    (λ k j p q. let z : refused k j p ≡ Ok T.entries = rw q at T.taken in let y : ◌≡◌ {A = ℕ} 0 1 = cc in absurd (omega arith))
     (λ m q. taken-read K i d q (λ n r. numbered (Named (length K)) d (sound-of-accepted (Named (length K)) i d r).blocks))
 
 all-numbered : (K : List (List Entry)) (n : ℕ) (ds : List (List ℕ)) → ((i : ℕ) → i < length ds → ServiceTaken K (n + i) (get_or ds i [])) → AllNumbered ds
@@ -56,10 +56,10 @@ module _ (D : List ℕ) (ds : List (List ℕ)) (all : (i : ℕ) → i < length d
   laid-parts = joined-parts ds (all-numbered (dictionary_of D) 2 ds all)
 
   -- "a list of 1 to 64 service descriptions", each accepted: none is refused, and each has its byte
-  pub laid_filled : (P c out : List ℕ) {l m n : ℕ} → pairs_reading P ≡ Accepted l → dictionary_reading D ≡ Accepted m → named_unfolding (dictionary_of D) 1 c ≡ Accepted n
-      → 1 ≤ length ds → length ds ≤ 64 → length ds ≤ length out → catalogue_of P D c (joined ds) out ≡ Filled (length ds)
+  pub laid_filled : (P c out : List ℕ) {l m n : ℕ} → pairs_reading P ≡ Ok l → dictionary_reading D ≡ Ok m → named_unfolding (dictionary_of D) 1 c ≡ Ok n
+      → 1 ≤ length ds → length ds ≤ 64 → length ds ≤ length out → catalogue_of P D c (joined ds) out ≡ Ok (length ds)
   laid_filled P c out p d s some few room =
       let A = all-numbered (dictionary_of D) 2 ds all in
       let same = laid-parts in
       let many : length (parts_of (joined ds)) ≡ length ds = ap length same in
-      all-filled P D c (joined ds) out p d s (joined-some ds A some) (joined-whole ds A) (omega arith) (rw same all) (omega arith) ∙ ap Filled many
+      all-filled P D c (joined ds) out p d s (joined-some ds A some) (joined-whole ds A) (omega arith) (rw same all) (omega arith) ∙ ap Ok many

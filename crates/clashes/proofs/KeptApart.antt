@@ -20,7 +20,7 @@ use Rattle.blocks.specs.Owners.{owner_of}
 use Rattle.blocks.specs.Promise.{Legal}
 use Rattle.blocks.specs.Reading.{reading_of}
 use Rattle.blocks.specs.declared.Entry.{Entry}
-use Rattle.blocks.specs.declared.Reading.TheVariants.{Accepted}
+use Rattle.std.specs.Prelude.{Ok}
 use Rattle.blocks.specs.declared.Schema.TheVariants.{Specimen}
 use Rattle.clashes.proofs.Among.{Among, among_one, one-among}
 use Rattle.clashes.proofs.Refusals.{refused-accepted}
@@ -137,7 +137,7 @@ module _ (P : List ℕ) (es : List Entry) where
   }
 
   -- "an item that has both of a pair": no entry completes one exactly where no item has both
-  pub apart-exactly : {m : ℕ} → pairs_reading P ≡ Accepted m → Legal Specimen es → Apart P es ↔ ExclusionsKept P (record_of es)
+  pub apart-exactly : {m : ℕ} → pairs_reading P ≡ Ok m → Legal Specimen es → Apart P es ↔ ExclusionsKept P (record_of es)
   apart-exactly e L = (apart-kept (pairs-right P e), kept-apart L)
 
 -- ---- a specimen that is accepted by itself
@@ -150,8 +150,8 @@ module _ (P s : List ℕ) where
   apart-clash A = none_first (apart_ok P (entries_of s)) 1 (length (entries_of s)) (λ j lo hi. A.each j lo (omega arith))
 
   -- what an accepted specimen is: the list and the specimen are accepted by themselves, and no entry completes a pair
-  module _ {n : ℕ} (e : specimen_reading P s ≡ Accepted n) where
-    accepted-ways : {X : Type 0} → ((m : ℕ) → pairs_reading P ≡ Accepted m → reading_of Specimen 1 s ≡ Accepted n → lowest_clash P s ≡ 0 → X) → X
+  module _ {n : ℕ} (e : specimen_reading P s ≡ Ok n) where
+    accepted-ways : {X : Type 0} → ((m : ℕ) → pairs_reading P ≡ Ok m → reading_of Specimen 1 s ≡ Ok n → lowest_clash P s ≡ 0 → X) → X
     accepted-ways way =
         specimen-cases P s
         (λ k i p f g. refused-accepted g e)
@@ -159,36 +159,36 @@ module _ (P s : List ℕ) where
         (λ m k f h z g. refused-accepted g e)
         (λ m k f h z g. way m f (h ∙ sym g ∙ e) z)
 
-    pub list-accepted : (m : ℕ) × (pairs_reading P ≡ Accepted m)
+    pub list-accepted : (m : ℕ) × (pairs_reading P ≡ Ok m)
     list-accepted = accepted-ways (λ m f h z. (m, f))
 
-    pub reading-accepted : reading_of Specimen 1 s ≡ Accepted n
+    pub reading-accepted : reading_of Specimen 1 s ≡ Ok n
     reading-accepted = accepted-ways (λ m f h z. h)
 
     pub accepted-apart : Apart P (entries_of s)
     accepted-apart = accepted-ways (λ m f h z. clash-apart z)
 
   -- accepted under the list, its record keeps the list
-  pub read_keeps : {n : ℕ} → specimen_reading P s ≡ Accepted n → Keeps (under P) (record_of (entries_of s))
+  pub read_keeps : {n : ℕ} → specimen_reading P s ≡ Ok n → Keeps (under P) (record_of (entries_of s))
   read_keeps e = record {
     caps = (single-keeps (entries_of s) (sound-of-accepted Specimen 1 s (reading-accepted e)).further).caps;
     exclusions = apart-kept P (entries_of s) (pairs-right P (list-accepted e).1) (accepted-apart e);
   }
 
   -- and the other way round
-  pub keeps-read : {m n : ℕ} → pairs_reading P ≡ Accepted m → reading_of Specimen 1 s ≡ Accepted n → Keeps (under P) (record_of (entries_of s))
-      → specimen_reading P s ≡ Accepted n
+  pub keeps-read : {m n : ℕ} → pairs_reading P ≡ Ok m → reading_of Specimen 1 s ≡ Ok n → Keeps (under P) (record_of (entries_of s))
+      → specimen_reading P s ≡ Ok n
   keeps-read e f K =
       none-refused P s e f (apart-clash (kept-apart P (entries_of s) (sound-of-accepted Specimen 1 s f).entries K.exclusions))
 
   -- "records must keep it .. and a specimen is judged under the same list"
-  pub twelve-exactly : {m n : ℕ} → pairs_reading P ≡ Accepted m → reading_of Specimen 1 s ≡ Accepted n
-      → (specimen_reading P s ≡ Accepted n) ↔ Keeps (under P) (record_of (entries_of s))
+  pub twelve-exactly : {m n : ℕ} → pairs_reading P ≡ Ok m → reading_of Specimen 1 s ≡ Ok n
+      → (specimen_reading P s ≡ Ok n) ↔ Keeps (under P) (record_of (entries_of s))
   twelve-exactly e f = (read_keeps, keeps-read e f)
 
 -- every legal list of entries whose record keeps the list of pairs is accepted once encoded
-pub keeps-encoded : (P : List ℕ) (es : List Entry) {m : ℕ} → pairs_reading P ≡ Accepted m → Legal Specimen es → length es ≤ 2016
-    → Keeps (under P) (record_of es) → specimen_reading P (encode es) ≡ Accepted (length es)
+pub keeps-encoded : (P : List ℕ) (es : List Entry) {m : ℕ} → pairs_reading P ≡ Ok m → Legal Specimen es → length es ≤ 2016
+    → Keeps (under P) (record_of es) → specimen_reading P (encode es) ≡ Ok (length es)
 keeps-encoded P es e L few K =
     let back = decode-encode es in
     let single = keeps-single L ((keeps-exactly P (record_of es)).0 K).0 in

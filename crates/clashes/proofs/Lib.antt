@@ -6,9 +6,9 @@ pub mod PropertiesGiven
 pub mod Completing
 -- The ways that reading a specimen under a list goes.
 pub mod Ways
--- Refused exactly by the first fault that applies, of the list or else of the specimen; by 12 at the lowest entry that completes a pair.
+-- refused exactly by the first fault that applies, of the list or else of the specimen; by 12 at the lowest entry that completes a pair.
 pub mod Refusals
--- Accepted exactly where the list and the specimen are, and the record of the specimen keeps the list.
+-- Ok exactly where the list and the specimen are, and the record of the specimen keeps the list.
 pub mod KeptApart
 -- Number 12 by examples.
 pub mod ClashExamples

@@ -1,16 +1,16 @@
 -- Number 12 of the table of refusals, and what reading a specimen under a list of pairs answers.
 -- Assumes nothing.
-use Rattle.std.specs.Prelude.{◌-◌, suc, zero, ℕ, eqb, length, Bool, ◌&&◌, ◌||◌, false, List, [], ◌++◌, ◌∷◌}
+use Rattle.std.specs.Prelude.{◌-◌, suc, zero, ℕ, eqb, length, Bool, ◌&&◌, ◌||◌, false, List, [], ◌++◌, ◌∷◌, Err}
 use Rattle.blocks.specs.Entries.{entries_of, nth}
 use Rattle.blocks.specs.Faults.{Fault, fault, faults, first, rows_from}
 use Rattle.blocks.specs.Frame.{plain, total_in}
 use Rattle.blocks.specs.Owners.{owner_of}
-use Rattle.blocks.specs.Reading.{answer, unless_refused}
+use Rattle.blocks.specs.Reading.{answer, Reading}
+use Rattle.blocks.specs.Refusals.{unless_refused}
 use Rattle.blocks.specs.declared.Entry.{Entry}
-use Rattle.blocks.specs.declared.Reading.TheVariants.{Refused}
-use Rattle.blocks.specs.declared.Reading.{Reading}
 use Rattle.blocks.specs.declared.Schema.TheVariants.{Specimen}
 use Rattle.pairs.specs.Pairs.{excludes_in, pairs_reading}
+use Rattle.blocks.specs.declared.Cause.TheVariants.{Clash}
 
 -- an entry gives its owner's items a property
 abbrev pub gives_property : Entry → Bool
@@ -36,7 +36,7 @@ completes P es n = gives_property (nth es n) && partner_before P es (owner_of es
 
 -- the line of the table of refusals for entry n
 abbrev pub clash_rows : List ℕ → List Entry → ℕ → List Fault
-clash_rows P es n = fault (completes P es n) 12 n ∷ []
+clash_rows P es n = fault (completes P es n) Clash n ∷ []
 
 -- 12, "place the lowest entry that completes one; after that input's other checks"
 unfoldable pub specimen_faults : List ℕ → List ℕ → List Fault
@@ -44,4 +44,4 @@ specimen_faults P s = faults Specimen s ++ rows_from (clash_rows P (entries_of s
 
 -- Reading a specimen as input 1 under a list: "11 .. before any other check", then the first of that one list of lines that applies
 unfoldable pub specimen_reading : List ℕ → List ℕ → Reading
-specimen_reading P s = unless_refused Refused (pairs_reading P) (answer 1 (total_in plain s) (first (specimen_faults P s)))
+specimen_reading P s = unless_refused Err (pairs_reading P) (answer 1 (total_in plain s) (first (specimen_faults P s)))

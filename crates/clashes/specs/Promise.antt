@@ -1,15 +1,16 @@
 -- What the promises on specimens under a list speak of: where one is refused, and which one is not.
 -- Assumes nothing.
 use Rattle.std.specs.Prelude.{◌<◌, ◌≤◌, ℕ, length, Bool, ◌&&◌, false, not, true, List, ◌⊎◌, ◌≡◌}
-use Rattle.blocks.specs.Promise.{FirstOf, None}
+use Rattle.blocks.specs.Promise.{FirstOf, NoneApplies}
+use Rattle.blocks.specs.declared.Cause.{Cause}
 use Rattle.blocks.specs.declared.Entry.{Entry}
 use Rattle.clashes.specs.Clash.{completes, specimen_faults}
 use Rattle.logic.specs.Record.{Record}
 use Rattle.pairs.specs.Pairs.{excludes_in, pair_faults}
 
--- a refusal with number k, of input i, at place p: by the list's first fault, of input 0; or else by the specimen's, of input 1
-abbrev pub RefusedBy : List ℕ → List ℕ → ℕ → ℕ → ℕ → Type 0
-RefusedBy P s k i p = ((i ≡ 0) × FirstOf (pair_faults P) k p) ⊎ (None (pair_faults P) × ((i ≡ 1) × FirstOf (specimen_faults P s) k p))
+-- a refusal with cause k, of input i, at place p: by the list's first fault, of input 0; or else by the specimen's, of input 1
+abbrev pub RefusedBy : List ℕ → List ℕ → Cause → ℕ → ℕ → Type 0
+RefusedBy P s k i p = ((i ≡ 0) × FirstOf (pair_faults P) k p) ⊎ (NoneApplies (pair_faults P) × ((i ≡ 1) × FirstOf (specimen_faults P s) k p))
 
 -- "the lowest entry that completes one"
 pub record LowestClash (P : List ℕ) (es : List Entry) (p : ℕ) : Type 0 where

@@ -10,7 +10,7 @@ ghost use Rattle.pairs.specs.Pairs.{pair_count};
 ghost use Rattle.pairs.specs.code.Search.{Finds};
 
 use crate::given::Given;
-use blocks::{Entry, Property, nth_entry};
+use blocks::{Entry, Property, kinds, nth_entry};
 use pairs::Exclusions;
 
 // Whether one of the entries before gives the owner of entry e a property that excludes that of e.
@@ -37,7 +37,7 @@ fn completes_pair<const MOST: usize, const CELLS: usize>(
     requires { e ≡ nth (entries_of given.now.s.now) (given.now.n + 1) }
     ensures { result ≡ completes exclusions.entry.pairs.now (entries_of given.now.s.now) (given.now.n + 1) }
 {
-    e.kind == 1 && partner_before(exclusions, given, e)
+    e.kind == kinds::HAS && partner_before(exclusions, given, e)
 }
 
 // The lowest of n entries that completes a pair, found with a table of its own for fewer than MOST entries, of twice MOST cells.

@@ -5,7 +5,7 @@ ghost use Rattle.blocks.specs.code.EntryTable.{Met, entry_hash, owned_as};
 ghost use Rattle.clashes.specs.Clash.{gives_property};
 ghost use Rattle.clashes.specs.code.Given.{given_before};
 
-use blocks::{Entry, Property, nth_entry};
+use blocks::{Entry, Property, kinds, nth_entry};
 
 // The bucket of an owner and a property, of MOST: a division by a constant.
 fn bucket<const MOST: usize>(owner: u16, p: Property) -> usize
@@ -38,6 +38,7 @@ impl<const MOST: usize, const CELLS: usize> Given<'_, MOST, CELLS> {
         ensures { result ≡ given_before (entries_of self.now.s.now) owner p.0 self.now.n }
     {
         let mut next = self.link(bucket::<MOST>(owner, p));
+        // It follows links, and counts nothing.
         while let Some(k) = next {
             if owned_as(owner, p, nth_entry(self.s, self.n, k)) {
                 return true;
@@ -63,7 +64,7 @@ impl<const MOST: usize, const CELLS: usize> Given<'_, MOST, CELLS> {
         ensures { (self.new.n ≡ self.old.n + 1) × (self.new.s ≡ self.old.s) }
     {
         self.n += 1;
-        if e.kind == 1 {
+        if e.kind == kinds::HAS {
             let b = bucket::<MOST>(e.owner, e.property());
             self.table[MOST + self.n] = self.table[b];
             self.table[b] = self.n as u16;

@@ -12,13 +12,14 @@ use Rattle.blocks.proofs.Refusing.Readings.{reading-cases, readings-cases}
 use Rattle.blocks.proofs.RoundTrip.Accepting.{accepted-by-none, refused-by-first}
 use Rattle.blocks.specs.Entries.{entries_of}
 use Rattle.blocks.specs.Faults.{faults}
-use Rattle.blocks.specs.Promise.{FirstOf, None}
+use Rattle.blocks.specs.Promise.{FirstOf, NoneApplies}
 use Rattle.blocks.specs.Reading.{reading_of}
 use Rattle.blocks.specs.declared.Entry.{Entry}
-use Rattle.blocks.specs.declared.Reading.TheVariants as reading
+use Rattle.std.specs.Prelude.{Ok, None}
+use Rattle.blocks.specs.Refusals.{number_of, refused}
+use Rattle.compare.specs.declared.NotContained.{NotContained}
 use Rattle.blocks.specs.declared.Schema.TheVariants.{Description}
-use Rattle.compare.specs.Answer.{compare_of, compare_under, output_after, output_of, output_under, returned, verdict}
-use Rattle.compare.specs.declared.Comparison.TheVariants.{Contained, NotContained, Refused}
+use Rattle.compare.specs.Answer.{compare_of, compare_under, output_after, output_of, output_under, returned, verdict, not_contained}
 use Rattle.logic.specs.Background.{Background, standing}
 use Rattle.meaning.specs.Failing.{failing, specimen_of}
 use Rattle.compare.specs.Promise.{Comparable}
@@ -26,24 +27,26 @@ use Rattle.pairs.proofs.PairsAccepted.{none-accepted}
 use Rattle.pairs.proofs.PairsRefused.{pairs-refused}
 use Rattle.pairs.proofs.Under.{empty-read, empty-standing}
 use Rattle.pairs.specs.Pairs.{pair_faults, pairs_reading, under}
+use Rattle.blocks.specs.declared.Cause.{Cause}
+use Rattle.blocks.specs.declared.Cause.TheVariants.{Room}
 
 -- ---- the ways to an answer
 
 module _ (b : Background) (c d out : List ℕ) where
   -- "input 1 in full"
-  pub first-refused : {k i p : ℕ} → reading_of Description 1 c ≡ reading.Refused k i p → compare_under b c d out ≡ Refused k i p
+  pub first-refused : {k : Cause} {i p : ℕ} → reading_of Description 1 c ≡ refused k i p → compare_under b c d out ≡ refused k i p
   unfolding compare_under
   first-refused e = rw (compare_under, e)
 
   -- "input 2 in full"
-  pub second-refused : {n k i p : ℕ} → reading_of Description 1 c ≡ reading.Accepted n → reading_of Description 2 d ≡ reading.Refused k i p
-      → compare_under b c d out ≡ Refused k i p
+  pub second-refused : {n : ℕ} {k : Cause} {i p : ℕ} → reading_of Description 1 c ≡ Ok n → reading_of Description 2 d ≡ refused k i p
+      → compare_under b c d out ≡ refused k i p
   unfolding compare_under
   second-refused e f = rw (compare_under, e, f)
 
   -- "then 7"
-  pub too_short : {n m : ℕ} → reading_of Description 1 c ≡ reading.Accepted n → reading_of Description 2 d ≡ reading.Accepted m
-      → length out < length c + length d → compare_under b c d out ≡ Refused 7 0 0
+  pub too_short : {n m : ℕ} → reading_of Description 1 c ≡ Ok n → reading_of Description 2 d ≡ Ok m
+      → length out < length c + length d → compare_under b c d out ≡ refused Room 0 0
   unfolding compare_under
   too_short e f h = rw (compare_under, e, f, lt-ltb h)
 
@@ -53,42 +56,42 @@ module _ (b : Background) (c d out : List ℕ) where
   compared r = rw (compare_under, r.first_read, r.second-read, ge-ltb r.room)
 
   -- refused, or compared
-  pub compare-cases : {X : Type 0} → ((k i p : ℕ) → compare_under b c d out ≡ Refused k i p → X) → (Comparable c d out → X) → X
+  pub compare-cases : {X : Type 0} → ((k : Cause) (i p : ℕ) → compare_under b c d out ≡ refused k i p → X) → (Comparable c d out → X) → X
   compare-cases f g =
       readings-cases (reading_of Description 1 c) (reading_of Description 2 d)
       (λ k i p e. f k i p (first-refused e))
       (λ n k i p e e'. f k i p (second-refused e e'))
       (λ n m e e'. lt-cases (length out) (length c + length d)
-      (λ h. f 7 0 0 (too_short e e' h))
+      (λ h. f Room 0 0 (too_short e e' h))
       (λ h. g (record { first = n; second = m; first_read = e; second-read = e'; room = h })))
 
   -- what is contained or not contained was compared
-  pub contained-ready : compare_under b c d out ≡ Contained → Comparable c d out
+  pub contained-ready : compare_under b c d out ≡ Ok None → Comparable c d out
   contained-ready e = compare-cases (λ k i p q. let z : ◌≡◌ {A = ℕ} 0 1 = cc in absurd (omega arith)) (λ r. r)
 
-  pub not-contained-ready : {j k : ℕ} → compare_under b c d out ≡ NotContained j k → Comparable c d out
+  pub not-contained-ready : {j k : ℕ} → compare_under b c d out ≡ not_contained j k → Comparable c d out
   not-contained-ready e = compare-cases (λ k i p q. let z : ◌≡◌ {A = ℕ} 0 1 = cc in absurd (omega arith)) (λ r. r)
 
 -- ---- under a list of pairs
 
 module _ (P c d out : List ℕ) where
   -- "11 .. before any other check"
-  pub list-refused : {k i p : ℕ} → pairs_reading P ≡ reading.Refused k i p → compare_of P c d out ≡ Refused k i p
+  pub list-refused : {k : Cause} {i p : ℕ} → pairs_reading P ≡ refused k i p → compare_of P c d out ≡ refused k i p
   unfolding compare_of
   list-refused e = rw (compare_of, e)
 
   -- a list that is accepted stands for its background
-  pub list_read : {n : ℕ} → pairs_reading P ≡ reading.Accepted n → compare_of P c d out ≡ compare_under (under P) c d out
+  pub list_read : {n : ℕ} → pairs_reading P ≡ Ok n → compare_of P c d out ≡ compare_under (under P) c d out
   unfolding compare_of
   list_read e = rw (compare_of, e)
 
-  pub list-output : {n : ℕ} → pairs_reading P ≡ reading.Accepted n → output_of P c d out ≡ output_under (under P) c d out
+  pub list-output : {n : ℕ} → pairs_reading P ≡ Ok n → output_of P c d out ≡ output_under (under P) c d out
   unfolding output_of output_under
   list-output e = ap (output_after (under P) c d out) (list_read e)
 
   -- refused by the list, or compared under it
-  pub list_cases : {X : Type 0} → ((k i p : ℕ) → compare_of P c d out ≡ Refused k i p → X)
-      → ((n : ℕ) → pairs_reading P ≡ reading.Accepted n → compare_of P c d out ≡ compare_under (under P) c d out → X) → X
+  pub list_cases : {X : Type 0} → ((k : Cause) (i p : ℕ) → compare_of P c d out ≡ refused k i p → X)
+      → ((n : ℕ) → pairs_reading P ≡ Ok n → compare_of P c d out ≡ compare_under (under P) c d out → X) → X
   list_cases f g = reading-cases (pairs_reading P) (λ k i p e. f k i p (list-refused e)) (λ n e. g n e (list_read e))
 
 -- "With an empty list all answers match those from before."
@@ -99,33 +102,33 @@ empty-list c d out = (list_read [] c d out empty-read ∙ rw empty-standing, lis
 
 module _ (P c d out : List ℕ) where
   -- "11, input 0, before any other check"
-  pub returned-list : {k p : ℕ} → FirstOf (pair_faults P) k p
-      → returned (compare_of P c d out) ≡ record { contained = none; entry = 0; entries = 0; number = k; input = 0; place = p }
+  pub returned-list : {k : Cause} {p : ℕ} → FirstOf (pair_faults P) k p
+      → returned (compare_of P c d out) ≡ record { contained = none; entry = 0; entries = 0; number = number_of k; input = 0; place = p }
   returned-list f = ap returned (list-refused P c d out (pairs-refused P f))
 
-  module _ (l : None (pair_faults P)) where
+  module _ (l : NoneApplies (pair_faults P)) where
     under-list : compare_of P c d out ≡ compare_under (under P) c d out
     under-list = list_read P c d out (none-accepted P l)
 
     -- "In one input: .." of input 1
-    pub returned-first : {k p : ℕ} → FirstOf (faults Description c) k p
-        → returned (compare_of P c d out) ≡ record { contained = none; entry = 0; entries = 0; number = k; input = 1; place = p }
+    pub returned-first : {k : Cause} {p : ℕ} → FirstOf (faults Description c) k p
+        → returned (compare_of P c d out) ≡ record { contained = none; entry = 0; entries = 0; number = number_of k; input = 1; place = p }
     returned-first f = ap returned (under-list ∙ first-refused (under P) c d out (refused-by-first Description 1 c f))
 
     -- of input 2, where input 1 is accepted
-    pub returned-second : {k p : ℕ} → None (faults Description c) → FirstOf (faults Description d) k p
-        → returned (compare_of P c d out) ≡ record { contained = none; entry = 0; entries = 0; number = k; input = 2; place = p }
+    pub returned-second : {k : Cause} {p : ℕ} → NoneApplies (faults Description c) → FirstOf (faults Description d) k p
+        → returned (compare_of P c d out) ≡ record { contained = none; entry = 0; entries = 0; number = number_of k; input = 2; place = p }
     returned-second n f =
         ap returned (under-list ∙ second-refused (under P) c d out (accepted-by-none Description 1 c n) (refused-by-first Description 2 d f))
 
     -- "then 7", "0 for number 7"
-    pub returned-short : None (faults Description c) → None (faults Description d) → length out < length c + length d
+    pub returned-short : NoneApplies (faults Description c) → NoneApplies (faults Description d) → length out < length c + length d
         → returned (compare_of P c d out) ≡ record { contained = none; entry = 0; entries = 0; number = 7; input = 0; place = 0 }
     returned-short n m h =
         ap returned (under-list ∙ too_short (under P) c d out (accepted-by-none Description 1 c n) (accepted-by-none Description 2 d m) h)
 
 -- otherwise the two are compared
-pub none-comparable : (c d out : List ℕ) → None (faults Description c) → None (faults Description d) → length c + length d ≤ length out → Comparable c d out
+pub none-comparable : (c d out : List ℕ) → NoneApplies (faults Description c) → NoneApplies (faults Description d) → length c + length d ≤ length out → Comparable c d out
 none-comparable c d out n m h =
     record {
       first = length (entries_of c);
@@ -139,21 +142,24 @@ none-comparable c d out n m h =
 
 module _ (b : Background) (c d : List Entry) where
   -- "All hold: 'contained'"
-  pub verdict-contained : failing b c d ≡ 0 → verdict b c d ≡ Contained
+  pub verdict-contained : failing b c d ≡ 0 → verdict b c d ≡ Ok None
   unfolding verdict
   verdict-contained e = rw (verdict, eq-eqb e)
 
-  pub verdict-not : failing b c d ≢ 0 → verdict b c d ≡ NotContained (failing b c d) (length (specimen_of b c d))
+  pub verdict-not : failing b c d ≢ 0 → verdict b c d ≡ not_contained (failing b c d) (length (specimen_of b c d))
   unfolding verdict
   verdict-not z = rw (verdict, ne_eqb z)
 
-  pub contained-verdict : verdict b c d ≡ Contained → failing b c d ≡ 0
+  pub contained-verdict : verdict b c d ≡ Ok None → failing b c d ≡ 0
   contained-verdict e =
       eq-cases (failing b c d) 0 (λ z. z)
       (λ z. let f = verdict-not z in let y : ◌≡◌ {A = ℕ} 0 1 = cc in absurd (omega arith))
 
-  pub not-verdict : {j k : ℕ} → verdict b c d ≡ NotContained j k → (failing b c d ≢ 0) × (failing b c d ≡ j) × (length (specimen_of b c d) ≡ k)
+  pub not-verdict : {j k : ℕ} → verdict b c d ≡ not_contained j k → (failing b c d ≢ 0) × (failing b c d ≡ j) × (length (specimen_of b c d) ≡ k)
   not-verdict {j} {k} e =
       eq-cases (failing b c d) 0
       (λ z. let f = verdict-contained z in let y : ◌≡◌ {A = ℕ} 0 1 = cc in absurd (omega arith))
-      (λ z. let f = verdict-not z in (z, cc, cc))
+      (λ z.
+      let f = verdict-not z in
+      let g : ◌≡◌ {A = NotContained} (record { entry = failing b c d; entries = length (specimen_of b c d) }) (record { entry = j; entries = k }) = cc in
+      (z, ap (λ (n : NotContained). n.entry) g, ap (λ (n : NotContained). n.entries) g))

@@ -17,11 +17,10 @@ use Rattle.blocks.proofs.RoundTrip.Accepting.{encoded-accepted}
 use Rattle.blocks.proofs.RoundTrip.Decoding.{decode-encode}
 use Rattle.blocks.specs.Encoding.{encode}
 use Rattle.blocks.specs.Entries.{entries_of, form_ok, name_ok, nth, number_ok}
-use Rattle.blocks.specs.Faults.{entry_faults, first, rows_from}
+use Rattle.blocks.specs.Faults.{entry_faults, first, rows_from, Clean}
 use Rattle.blocks.specs.Owners.{chain, depth_of, depth_ok, owner_of, owner_ok}
 use Rattle.blocks.specs.Promise.{Legal}
 use Rattle.blocks.specs.declared.Entry.{Entry}
-use Rattle.blocks.specs.declared.Finding.TheVariants.{Clean}
 use Rattle.blocks.specs.declared.Schema.TheVariants.{Description}
 use Rattle.compare.proofs.AnswerLaws.{compared, empty-list, verdict-contained}
 use Rattle.compare.specs.Answer.{compare_under, output_after, output_under, verdict}

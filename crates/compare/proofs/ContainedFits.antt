@@ -9,23 +9,22 @@ use Rattle.blocks.specs.Entries.{entries_of}
 use Rattle.clashes.proofs.KeptApart.{read_keeps}
 use Rattle.compare.proofs.PromiseKept.{compared-list, contained-means}
 use Rattle.compare.specs.Answer.{compare_of}
-use Rattle.compare.specs.declared.Comparison.TheVariants.{Contained}
+use Rattle.std.specs.Prelude.{None, Ok, true}
 use Rattle.fit.proofs.PromiseKept.{answered-judgeable, fit-exactly}
 use Rattle.fit.specs.Answer.{fit_of}
 use Rattle.fit.specs.Promise.{Judgeable}
-use Rattle.fit.specs.declared.FitAnswer.TheVariants.{Yes}
 use Rattle.meaning.specs.Specimen.{record_of}
 
 module _ (P s c d out : List ℕ) where
   -- an accepted specimen is judged by each description that is accepted
-  judged-too : compare_of P c d out ≡ Contained → Judgeable P s c → Judgeable P s d
+  judged-too : compare_of P c d out ≡ Ok None → Judgeable P s c → Judgeable P s d
   judged-too e j =
       compared-list P c d out
       (λ k i p q. let z : ◌≡◌ {A = ℕ} 0 1 = cc in absurd (omega arith))
       (λ n l r. record { first = j.first; second = r.second; first_read = j.first_read; second-read = r.second-read })
 
   -- contained, and fit yes for C, give fit yes for D
-  pub contained-fits : compare_of P c d out ≡ Contained → fit_of P s c ≡ Yes → fit_of P s d ≡ Yes
+  pub contained-fits : compare_of P c d out ≡ Ok None → fit_of P s c ≡ Ok true → fit_of P s d ≡ Ok true
   unfolding record_of
   contained-fits e y =
       answered-judgeable P s c

@@ -4,7 +4,7 @@ use Prim.Native.Nat.{◌+◌, ℕ}
 use lib.ListN.{length}
 use mathlib.Core.List.{List}
 use mathlib.Core.Logic.{◌⊎◌, ◌↔◌, inl, inr}
-use mathlib.Core.Path.{◌∙◌, ◌≡◌, sym}
+use mathlib.Core.Path.{◌∙◌, ◌≡◌, ap, sym}
 use native.Mathlib.Omega.{arith}
 use Rattle.base.proofs.Tests.{both_ways, eq-cases, lt-cases}
 use Rattle.blocks.proofs.Refusing.Readings.{reading-cases, readings-cases}
@@ -17,7 +17,7 @@ use Rattle.compare.proofs.AnswerLaws.{compared, first-refused, list_read, list-r
 use Rattle.compare.proofs.PromiseKept.{contained-exactly, not-contained-means}
 use Rattle.compare.specs.Answer.{compare_of, compare_under, verdict}
 use Rattle.compare.specs.Promise.{AnswersNot, Comparable, ContainedInAll, Countermodel, Decided, TooShort}
-use Rattle.compare.specs.declared.Comparison.TheVariants.{Contained, Refused}
+use Rattle.std.specs.Prelude.{None, Ok}
 use Rattle.logic.specs.Background.{Ruled}
 use Rattle.meaning.proofs.Verdicts.NotContained.{not-contained-keeps, not-contained-shown}
 use Rattle.meaning.specs.Failing.{failing, specimen_of}
@@ -27,6 +27,9 @@ use Rattle.pairs.proofs.PairsRefused.{list-number}
 use Rattle.pairs.proofs.Under.{ruled-under}
 use Rattle.pairs.specs.Pairs.{pairs_reading, under}
 use Rattle.pairs.specs.Promise.{ListRead}
+use Rattle.blocks.specs.Refusals.{number_of, refusal, refused}
+use Rattle.blocks.specs.declared.Refusal.{Refusal}
+use Rattle.blocks.specs.declared.Cause.TheVariants.{Room}
 
 module _ (P : List ℕ) (L : ListRead P) (c d out : List ℕ) (r : Comparable c d out) where
   abbrev rules : Ruled (under P)
@@ -37,13 +40,13 @@ module _ (P : List ℕ) (L : ListRead P) (c d out : List ℕ) (r : Comparable c 
   answered-by = list_read P c d out L.list_read ∙ compared (under P) c d out r
 
   -- one of the two answers is given
-  answered : (compare_of P c d out ≡ Contained) ⊎ AnswersNot P c d out
+  answered : (compare_of P c d out ≡ Ok None) ⊎ AnswersNot P c d out
   answered =
       eq-cases (failing (under P) (entries_of c) (entries_of d)) 0
       (λ z. inl (answered-by ∙ verdict-contained (under P) (entries_of c) (entries_of d) z))
       (λ z. inr (record { entry = _; entries = _; answer = answered-by ∙ verdict-not (under P) (entries_of c) (entries_of d) z }))
 
-  exactly : (compare_of P c d out ≡ Contained) ↔ ContainedInAll (under P) c d
+  exactly : (compare_of P c d out ≡ Ok None) ↔ ContainedInAll (under P) c d
   exactly =
       let read = list_read P c d out L.list_read in
       let w = contained-exactly rules c d out r in
@@ -53,7 +56,7 @@ module _ (P : List ℕ) (L : ListRead P) (c d out : List ℕ) (r : Comparable c 
   model-answers : Countermodel (under P) c d → AnswersNot P c d out
   model-answers x = by answered
     where
-      by : (compare_of P c d out ≡ Contained) ⊎ AnswersNot P c d out → AnswersNot P c d out
+      by : (compare_of P c d out ≡ Ok None) ⊎ AnswersNot P c d out → AnswersNot P c d out
       by (inl e) = absurd (both_ways (exactly.0 e x.shown x.keeps x.item x.inside x.fitting) x.missing)
       by (inr y) = y
 
@@ -80,37 +83,40 @@ module _ (P : List ℕ) (L : ListRead P) (c d out : List ℕ) (r : Comparable c 
 -- ---- number 7
 
 module _ (P c d out : List ℕ) where
-  seven-short : {i p : ℕ} → compare_of P c d out ≡ Refused 7 i p → TooShort P c d out
+  seven-short : {i p : ℕ} → compare_of P c d out ≡ refused Room i p → TooShort P c d out
   seven-short {i} {p} e =
       reading-cases (pairs_reading P)
       (λ k j q f.
-      let g : Refused k j q ≡ Refused 7 i p = sym (list-refused P c d out f) ∙ e in
-      let z : k ≡ 7 = cc in
+      let g : refused k j q ≡ refused Room i p = sym (list-refused P c d out f) ∙ e in
+      let r : refusal k j q ≡ refusal Room i p = cc in
+      let z : number_of k ≡ 7 = ap (λ (x : Refusal). number_of x.cause) r in
       absurd (list-number P f z))
       (λ m l.
       let under' = sym (list_read P c d out l) ∙ e in
       readings-cases (reading_of Description 1 c) (reading_of Description 2 d)
       (λ k j q f.
-      let g : Refused k j q ≡ Refused 7 i p = sym (first-refused (under P) c d out f) ∙ under' in
-      let z : k ≡ 7 = cc in
+      let g : refused k j q ≡ refused Room i p = sym (first-refused (under P) c d out f) ∙ under' in
+      let r : refusal k j q ≡ refusal Room i p = cc in
+      let z : number_of k ≡ 7 = ap (λ (x : Refusal). number_of x.cause) r in
       absurd ((reading-number Description 1 c f).0 z))
       (λ n k j q a f.
-      let g : Refused k j q ≡ Refused 7 i p = sym (second-refused (under P) c d out a f) ∙ under' in
-      let z : k ≡ 7 = cc in
+      let g : refused k j q ≡ refused Room i p = sym (second-refused (under P) c d out a f) ∙ under' in
+      let r : refusal k j q ≡ refusal Room i p = cc in
+      let z : number_of k ≡ 7 = ap (λ (x : Refusal). number_of x.cause) r in
       absurd ((reading-number Description 2 d f).0 z))
       (λ n m a e'. lt-cases (length out) (length c + length d)
       (λ h. (accepted-none P l, (none-of-accepted Description 1 c a).0, (none-of-accepted Description 2 d e').0, h))
       (λ h. absurd (not-refused under' (record { first = n; second = m; first_read = a; second-read = e'; room = h })))))
     where
-      not-refused : {i p : ℕ} → compare_under (under P) c d out ≡ Refused 7 i p → Comparable c d out → ⊥
+      not-refused : {i p : ℕ} → compare_under (under P) c d out ≡ refused Room i p → Comparable c d out → ⊥
       not-refused {i} {p} e r =
           let b = under P in
           eq-cases (failing b (entries_of c) (entries_of d)) 0
-          (λ z. let g : Contained ≡ Refused 7 i p = sym (compared b c d out r ∙ verdict-contained b (entries_of c) (entries_of d) z) ∙ e in let w : ◌≡◌ {A = ℕ} 0 1 = cc in omega arith)
+          (λ z. let g : Ok None ≡ refused Room i p = sym (compared b c d out r ∙ verdict-contained b (entries_of c) (entries_of d) z) ∙ e in let w : ◌≡◌ {A = ℕ} 0 1 = cc in omega arith)
           (λ z. let g = sym (compared b c d out r ∙ verdict-not b (entries_of c) (entries_of d) z) ∙ e in let w : ◌≡◌ {A = ℕ} 0 1 = cc in omega arith)
 
   -- "then 7": exactly if the list and both inputs are accepted and the output is shorter than both together
-  pub seven-exactly : (compare_of P c d out ≡ Refused 7 0 0) ↔ TooShort P c d out
+  pub seven-exactly : (compare_of P c d out ≡ refused Room 0 0) ↔ TooShort P c d out
   seven-exactly = (
     seven-short,
     λ h.

@@ -26,15 +26,14 @@ use Rattle.blocks.specs.Entries.{entries_of}
 use Rattle.blocks.specs.Frame.{blocks_in, plain}
 use Rattle.blocks.specs.Reading.{reading_of}
 use Rattle.blocks.specs.declared.Entry.{Entry}
-use Rattle.blocks.specs.declared.Reading.TheVariants as reading
+use Rattle.std.specs.Prelude.{Ok, None}
+use Rattle.blocks.specs.Refusals.{refused}
 use Rattle.blocks.specs.declared.Schema.TheVariants.{Description}
 use Rattle.compare.proofs.AnswerLaws.{compare-cases, compared, contained-verdict, list_cases, list-output, list_read, not-verdict, verdict-contained, verdict-not}
-use Rattle.compare.specs.Answer.{compare_of, compare_under, output_after, output_of, output_under}
+use Rattle.compare.specs.Answer.{compare_of, compare_under, output_after, output_of, output_under, not_contained}
 use Rattle.compare.specs.Promise.{Comparable, Refuted, ContainedInAll}
-use Rattle.compare.specs.declared.Comparison.TheVariants.{Contained, NotContained, Refused}
-use Rattle.fit.proofs.AnswerLaws.{first-accepted, second-no, second-yes}
+use Rattle.fit.proofs.AnswerLaws.{first-accepted, second-judged}
 use Rattle.fit.specs.Answer.{fit_of, top_fits}
-use Rattle.fit.specs.declared.FitAnswer.TheVariants.{No, Yes}
 use Rattle.clashes.proofs.KeptApart.{keeps-encoded}
 use Rattle.clashes.specs.Clash.{specimen_reading}
 use Rattle.logic.specs.Background.{Background, Keeps, Ruled}
@@ -47,21 +46,22 @@ use Rattle.meaning.specs.Specimen.{record_of}
 use Rattle.meaning.specs.Promise.{Shown}
 use Rattle.pairs.proofs.Under.{ruled-under}
 use Rattle.pairs.specs.Pairs.{pairs_reading, under}
+use Rattle.blocks.specs.declared.Cause.{Cause}
 
 -- ---- the fit answer for accepted inputs
 
-module _ (P s d : List ℕ) {n : ℕ} (a : specimen_reading P s ≡ reading.Accepted n) (e : Sound Description d) where
-  second-read : reading_of Description 2 d ≡ reading.Accepted (length (entries_of d))
+module _ (P s d : List ℕ) {n : ℕ} (a : specimen_reading P s ≡ Ok n) (e : Sound Description d) where
+  second-read : reading_of Description 2 d ≡ Ok (length (entries_of d))
   second-read = accepted-of-sound Description 2 d e
 
-  fit-yes : top_fits s d ≡ true → fit_of P s d ≡ Yes
-  fit-yes t = sym (first-accepted P s d refl a (second-yes s d refl second-read refl t))
+  fit-yes : top_fits s d ≡ true → fit_of P s d ≡ Ok true
+  fit-yes t = sym (first-accepted P s d refl a (second-judged s d refl second-read (sym t)))
 
-  fit-no : top_fits s d ≡ false → fit_of P s d ≡ No
-  fit-no t = sym (first-accepted P s d refl a (second-no s d refl second-read refl t))
+  fit-no : top_fits s d ≡ false → fit_of P s d ≡ Ok false
+  fit-no t = sym (first-accepted P s d refl a (second-judged s d refl second-read (sym t)))
 
 -- a refusal leaves the output
-pub refused-output : (b : Background) (c d out : List ℕ) {k i p : ℕ} → compare_under b c d out ≡ Refused k i p → output_under b c d out ≡ out
+pub refused-output : (b : Background) (c d out : List ℕ) {k : Cause} {i p : ℕ} → compare_under b c d out ≡ refused k i p → output_under b c d out ≡ out
 unfolding output_under
 refused-output b c d out e = ap (output_after b c d out) e
 
@@ -75,7 +75,7 @@ module _ {b : Background} (R : Ruled b) (c d out : List ℕ) (r : Comparable c d
   service = sound-of-accepted Description 2 d r.second-read
 
   -- contained exactly if every item that fits C fits D, in every finite record that keeps the background
-  pub contained-exactly : (compare_under b c d out ≡ Contained) ↔ ContainedInAll b c d
+  pub contained-exactly : (compare_under b c d out ≡ Ok None) ↔ ContainedInAll b c d
   contained-exactly =
       let w = contained-all R.lawful (entries_of c) (entries_of d) service.entries in (
         λ e. w.0 (contained-verdict b (entries_of c) (entries_of d) (sym (compared b c d out r) ∙ e)),
@@ -127,7 +127,7 @@ module _ {b : Background} (R : Ruled b) (c d out : List ℕ) (r : Comparable c d
 
 -- ---- inputs that were compared under a list
 
-module _ (P : List ℕ) {m : ℕ} (l : pairs_reading P ≡ reading.Accepted m) (c d out : List ℕ) (r : Comparable c d out) where
+module _ (P : List ℕ) {m : ℕ} (l : pairs_reading P ≡ Ok m) (c d out : List ℕ) (r : Comparable c d out) where
   abbrev rules : Ruled (under P)
   rules = ruled-under P l
 
@@ -136,14 +136,14 @@ module _ (P : List ℕ) {m : ℕ} (l : pairs_reading P ≡ reading.Accepted m) (
     specimen = shown rules c d out r z
 
     -- its record keeps the list, so it is accepted under it
-    specimen-read : specimen_reading P (encode specimen) ≡ reading.Accepted (length specimen)
+    specimen-read : specimen_reading P (encode specimen) ≡ Ok (length specimen)
     specimen-read = keeps-encoded P specimen l (is-shown rules c d out r z).legal (shown-few rules c d out r z) (shown-keeps rules c d out r z)
 
-    specimen-yes : fit_of P (encode specimen) c ≡ Yes
+    specimen-yes : fit_of P (encode specimen) c ≡ Ok true
     unfolding top_fits
     specimen-yes = fit-yes P (encode specimen) c specimen-read (supplier rules c d out r) (rw (top_fits, decode-encode specimen) (is-shown rules c d out r z).fitting)
 
-    specimen-no : fit_of P (encode specimen) d ≡ No
+    specimen-no : fit_of P (encode specimen) d ≡ Ok false
     unfolding top_fits
     specimen-no = fit-no P (encode specimen) d specimen-read (service rules c d out r) (rw (top_fits, decode-encode specimen) (is-shown rules c d out r z).missing)
 
@@ -171,18 +171,18 @@ module _ (P : List ℕ) {m : ℕ} (l : pairs_reading P ≡ reading.Accepted m) (
 
 module _ (P c d out : List ℕ) where
   -- a refusal leaves the output
-  pub refused-unchanged : {k i p : ℕ} → compare_of P c d out ≡ Refused k i p → output_of P c d out ≡ out
+  pub refused-unchanged : {k : Cause} {i p : ℕ} → compare_of P c d out ≡ refused k i p → output_of P c d out ≡ out
   unfolding output_of
   refused-unchanged e = ap (output_after (under P) c d out) e
 
   -- the list is accepted where the two are compared, or where the answer is no refusal
-  pub compared-list : {X : Type 0} → ((k i p : ℕ) → compare_of P c d out ≡ Refused k i p → X)
-      → ((n : ℕ) → pairs_reading P ≡ reading.Accepted n → Comparable c d out → X) → X
+  pub compared-list : {X : Type 0} → ((k : Cause) (i p : ℕ) → compare_of P c d out ≡ refused k i p → X)
+      → ((n : ℕ) → pairs_reading P ≡ Ok n → Comparable c d out → X) → X
   compared-list f g =
       list_cases P c d out f (λ n l e. compare-cases (under P) c d out (λ k i p q. f k i p (e ∙ q)) (λ r. g n l r))
 
   -- 'contained' says that every item that fits C fits D, in every finite record that keeps the list and the rule, and leaves the output
-  pub contained-means : compare_of P c d out ≡ Contained → ContainedInAll (under P) c d × (output_of P c d out ≡ out)
+  pub contained-means : compare_of P c d out ≡ Ok None → ContainedInAll (under P) c d × (output_of P c d out ≡ out)
   unfolding output_of
   contained-means e =
       compared-list
@@ -190,7 +190,7 @@ module _ (P c d out : List ℕ) where
       (λ n l r. ((contained-exactly (ruled-under P l) c d out r).0 (sym (list_read P c d out l) ∙ e), ap (output_after (under P) c d out) e))
 
   -- 'not contained' shows a specimen that fits C and does not fit D
-  pub not-contained-means : {j k : ℕ} → compare_of P c d out ≡ NotContained j k → Refuted P c d out j k
+  pub not-contained-means : {j k : ℕ} → compare_of P c d out ≡ not_contained j k → Refuted P c d out j k
   not-contained-means e =
       compared-list
       (λ k i p q. let z : ◌≡◌ {A = ℕ} 0 1 = cc in absurd (omega arith))

@@ -8,5 +8,3 @@ pub mod SpecimenPlaces
 pub mod SpecimenWalk
 -- The walk over the rows that are written, with the codes of the places that they lead to in a table.
 pub mod LaidWalk
--- The slots of a table stand on the chains of their places, once one pass has put them there.
-pub mod SlotsChained

@@ -1,38 +1,46 @@
 -- The comparison's answer, and its output, for the records that keep a background, and under a list of pairs.
 -- Assumes nothing.
-use Rattle.std.specs.Prelude.{◌*◌, ◌+◌, ℕ, eqb, ltb, drop, length, Bool, cond, false, true, List, ◌++◌}
-use Rattle.std.proofs.Math.Option.{Option, none, some}
+use Rattle.std.specs.Prelude.{◌*◌, ◌+◌, ℕ, eqb, ltb, drop, length, Bool, cond, false, true, List, ◌++◌, None, Option, Some, Result, Ok, Err}
+use Rattle.std.proofs.Math.Option as math
 use Rattle.blocks.specs.Encoding.{blocks_for, encode}
 use Rattle.blocks.specs.Entries.{entries_of}
 use Rattle.blocks.specs.Frame.{plain}
-use Rattle.blocks.specs.Reading.{reading_of, unless_refused}
+use Rattle.blocks.specs.Reading.{reading_of, Reading}
+use Rattle.blocks.specs.Refusals.{number_of, refused, unless_refused}
+use Rattle.blocks.specs.declared.Refusal.{Refusal}
 use Rattle.blocks.specs.declared.Entry.{Entry}
-use Rattle.blocks.specs.declared.Reading.{Reading}
 use Rattle.blocks.specs.declared.Schema.TheVariants.{Description}
-use Rattle.compare.specs.declared.Comparison.{Comparison}
-use Rattle.compare.specs.declared.Comparison.TheVariants.{Contained, NotContained, Refused}
+use Rattle.compare.specs.declared.NotContained.{NotContained}
 use Rattle.logic.specs.Background.{Background}
 use Rattle.meaning.specs.Failing.{failing, specimen_of}
 use Rattle.pairs.specs.Pairs.{pairs_reading, under}
+use Rattle.blocks.specs.declared.Cause.TheVariants.{Room}
+
+-- "contained", "not contained, .. the number of the first .. that fails, the number of specimen entries", or a refusal
+abbrev pub Comparison : Type 0
+Comparison = Result (Option NotContained) Refusal
+
+abbrev pub not_contained : ℕ → ℕ → Comparison
+not_contained j k = Ok (Some (record { entry = j; entries = k }))
 
 -- ---- two lists of entries
 
 -- "All hold: 'contained' .. Otherwise 'not contained', the number of the first e that fails, the number of specimen entries"
 unfoldable pub verdict : Background → List Entry → List Entry → Comparison
-verdict b c d = cond (eqb (failing b c d) 0) Contained (NotContained (failing b c d) (length (specimen_of b c d)))
+verdict b c d = cond (eqb (failing b c d) 0) (Ok None) (not_contained (failing b c d) (length (specimen_of b c d)))
 
 -- ---- two inputs
 
 -- "the output is at least as long as both"; 7 otherwise, "0 for number 7"
 abbrev pub room_of : Background → List ℕ → List ℕ → List ℕ → Comparison
-room_of b c d out = cond (ltb (length out) (length c + length d)) (Refused 7 0 0) (verdict b (entries_of c) (entries_of d))
+room_of b c d out = cond (ltb (length out) (length c + length d)) (refused Room 0 0) (verdict b (entries_of c) (entries_of d))
 
 -- the answer where C is accepted, by what reading D answers
 abbrev pub second_of : Background → List ℕ → List ℕ → List ℕ → Reading → Comparison
-second_of b c d out r = unless_refused Refused r (room_of b c d out)
+second_of b c d out r = unless_refused Err r (room_of b c d out)
 
 abbrev pub first_of : Background → List ℕ → List ℕ → List ℕ → Reading → Comparison
-first_of b c d out r = unless_refused Refused r (second_of b c d out (reading_of Description 2 d))
+first_of b c d out r = unless_refused Err r (second_of b c d out (reading_of Description 2 d))
 
 -- "Input 1 is C, input 2 is D"; "input 1 in full, input 2 in full, then 7"
 unfoldable pub compare_under : Background → List ℕ → List ℕ → List ℕ → Comparison
@@ -41,9 +49,9 @@ compare_under b c d out = first_of b c d out (reading_of Description 1 c)
 -- the output after each answer: "contained, output unchanged"; "the specimen in blocks from the start, later bytes unchanged"; a
 -- refusal leaves it "unchanged"
 abbrev pub output_after : Background → List ℕ → List ℕ → List ℕ → Comparison → List ℕ
-output_after b c d out Contained = out
-output_after b c d out (NotContained j k) = encode (specimen_of b (entries_of c) (entries_of d)) ++ drop (512 * blocks_for plain k) out
-output_after b c d out (Refused k i p) = out
+output_after b c d out (Ok None) = out
+output_after b c d out (Ok (Some n)) = encode (specimen_of b (entries_of c) (entries_of d)) ++ drop (512 * blocks_for plain n.entries) out
+output_after b c d out (Err e) = out
 
 unfoldable pub output_under : Background → List ℕ → List ℕ → List ℕ → List ℕ
 output_under b c d out = output_after b c d out (compare_under b c d out)
@@ -52,7 +60,7 @@ output_under b c d out = output_after b c d out (compare_under b c d out)
 
 -- "11, input 0, before any other check"
 unfoldable pub compare_of : List ℕ → List ℕ → List ℕ → List ℕ → Comparison
-compare_of P c d out = unless_refused Refused (pairs_reading P) (compare_under (under P) c d out)
+compare_of P c d out = unless_refused Err (pairs_reading P) (compare_under (under P) c d out)
 
 unfoldable pub output_of : List ℕ → List ℕ → List ℕ → List ℕ → List ℕ
 output_of P c d out = output_after (under P) c d out (compare_of P c d out)
@@ -60,7 +68,7 @@ output_of P c d out = output_after (under P) c d out (compare_of P c d out)
 -- The paper's numbers for each case: whether C is contained in D, and neither where an input is refused or the output too short; the number
 -- of the first entry that fails and the number of specimen entries; the number returned, the input and the place. 0 where a case has none.
 pub record Returned : Type 0 where
-  pub contained : Option Bool
+  pub contained : math.Option Bool
   pub entry : ℕ
   pub entries : ℕ
   pub number : ℕ
@@ -68,6 +76,6 @@ pub record Returned : Type 0 where
   pub place : ℕ
 
 abbrev pub returned : Comparison → Returned
-returned Contained = record { contained = some true; entry = 0; entries = 0; number = 0; input = 0; place = 0 }
-returned (NotContained j k) = record { contained = some false; entry = j; entries = k; number = 0; input = 0; place = 0 }
-returned (Refused k i p) = record { contained = none; entry = 0; entries = 0; number = k; input = i; place = p }
+returned (Ok None) = record { contained = math.some true; entry = 0; entries = 0; number = 0; input = 0; place = 0 }
+returned (Ok (Some n)) = record { contained = math.some false; entry = n.entry; entries = n.entries; number = 0; input = 0; place = 0 }
+returned (Err e) = record { contained = math.none; entry = 0; entries = 0; number = number_of e.cause; input = e.input; place = e.place }

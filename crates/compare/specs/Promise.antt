@@ -1,22 +1,18 @@
 -- What the promises of the comparison speak of: inputs that are compared, containment in every finite record that keeps a background, what
 -- 'not contained' says of the output, demand 3 as one statement, and what each line of the starred cases says.
 -- Assumes nothing.
-use Rattle.std.specs.Prelude.{◌*◌, ◌+◌, ◌<◌, ◌≤◌, ℕ, drop, length, false, true, List, ◌++◌, ◌⊎◌, ◌↔◌, ◌≡◌}
+use Rattle.std.specs.Prelude.{◌*◌, ◌+◌, ◌<◌, ◌≤◌, ℕ, drop, length, false, true, List, ◌++◌, ◌⊎◌, ◌↔◌, ◌≡◌, Ok, None}
 use Rattle.base.specs.Ascending.{Sorted}
 use Rattle.blocks.specs.Encoding.{blocks_for, encode, first_blocks}
 use Rattle.blocks.specs.Entries.{entries_of}
 use Rattle.blocks.specs.Faults.{faults}
 use Rattle.blocks.specs.Frame.{plain}
-use Rattle.blocks.specs.Promise.{None}
+use Rattle.blocks.specs.Promise.{NoneApplies}
 use Rattle.blocks.specs.Reading.{reading_of}
-use Rattle.blocks.specs.declared.Reading.TheVariants as reading
 use Rattle.blocks.specs.declared.Schema.TheVariants.{Description}
 use Rattle.clashes.specs.Clash.{specimen_reading}
-use Rattle.compare.specs.Answer.{compare_of, output_of}
-use Rattle.compare.specs.declared.Comparison.{Comparison}
-use Rattle.compare.specs.declared.Comparison.TheVariants.{Contained, NotContained}
+use Rattle.compare.specs.Answer.{compare_of, output_of, Comparison, not_contained}
 use Rattle.fit.specs.Answer.{fit_of}
-use Rattle.fit.specs.declared.FitAnswer.TheVariants.{No, Yes}
 use Rattle.logic.specs.Background.{Background, Keeps}
 use Rattle.logic.specs.Record.{Record, fits}
 use Rattle.meaning.specs.Description.{place_of}
@@ -32,13 +28,13 @@ use Rattle.pairs.specs.Pairs.{pair_faults, under}
 pub record Comparable (c d out : List ℕ) : Type 0 where
   pub first : ℕ
   pub second : ℕ
-  pub first_read : reading_of Description 1 c ≡ reading.Accepted first
-  pub second-read : reading_of Description 2 d ≡ reading.Accepted second
+  pub first_read : reading_of Description 1 c ≡ Ok first
+  pub second-read : reading_of Description 2 d ≡ Ok second
   pub room : length c + length d ≤ length out
 
 -- the list and both inputs are accepted, and the output is shorter than both together
 abbrev pub TooShort : List ℕ → List ℕ → List ℕ → List ℕ → Type 0
-TooShort P c d out = None (pair_faults P) × None (faults Description c) × None (faults Description d) × (length out < length c + length d)
+TooShort P c d out = NoneApplies (pair_faults P) × NoneApplies (faults Description c) × NoneApplies (faults Description d) × (length out < length c + length d)
 
 -- every item that fits C fits D, in every finite record that keeps the background
 abbrev pub ContainedInAll : Background → List ℕ → List ℕ → Type 0
@@ -57,7 +53,7 @@ pub record Countermodel (b : Background) (c d : List ℕ) : Type 0 where
 pub record AnswersNot (P c d out : List ℕ) : Type 0 where
   pub entry : ℕ
   pub entries : ℕ
-  pub answer : compare_of P c d out ≡ NotContained entry entries
+  pub answer : compare_of P c d out ≡ not_contained entry entries
 
 -- What the answer 'not contained', with the numbers j and k, says of the output.
 pub record Refuted (P c d out : List ℕ) (j k : ℕ) : Type 0 where
@@ -69,27 +65,27 @@ pub record Refuted (P c d out : List ℕ) (j k : ℕ) : Type 0 where
   -- they are a specimen of k entries, no more than C and D have together, whose record keeps the list and the rule on single links; so it
   -- is accepted under the list
   pub blocks : first_blocks k (output_of P c d out) ≡ encode (specimen_of (under P) (entries_of c) (entries_of d))
-  pub accepted : specimen_reading P (first_blocks k (output_of P c d out)) ≡ reading.Accepted k
+  pub accepted : specimen_reading P (first_blocks k (output_of P c d out)) ≡ Ok k
   pub few : k ≤ length (entries_of c) + length (entries_of d)
   pub keeps : Keeps (under P) (record_of (entries_of (first_blocks k (output_of P c d out))))
   -- "Order as in the normal form": so each property of a place, and each group of a place and link, stands once
   pub ascending : Sorted entry_before (entries_of (first_blocks k (output_of P c d out)))
   -- whose top item fits C and does not fit D, by the fit call under the same list
-  pub yes : fit_of P (first_blocks k (output_of P c d out)) c ≡ Yes
-  pub no : fit_of P (first_blocks k (output_of P c d out)) d ≡ No
+  pub yes : fit_of P (first_blocks k (output_of P c d out)) c ≡ Ok true
+  pub no : fit_of P (first_blocks k (output_of P c d out)) d ≡ Ok false
 
 -- Demand 3: "the comparison answers 'contained' (no finite record of any size .. has an item that fits the first and misses the second) or
 -- 'not contained' (exactly when such a record exists)", and shows it.
 pub record Decided (P c d out : List ℕ) : Type 0 where
-  pub answers : (compare_of P c d out ≡ Contained) ⊎ AnswersNot P c d out
-  pub contained : (compare_of P c d out ≡ Contained) ↔ ContainedInAll (under P) c d
+  pub answers : (compare_of P c d out ≡ Ok None) ⊎ AnswersNot P c d out
+  pub contained : (compare_of P c d out ≡ Ok None) ↔ ContainedInAll (under P) c d
   pub not-contained : AnswersNot P c d out ↔ Countermodel (under P) c d
-  pub refuted : {j k : ℕ} → compare_of P c d out ≡ NotContained j k → Refuted P c d out j k
+  pub refuted : {j k : ℕ} → compare_of P c d out ≡ not_contained j k → Refuted P c d out j k
 
 -- the answer, and the output after it
 abbrev pub answer_of : Outcome → Comparison
-answer_of inside = Contained
-answer_of (outside n sp) = NotContained n (length sp)
+answer_of inside = Ok None
+answer_of (outside n sp) = not_contained n (length sp)
 
 abbrev pub output_for : Outcome → List ℕ → List ℕ
 output_for inside out = out
@@ -102,4 +98,4 @@ Right P (compares c d o) =
     (out : List ℕ) → length (encode c) + length (encode d) ≤ length out
     → (compare_of P (encode c) (encode d) out ≡ answer_of o) × (output_of P (encode c) (encode d) out ≡ output_for o out)
 Right P (normalises c n) = NormalisedAs P c n
-Right P (impossible c) = (d out : List ℕ) → Comparable (encode c) d out → compare_of P (encode c) d out ≡ Contained
+Right P (impossible c) = (d out : List ℕ) → Comparable (encode c) d out → compare_of P (encode c) d out ≡ Ok None

@@ -8,12 +8,7 @@ ghost use Rattle.compare.specs.code.Asked.{One, code_asked, least_asked, link_in
 
 use crate::items::Items;
 use crate::path::Path;
-use blocks::{Link, Property};
-
-// The kinds of entries that ask for something where they are denied.
-const LACKS: u8 = 2;
-
-const AT_MOST: u8 = 4;
+use blocks::{Link, Property, kinds};
 
 // A link is no property's number, nor is a property's number a link's.
 impl Path {
@@ -23,7 +18,7 @@ impl Path {
         ensures { One (property_in result) × (target_properties (target_at (up_from self.now.links self.now.depth) (atom_of self.now.entry) target) ≡ property_in result) }
     {
         let e = self.entry;
-        if target == self.depth() + 1 && e.kind == LACKS {
+        if target == self.depth() + 1 && e.kind == kinds::LACKS {
             Some(e.property())
         } else {
             None
@@ -49,7 +44,7 @@ impl Path {
             });
         }
         let e = self.entry;
-        if e.kind != AT_MOST {
+        if e.kind != kinds::AT_MOST {
             return None;
         }
         Some(Items {
@@ -84,7 +79,7 @@ pub(crate) fn least_asked(asked: Option<Items>, l: Link) -> u64
     }
 }
 
-// The code of the target that they lead to.
+// The code of the target that they lead to. Alike but for the field, whose type is another: a function of the field would say no less.
 pub(crate) fn code_asked(asked: Option<Items>, l: Link) -> u16
     ensures { result ≡ code_asked asked l.0 }
 {

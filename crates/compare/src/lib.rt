@@ -18,11 +18,10 @@ mod verdict;
 
 pub use verdict::compare;
 
-// What the comparison answers: contained; not contained, with the number of the first entry of the second description that fails and the
-// number of entries of the specimen that shows it; or the refusal's number, the input and the place.
-#[derive(Clone, Copy)]
-pub enum Comparison {
-    Contained,
-    NotContained(u16, u16),
-    Refused(u8, u16, u16),
+// What is said where the first is not contained: the number of the first entry of the second description that fails, and the number of
+// entries of the specimen that shows it.
+#[derive(Clone, Copy, Debug, PartialEq, Eq)]
+pub struct NotContained {
+    pub entry: u16,
+    pub entries: u16,
 }

@@ -16,7 +16,7 @@ use crate::settled::Slots;
 use runs::{gather, slot_named};
 
 impl<'a> Slots<'a> {
-    // Adds the tag of a name of a run, where no slot asks for it.
+    // Adds the tag of a name of a run, where no slot asks for it, to the n tags in `order`, in which all are then put in order.
     fn add_name(&self, run: usize, name: u16, order: &mut [u64], n: usize) -> usize
         requires { n < length order.old }
         ensures { (v : ℕ) (b : Bool) → run ≡ 2 * v + bit b → Filled (length order.old) order.old n (extra_tag self.now.table.now v b name) order.new result }
@@ -54,7 +54,7 @@ impl<'a> Slots<'a> {
     }
 }
 
-// Pushes the rows of the place of a code, of this owner: its properties, then its groups.
+// Pushes the rows of the place of a code, of this owner: its properties, then its groups. Its tables stay parameters for the reason in rows.rt.
 pub(crate) fn push_place(
     owner: u16,
     code: usize,

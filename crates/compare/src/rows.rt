@@ -17,20 +17,12 @@ ghost use Rattle.slots.specs.code.States.{nowhere};
 use crate::asked::{code_asked, least_asked};
 use crate::items::Items;
 use crate::settled::Slots;
-use blocks::{Entry, Link, Property};
+use blocks::{Entry, Link, Property, kinds};
 use runs::{tag_name, tag_slot};
-use slots::{high_in, low_in};
-
-// The kinds of a specimen's entries.
-const HAS: u8 = 1;
-
-const GROUP: u8 = 7;
-
-// The place of no number: nothing stands there. A number and no Option, since the codes of places that `below` holds have it in them.
-const NOWHERE: u16 = 1023;
+use slots::{NOWHERE, high_in, low_in};
 
 impl<'a> Slots<'a> {
-    // How many items a slot asks for; 0 for no slot.
+    // How many items a slot asks for; 0 for no slot, which is as many as it asks for, and no mark.
     pub(crate) fn least_in(&self, s: usize) -> u64
         requires { s < length self.now.table.now }
         ensures { (result ≡ least_in self.now.table.now s) × (result < 131072) }
@@ -41,7 +33,8 @@ impl<'a> Slots<'a> {
         low_in(self.table[s])
     }
 
-    // The place below a slot: NOWHERE for no slot, and where it has at most 0.
+    // The place below a slot: NOWHERE for no slot, and where it has at most 0. A number and no Option, since the codes of places that `below`
+    // holds have it in them.
     fn below_in(&self, s: usize) -> u16
         requires { s < length self.now.table.now }
         ensures { (result ≡ below_in self.now.table.now s) × (result ≤ nowhere) }
@@ -58,7 +51,7 @@ fn property_entry(owner: u16, p: Property) -> Entry
     ensures { result ≡ row_entry (leaf_row owner p.0) }
 {
     Entry {
-        kind: HAS,
+        kind: kinds::HAS,
         reserved: 0,
         owner,
         name: p.0,
@@ -71,7 +64,7 @@ fn group_entry(owner: u16, l: Link, number: u16) -> Entry
     ensures { result ≡ row_entry (node_row owner (group l.0 number)) }
 {
     Entry {
-        kind: GROUP,
+        kind: kinds::GROUP,
         reserved: 0,
         owner,
         name: l.0,

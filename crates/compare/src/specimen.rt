@@ -8,7 +8,7 @@ use crate::path::Path;
 use crate::places::push_place;
 use crate::settled::Slots;
 
-// Pushes the rows of the place below row i, where row i leads to one.
+// Pushes the rows of the place below row i, where row i leads to one. Its tables stay parameters for the reason in rows.rt.
 fn push_below(
     i: usize,
     slots: &Slots,

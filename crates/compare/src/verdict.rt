@@ -7,11 +7,11 @@ ghost use Rattle.slots.specs.code.Standing.{BothRead};
 ghost use Rattle.compare.specs.Answer.{compare_of, compare_under, output_of, output_under};
 ghost use Rattle.compare.specs.code.Prepared.{Agreed, Failed, FailedSomehow, Roomy, Showable, shown_after, shown_by};
 
-use crate::Comparison;
+use crate::NotContained;
 use crate::path::Path;
-use crate::settled::Workspace;
 use crate::specimen::specimen_rows;
-use slots::Holding;
+use blocks::{Cause, Refusal};
+use normal::Workspace;
 
 // Writes the specimen that the slots give for entry n of a description, in lent tables, and returns its number of entries.
 fn write_specimen(table: &[u64], d: &[u8], n: usize, work: Workspace, out: &mut [u8]) -> usize
@@ -65,17 +65,20 @@ fn are_small(c: &[u8], d: &[u8]) -> bool
 }
 
 // Shows that entry n fails, where the slots of the first description stand in the table.
-fn show(c: &[u8], d: &[u8], n: usize, table: &[u64], out: &mut [u8]) -> Comparison
+fn show(c: &[u8], d: &[u8], n: usize, table: &[u64], out: &mut [u8]) -> NotContained
     requires { FailedSomehow c.now d.now n table.now × (length c.now + length d.now ≤ length out.old) }
     ensures { (b : Background) → Ruled b → Failed b c.now d.now n table.now
-        → (result ≡ compare_under b c.now d.now out.old) × (out.new ≡ output_under b c.now d.now out.old) }
+        → (Ok (Some result) ≡ compare_under b c.now d.now out.old) × (out.new ≡ output_under b c.now d.now out.old) }
 {
     let count = if are_small(c, d) {
         show_sized::<64, 128, 126, 127>(table, d, n, out)
     } else {
         show_sized::<1009, 2018, 2016, 2017>(table, d, n, out)
     };
-    Comparison::NotContained(n as u16, count as u16)
+    NotContained {
+        entry: n as u16,
+        entries: count as u16,
+    }
 }
 
 // Whether an output is shorter than two descriptions together.
@@ -87,44 +90,74 @@ fn is_short(c: &[u8], d: &[u8], out: &[u8]) -> bool
 }
 
 // The answer where all entries hold: 7 where the output is shorter than both descriptions together.
-fn agree(c: &[u8], d: &[u8], out: &[u8]) -> Comparison
+fn agree(c: &[u8], d: &[u8], out: &[u8]) -> Result<Option<NotContained>, Refusal>
     requires { BothRead c.now d.now }
     ensures { (b : Background) → Agreed b c.now d.now
         → (result ≡ compare_under b c.now d.now out.now) × (out.now ≡ output_under b c.now d.now out.now) }
 {
     if is_short(c, d, out) {
-        return Comparison::Refused(7, 0, 0);
+        return Err(Refusal {
+            cause: Cause::Room,
+            input: 0,
+            place: 0,
+        });
     }
-    Comparison::Contained
+    Ok(None)
 }
 
 // The answer where entry n fails: 7 where the output is shorter, else the specimen.
-fn deny(c: &[u8], d: &[u8], n: usize, table: &[u64], out: &mut [u8]) -> Comparison
+fn deny(
+    c: &[u8],
+    d: &[u8],
+    n: usize,
+    table: &[u64],
+    out: &mut [u8],
+) -> Result<Option<NotContained>, Refusal>
     requires { FailedSomehow c.now d.now n table.now }
     ensures { (b : Background) → Ruled b → Failed b c.now d.now n table.now
         → (result ≡ compare_under b c.now d.now out.old) × (out.new ≡ output_under b c.now d.now out.old) }
 {
     if is_short(c, d, out) {
-        return Comparison::Refused(7, 0, 0);
+        return Err(Refusal {
+            cause: Cause::Room,
+            input: 0,
+            place: 0,
+        });
     }
-    show(c, d, n, table, out)
+    Ok(Some(show(c, d, n, table, out)))
 }
 
 // Compares two descriptions under a list of pairs, with a lent table for the slots of the first.
-fn compare_in(pairs: &[u8], c: &[u8], d: &[u8], table: &mut [u64], out: &mut [u8]) -> Comparison
+fn compare_in(
+    pairs: &[u8],
+    c: &[u8],
+    d: &[u8],
+    table: &mut [u64],
+    out: &mut [u8],
+) -> Result<Option<NotContained>, Refusal>
     requires { Roomy c.now table.old }
     ensures { (result ≡ compare_of pairs.now c.now d.now out.old) × (out.new ≡ output_of pairs.now c.now d.now out.old) }
 {
-    let holding = slots::first_failing(pairs, c, d, table);
-    match holding {
-        Holding::Refused(number, input, place) => Comparison::Refused(number, input, place),
-        Holding::All => agree(c, d, out),
-        Holding::Fails(n, used) => deny(c, d, usize::from(n), &table[..usize::from(used) + 1], out),
+    let unheld = slots::first_failing(pairs, c, d, table)?;
+    match unheld {
+        None => agree(c, d, out),
+        Some(u) => deny(
+            c,
+            d,
+            usize::from(u.entry),
+            &table[..usize::from(u.used) + 1],
+            out,
+        ),
     }
 }
 
 // The same with a table of its own, for so many slots.
-fn compare_sized<const SLOTS: usize>(pairs: &[u8], c: &[u8], d: &[u8], out: &mut [u8]) -> Comparison
+fn compare_sized<const SLOTS: usize>(
+    pairs: &[u8],
+    c: &[u8],
+    d: &[u8],
+    out: &mut [u8],
+) -> Result<Option<NotContained>, Refusal>
     requires { (63 * min (length c.now) 8192 < 512 * SLOTS) × (SLOTS ≤ 1009) }
     ensures { (result ≡ compare_of pairs.now c.now d.now out.old) × (out.new ≡ output_of pairs.now c.now d.now out.old) }
 {
@@ -137,7 +170,12 @@ fn compare_sized<const SLOTS: usize>(pairs: &[u8], c: &[u8], d: &[u8], out: &mut
 // are written from the start of the output, and the answer has the number of the first entry of the second description that fails and the
 // specimen's number of entries; later bytes stay. The output is at least as long as both descriptions; where it is shorter, or the list or a
 // description is refused, the refusal is returned. Nothing is written but a specimen.
-pub fn compare(pairs: &[u8], c: &[u8], d: &[u8], out: &mut [u8]) -> Comparison
+pub fn compare(
+    pairs: &[u8],
+    c: &[u8],
+    d: &[u8],
+    out: &mut [u8],
+) -> Result<Option<NotContained>, Refusal>
     ensures { (result ≡ compare_of pairs.now c.now d.now out.old) × (out.new ≡ output_of pairs.now c.now d.now out.old) }
 {
     if are_small(c, d) {

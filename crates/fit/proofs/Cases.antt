@@ -11,13 +11,11 @@ use Rattle.base.specs.Range.{sum}
 use Rattle.blocks.proofs.Refusing.FirstFault.{clean-none}
 use Rattle.blocks.proofs.Refusing.Legal.{none-legal}
 use Rattle.blocks.specs.Entries.{form_ok, name_ok, nth, number_ok}
-use Rattle.blocks.specs.Faults.{entry_faults, first, rows_from}
+use Rattle.blocks.specs.Faults.{entry_faults, first, rows_from, Finding, Clean, Faulty}
 use Rattle.blocks.specs.Owners.{chain, depth_of, depth_ok, owner_of, owner_ok}
 use Rattle.blocks.specs.Promise.{Legal}
 use Rattle.blocks.specs.Single.{items_up_to, single_ok}
 use Rattle.blocks.specs.declared.Entry.{Entry}
-use Rattle.blocks.specs.declared.Finding.{Finding}
-use Rattle.blocks.specs.declared.Finding.TheVariants.{Clean, Faulty}
 use Rattle.blocks.specs.declared.Schema.{Schema}
 use Rattle.blocks.specs.declared.Schema.TheVariants.{Description, Specimen}
 use Rattle.fit.proofs.FitByNumber.{fit-by-groups}

@@ -1,14 +1,13 @@
 -- The fit answer.
 -- Assumes nothing.
-use Rattle.std.specs.Prelude.{Bool, true, false, cond, List, ℕ}
+use Rattle.std.specs.Prelude.{Bool, List, ℕ, Result, Ok, Err}
 use Rattle.std.proofs.Math.Option.{Option, none, some}
 use Rattle.blocks.specs.Entries.{entries_of}
-use Rattle.blocks.specs.Reading.{reading_of, unless_refused}
-use Rattle.blocks.specs.declared.Reading.{Reading}
+use Rattle.blocks.specs.Reading.{reading_of, Reading}
+use Rattle.blocks.specs.Refusals.{number_of, unless_refused}
+use Rattle.blocks.specs.declared.Refusal.{Refusal}
 use Rattle.blocks.specs.declared.Schema.TheVariants.{Description, Specimen}
 use Rattle.clashes.specs.Clash.{specimen_reading}
-use Rattle.fit.specs.declared.FitAnswer.{FitAnswer}
-use Rattle.fit.specs.declared.FitAnswer.TheVariants.{Yes, No, Refused}
 use Rattle.logic.specs.Record.{fits}
 use Rattle.meaning.specs.Description.{place_of}
 use Rattle.meaning.specs.Specimen.{record_of}
@@ -17,17 +16,21 @@ use Rattle.meaning.specs.Specimen.{record_of}
 unfoldable pub top_fits : List ℕ → List ℕ → Bool
 top_fits s d = fits (record_of (entries_of s)) (place_of (entries_of d) 0) 0
 
+-- yes or no, or a refusal
+abbrev pub FitAnswer : Type 0
+FitAnswer = Result Bool Refusal
+
 -- the answer where the specimen is accepted, by what reading the description answers
 abbrev pub second_of : List ℕ → List ℕ → Reading → FitAnswer
-second_of s d r = unless_refused Refused r (cond (top_fits s d) Yes No)
+second_of s d r = unless_refused Err r (Ok (top_fits s d))
 
 -- "The fit answer takes a specimen (input 1) and a description (input 2)"; "input 1 in full, input 2 in full": without pairs
 unfoldable pub plain_fit : List ℕ → List ℕ → FitAnswer
-plain_fit s d = unless_refused Refused (reading_of Specimen 1 s) (second_of s d (reading_of Description 2 d))
+plain_fit s d = unless_refused Err (reading_of Specimen 1 s) (second_of s d (reading_of Description 2 d))
 
 -- The same under a list of pairs: the specimen's record must keep it, or 12; Table 1 stays.
 unfoldable pub fit_of : List ℕ → List ℕ → List ℕ → FitAnswer
-fit_of P s d = unless_refused Refused (specimen_reading P s) (second_of s d (reading_of Description 2 d))
+fit_of P s d = unless_refused Err (specimen_reading P s) (second_of s d (reading_of Description 2 d))
 
 -- The paper's numbers for each case: yes or no, and neither where an input is refused; the number returned, the input and the place, 0
 -- where nothing is refused.
@@ -38,6 +41,5 @@ pub record Returned : Type 0 where
   pub place : ℕ
 
 abbrev pub returned : FitAnswer → Returned
-returned Yes = record { fits = some true; number = 0; input = 0; place = 0 }
-returned No = record { fits = some false; number = 0; input = 0; place = 0 }
-returned (Refused k i p) = record { fits = none; number = k; input = i; place = p }
+returned (Ok b) = record { fits = some b; number = 0; input = 0; place = 0 }
+returned (Err e) = record { fits = none; number = number_of e.cause; input = e.input; place = e.place }

@@ -2,13 +2,12 @@
 -- Assumes nothing.
 use Rattle.std.specs.Prelude.{List, ℕ, length}
 use Rattle.blocks.specs.Entries.{entries_of}
-use Rattle.blocks.specs.Reading.{reading_of, unless_refused}
-use Rattle.blocks.specs.declared.Reading.{Reading}
+use Rattle.blocks.specs.Reading.{reading_of, Reading}
+use Rattle.blocks.specs.Refusals.{unless_refused}
 use Rattle.blocks.specs.declared.Schema.TheVariants.{Description, Specimen}
-use Rattle.fit.specs.Answer.{plain_fit}
+use Rattle.fit.specs.Answer.{FitAnswer, plain_fit}
 use Rattle.fit.specs.Totals.{groups_up_to}
 use Rattle.fit.specs.declared.Counted.{Counted}
-use Rattle.fit.specs.declared.FitAnswer.{FitAnswer}
 
 -- an answer with so many additions in making the table, and none in the walk
 abbrev pub with_table : FitAnswer → ℕ → Counted
@@ -20,7 +19,7 @@ groups_in s = groups_up_to (entries_of s) (length (entries_of s))
 
 -- the additions in making the table, by what reading an input answers: where an input is refused no table is made
 abbrev pub unless_stopped : Reading → ℕ → ℕ
-unless_stopped r n = unless_refused (λ k i p. 0) r n
+unless_stopped r n = unless_refused (λ e. 0) r n
 
 -- where both inputs are accepted each group is added once
 unfoldable pub table_adds : List ℕ → List ℕ → ℕ

@@ -1,15 +1,13 @@
 -- What the promises of the fit answer speak of: inputs that are judged, the answer exactly as Table 1 has it, and a specimen that shows a
 -- difference.
 -- Assumes nothing.
-use Rattle.std.specs.Prelude.{ℕ, false, true, List, ◌↔◌, ◌≡◌}
+use Rattle.std.specs.Prelude.{ℕ, false, true, List, ◌↔◌, ◌≡◌, Ok}
 use Rattle.blocks.specs.Entries.{entries_of}
 use Rattle.blocks.specs.Promise.{Legal}
 use Rattle.blocks.specs.Reading.{reading_of}
-use Rattle.blocks.specs.declared.Reading.TheVariants as reading
 use Rattle.blocks.specs.declared.Schema.TheVariants.{Description, Specimen}
 use Rattle.clashes.specs.Clash.{specimen_reading}
 use Rattle.fit.specs.Answer.{fit_of}
-use Rattle.fit.specs.declared.FitAnswer.TheVariants.{No, Yes}
 use Rattle.logic.specs.Record.{fits}
 use Rattle.meaning.specs.Description.{place_of}
 use Rattle.meaning.specs.FitExamples.{Case}
@@ -19,13 +17,13 @@ use Rattle.meaning.specs.Specimen.{record_of}
 pub record Judgeable (P s d : List ℕ) : Type 0 where
   pub first : ℕ
   pub second : ℕ
-  pub first_read : specimen_reading P s ≡ reading.Accepted first
-  pub second-read : reading_of Description 2 d ≡ reading.Accepted second
+  pub first_read : specimen_reading P s ≡ Ok first
+  pub second-read : reading_of Description 2 d ≡ Ok second
 
 -- "The fit answer is yes exactly when Table 1 of the report puts the specimen's top item in the description", and no otherwise
 pub record FitsExactly (P s d : List ℕ) : Type 0 where
-  pub yes : (fit_of P s d ≡ Yes) ↔ (fits (record_of (entries_of s)) (place_of (entries_of d) 0) 0 ≡ true)
-  pub no : (fit_of P s d ≡ No) ↔ (fits (record_of (entries_of s)) (place_of (entries_of d) 0) 0 ≡ false)
+  pub yes : (fit_of P s d ≡ Ok true) ↔ (fits (record_of (entries_of s)) (place_of (entries_of d) 0) 0 ≡ true)
+  pub no : (fit_of P s d ≡ Ok false) ↔ (fits (record_of (entries_of s)) (place_of (entries_of d) 0) 0 ≡ false)
 
 -- the specimen and both descriptions are legal, and the top item fits the supplier's description and not the service's
 pub record Shows (c : Case) : Type 0 where

@@ -1,21 +1,20 @@
 // The fit answer: both inputs are read in full, and then the top item is judged.
 ghost use Rattle.std.specs.Prelude.{◌≡◌};
 ghost use Rattle.blocks.specs.Reading.{reading_of};
-ghost use Rattle.blocks.specs.declared.Reading.{Reading};
 ghost use Rattle.blocks.specs.declared.Schema.{Schema};
 ghost use Rattle.fit.specs.Answer.{second_of, fit_of};
 ghost use Rattle.fit.specs.Counted.{counted_of, groups_in, unless_stopped, with_table};
 
+use crate::Counted;
 use crate::tables::judge_top;
-use crate::{Counted, FitAnswer};
-use blocks::{Reading, Schema};
+use blocks::{Refusal, Schema};
 
 // A refusal: nothing was added.
-fn refused(number: u8, input: u16, place: u16) -> Counted
-    ensures { result ≡ with_table (FitAnswer.Refused number input place) 0 }
+fn refused(refusal: Refusal) -> Counted
+    ensures { result ≡ with_table (Err refusal) 0 }
 {
     Counted {
-        answer: FitAnswer::Refused(number, input, place),
+        answer: Err(refusal),
         table: 0,
         walk: 0,
     }
@@ -23,26 +22,18 @@ fn refused(number: u8, input: u16, place: u16) -> Counted
 
 // The answer for a specimen that is accepted, with n entries: the description is read, and the top item judged.
 fn fit_accepted(s: &[u8], n: usize, d: &[u8]) -> Counted
-    requires { reading_of Schema.Specimen 1 s.now ≡ Reading.Accepted n }
-    ensures { result ≡ with_table (second_of s.now d.now (reading_of Schema.Description 2 d.now)) (unless_stopped (reading_of Schema.Description 2 d.now) (groups_in s.now)) }
+    requires { reading_of Schema.Specimen 1 s.now ≡ Ok n }
+    ensures { result ≡ with_table (second_of s.now d.now (reading_of Schema.Description 2 d.now))
+        (unless_stopped (reading_of Schema.Description 2 d.now) (groups_in s.now)) }
 {
-    let second = reading::read(d, Schema::Description, 2);
-    match second {
-        Reading::Refused(number, input, place) => refused(number, input, place),
-        Reading::Accepted(m) => {
+    match reading::read(d, Schema::Description, 2) {
+        Err(refusal) => refused(refusal),
+        Ok(m) => {
             let j = judge_top(s, n, d, usize::from(m));
-            if j.fits {
-                Counted {
-                    answer: FitAnswer::Yes,
-                    table: j.table,
-                    walk: j.walk,
-                }
-            } else {
-                Counted {
-                    answer: FitAnswer::No,
-                    table: j.table,
-                    walk: j.walk,
-                }
+            Counted {
+                answer: Ok(j.fits),
+                table: j.table,
+                walk: j.walk,
             }
         }
     }
@@ -53,23 +44,17 @@ fn fit_accepted(s: &[u8], n: usize, d: &[u8]) -> Counted
 pub fn fit_counted(specimen: &[u8], description: &[u8]) -> Counted
     ensures { result ≡ counted_of specimen.now description.now }
 {
-    let first = reading::read(specimen, Schema::Specimen, 1);
-    match first {
-        Reading::Refused(number, input, place) => refused(number, input, place),
-        Reading::Accepted(n) => fit_accepted(specimen, usize::from(n), description),
+    match reading::read(specimen, Schema::Specimen, 1) {
+        Err(refusal) => refused(refusal),
+        Ok(n) => fit_accepted(specimen, usize::from(n), description),
     }
 }
 
 // Whether the top item of a specimen, input 1, fits a description, input 2, where records keep a list of pairs; or the refusal.
-pub fn fit(pairs: &[u8], specimen: &[u8], description: &[u8]) -> FitAnswer
+pub fn fit(pairs: &[u8], specimen: &[u8], description: &[u8]) -> Result<bool, Refusal>
     ensures { result ≡ fit_of pairs.now specimen.now description.now }
 {
-    let first = clashes::read_specimen(pairs, specimen);
-    match first {
-        Reading::Refused(number, input, place) => FitAnswer::Refused(number, input, place),
-        Reading::Accepted(n) => {
-            let counted = fit_accepted(specimen, usize::from(n), description);
-            counted.answer
-        }
-    }
+    let n = clashes::read_specimen(pairs, specimen)?;
+    let counted = fit_accepted(specimen, usize::from(n), description);
+    counted.answer
 }

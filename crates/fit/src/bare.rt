@@ -3,15 +3,15 @@
 ghost use Rattle.std.specs.Prelude.{◌≡◌, ◌||◌, false, ◌<◌, get_or, length, set};
 ghost use Rattle.fit.specs.code.Bare.{demands};
 
-use blocks::Entry;
+use blocks::{Entry, kinds};
 
 // Whether an item with nothing does not meet an entry.
 fn demands_item(e: Entry) -> bool
     ensures { result ≡ demands e }
 {
     match e.kind {
-        2 | 4 | 5 => false,
-        3 => e.number != 0,
+        kinds::LACKS | kinds::AT_MOST | kinds::EVERY => false,
+        kinds::AT_LEAST => e.number != 0,
         _ => true,
     }
 }

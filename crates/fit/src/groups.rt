@@ -10,10 +10,10 @@ ghost use Rattle.fit.specs.code.Rows.{Singles};
 
 use crate::chain::Chain;
 use crate::entries::entry_at;
-use crate::index::hash;
-use crate::kinds::{BARE, GROUP, PROPERTY};
+use crate::index::{BARE, hash};
+use crate::places::Places;
 use crate::totals::Totals;
-use blocks::{Entry, Link, Property};
+use blocks::{Entry, Link, Property, kinds};
 
 // Whether an entry is of this owner, kind and name. Only the functions below call it: their types say which names are whose.
 fn is_of(e: Entry, owner: usize, kind: u8, name: u16) -> bool
@@ -26,7 +26,7 @@ fn is_of(e: Entry, owner: usize, kind: u8, name: u16) -> bool
 pub(crate) fn is_group(e: Entry, g: usize, l: Link) -> bool
     ensures { result ≡ is_of e g 7 l.0 }
 {
-    is_of(e, g, GROUP, l.0)
+    is_of(e, g, kinds::GROUP, l.0)
 }
 
 // A specimen with its index: its entries stand in buckets, of `most`, by owner, kind and name.
@@ -56,7 +56,7 @@ impl<'a> Items<'a> {
         requires { g < 2048 }
         ensures { ComesTo self.now.index.now self.now.most (get_or self.now.index.now (hash_of self.now.most g 7 l.0) 0) result }
     {
-        self.bucket(g, GROUP, l.0)
+        self.bucket(g, kinds::GROUP, l.0)
     }
 
     // The entries of a bucket from number k back.
@@ -91,13 +91,15 @@ impl<'a> Items<'a> {
         false
     }
 
-    // Whether the items of group g have a property: whether an entry that g owns gives it.
+    // Whether the items of group g have a property: whether an entry that g owns gives it. It is not inlined, twice, into the loop over a
+    // place's entries, whose registers it would take.
+    #[inline(never)]
     #[tactic(auto, using(crate::proofs::groups::GroupLaws::property_bucket))]
     pub(crate) fn has_property(&self, g: usize, p: Property) -> bool
         requires { g < 2048 }
         ensures { result ≡ has_property (entries_of self.now.bytes.now) g p.0 }
     {
-        self.any_of(PROPERTY, g, PROPERTY, p.0)
+        self.any_of(kinds::HAS, g, kinds::HAS, p.0)
     }
 
     // Whether group g has a group by a link that owns nothing.
@@ -106,26 +108,33 @@ impl<'a> Items<'a> {
         requires { g < 2048 }
         ensures { result ≡ has_bare (entries_of self.now.bytes.now) g l.0 }
     {
-        self.any_of(BARE, g, GROUP, l.0)
+        self.any_of(BARE, g, kinds::GROUP, l.0)
     }
 }
 
-// What judging knows of a specimen: its entries by their index, and the table of totals.
+// What judging knows of both inputs: the specimen's entries by their index, and its table of totals; and the places of the description.
 #[derive(Clone, Copy)]
 pub(crate) struct Known<'a> {
     pub items: Items<'a>,
     pub totals: Totals<'a>,
+    pub places: Places<'a>,
     ghost counted: { ∥ TotalsOf (entries_of items.bytes.now) (length (entries_of items.bytes.now)) totals.rows.now totals.used ∥₁ },
     ghost single: { Singles (entries_of items.bytes.now) (length (entries_of items.bytes.now)) },
 }
 
 impl<'a> Known<'a> {
-    // What is known of the specimen that has these items and this table.
-    pub(crate) fn new(items: Items<'a>, totals: Totals<'a>) -> Known<'a>
-        requires { ∥ TotalsOf (entries_of items.bytes.now) (length (entries_of items.bytes.now)) totals.rows.now totals.used ∥₁ × Singles (entries_of items.bytes.now) (length (entries_of items.bytes.now)) }
-        ensures { result.items.bytes.now ≡ items.entry.bytes.now }
+    // What is known of the specimen that has these items and this table, and of the description that has these places.
+    pub(crate) fn new(items: Items<'a>, totals: Totals<'a>, places: Places<'a>) -> Known<'a>
+        requires { ∥ TotalsOf (entries_of items.bytes.now) (length (entries_of items.bytes.now)) totals.rows.now totals.used ∥₁
+            × Singles (entries_of items.bytes.now) (length (entries_of items.bytes.now)) }
+        ensures { (result.items.bytes.now ≡ items.entry.bytes.now) × (result.places.bytes.now ≡ places.entry.bytes.now)
+            × (result.places.most ≡ places.entry.most) }
     {
-        Known { items, totals }
+        Known {
+            items,
+            totals,
+            places,
+        }
     }
 
     // Whether the items of group g meet an entry of a description that owns no place. Totals come from the table: nothing is added here.
@@ -135,10 +144,10 @@ impl<'a> Known<'a> {
         ensures { (result ≡ meets_atom (entries_of self.now.items.bytes.now) g e) × (adds.new ≡ adds.old) }
     {
         match e.kind {
-            1 => self.items.has_property(g, e.property()),
-            2 => !self.items.has_property(g, e.property()),
-            3 => u32::from(e.number) <= self.totals.total_of(g, e.link()),
-            4 => self.totals.at_most(g, e.link(), e.number),
+            kinds::HAS => self.items.has_property(g, e.property()),
+            kinds::LACKS => !self.items.has_property(g, e.property()),
+            kinds::AT_LEAST => u32::from(e.number) <= self.totals.total_of(g, e.link()),
+            kinds::AT_MOST => self.totals.at_most(g, e.link(), e.number),
             _ => false,
         }
     }

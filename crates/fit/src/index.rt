@@ -9,8 +9,10 @@ ghost use Rattle.fit.specs.code.Bare.{Marked, any_entry, demands};
 ghost use Rattle.fit.specs.code.Index.{Ordered, Ready, chained, code_of, hash_of};
 
 use crate::bare::mark_demand;
-use crate::kinds::{BARE, GROUP};
-use blocks::{Entry, entries_in_order};
+use blocks::{Entry, entries_in_order, kinds};
+
+// Groups that own nothing have buckets of their own, by this number in the place of their kind; no kind has it.
+pub(crate) const BARE: u8 = 8;
 
 // The bucket, of `most`, of an owner, a kind and a name. Sizes are powers of two, so that it takes no division. Of one kind and name, different
 // owners have different buckets: so all groups together look at each entry of a specimen at most once for an entry of a description, whatever
@@ -28,7 +30,11 @@ pub(crate) fn hash(most: usize, owner: usize, kind: u8, name: u16) -> usize
 fn code(kind: u8, owning: bool) -> u8
     ensures { result ≡ code_of kind (not owning) }
 {
-    if kind == GROUP && !owning { BARE } else { kind }
+    if kind == kinds::GROUP && !owning {
+        BARE
+    } else {
+        kind
+    }
 }
 
 // Puts number n in front of the chain of bucket b. That n fits two bytes is known: `try_from` would test it.

@@ -4,7 +4,7 @@
 // the product of the two inputs' numbers of entries, 2,016 · 1,008, at some nanoseconds each, and is far less where groups are few or have places
 // of their own.
 //
-// They are handed what stays as it is: what is known of the specimen, and the places of the description.
+// They are handed what stays as it is: what is known of the specimen and of the description.
 ghost use Rattle.std.specs.Prelude.{◌≡◌, ◌-◌, ◌≤◌, ◌<◌, length};
 ghost use Rattle.base.specs.Chain.{OnChain};
 ghost use Rattle.blocks.specs.Entries.{entries_of, nth};
@@ -14,11 +14,10 @@ ghost use Rattle.fit.specs.code.Index.{bucket_of, hash_of};
 
 use crate::entries::entry_at;
 use crate::groups::{Known, is_group};
-use crate::kinds::EVERY;
-use crate::places::Places;
+use blocks::kinds;
 
 // How the items of a group meet an entry: they do, they do not, or that rests on the groups by the entry's link from one back in their bucket,
-// which must all fit the place that the entry owns.
+// which must all fit the place that the entry owns. Three answers, of which one goes on: neither an Option nor a Result has them.
 #[derive(Clone, Copy)]
 pub(crate) enum Verdict {
     Met,
@@ -28,30 +27,24 @@ pub(crate) enum Verdict {
 
 // How the items of group g meet entry e of the description; where that rests on groups, `meets_every` goes on from the last of them. It calls
 // nothing that calls it, so that the tables are at hand in the loop that calls it.
-fn meets_entry(
-    known: &Known,
-    places: &Places,
-    g: usize,
-    e: usize,
-    left: usize,
-    adds: &mut u16,
-) -> Verdict
-    requires { (g < 2048) × (1 ≤ e) × (e ≤ length (entries_of places.now.bytes.now)) }
-    ensures { Told known.now.items.most left (entries_of known.now.items.bytes.now) (entries_of places.now.bytes.now) g e result × (adds.new ≡ adds.old) }
+fn meets_entry(known: &Known, g: usize, e: usize, left: usize, adds: &mut u16) -> Verdict
+    requires { (g < 2048) × (1 ≤ e) × (e ≤ length (entries_of known.now.places.bytes.now)) }
+    ensures { Told known.now.items.most left (entries_of known.now.items.bytes.now) (entries_of known.now.places.bytes.now) g e result
+        × (adds.new ≡ adds.old) }
 {
     if left == 0 {
         return Verdict::Unmet;
     }
-    let entry = entry_at(places.bytes, e);
+    let entry = entry_at(known.places.bytes, e);
     let kind = entry.kind;
-    if kind != EVERY {
+    if kind != kinds::EVERY {
         if known.meets_atom(g, entry, adds) {
             return Verdict::Met;
         }
         return Verdict::Unmet;
     }
     let link = entry.link();
-    if places.demands(e) && known.items.has_bare(g, link) {
+    if known.places.demands(e) && known.items.has_bare(g, link) {
         return Verdict::Unmet;
     }
     for h in known.items.groups_by(g, link) {
@@ -66,32 +59,26 @@ fn meets_entry(
 // that is left to judge, it is judged in the stead of g, with no call: that costs more than to judge a group of a chain. A `for` could not
 // begin anew at another place.
 #[cycle(fits_place_meets_every)]
-pub(crate) fn fits_place(
-    known: &Known,
-    places: &Places,
-    g: usize,
-    o: usize,
-    left: usize,
-    adds: &mut u16,
-) -> bool
-    requires { (g < 2048) × (o < places.now.most) × (left ≤ 33) }
-    ensures { (result ≡ fits_place left (entries_of known.now.items.bytes.now) (entries_of places.now.bytes.now) g o) × (adds.new ≡ adds.old) }
+pub(crate) fn fits_place(known: &Known, g: usize, o: usize, left: usize, adds: &mut u16) -> bool
+    requires { (g < 2048) × (o < known.now.places.most) × (left ≤ 33) }
+    ensures { (result ≡ fits_place left (entries_of known.now.items.bytes.now) (entries_of known.now.places.bytes.now) g o) × (adds.new ≡ adds.old) }
 {
     let mut g = g;
     let mut left = left;
-    // Copies of its own stand in registers; those that it is lent are handed on.
-    let (k, p) = (*known, *places);
-    let mut rest = p.entries(o);
+    // A copy of its own stands in registers; what it is lent is handed on.
+    let k = *known;
+    let mut rest = k.places.entries(o);
     while let Some(e) = rest.next() {
-        match meets_entry(&k, &p, g, e, left, adds) {
-            Verdict::Met => {}
+        match meets_entry(&k, g, e, left, adds) {
+            // With this word the compiler keeps the entries of one place in a loop of their own, in which g and `left` stay as they are.
+            Verdict::Met => continue,
             Verdict::Unmet => return false,
             Verdict::RestsOn(h) => {
                 if rest.is_done() && k.items.is_first(h) {
                     g = h;
                     left -= 1;
-                    rest = p.entries(e);
-                } else if !meets_every(known, places, g, e, h, left, adds) {
+                    rest = k.places.entries(e);
+                } else if !meets_every(known, g, e, h, left, adds) {
                     return false;
                 }
             }
@@ -101,26 +88,30 @@ pub(crate) fn fits_place(
 }
 
 // Whether group g meets 'every' entry e of the description by its groups from number h back in their bucket: whether those by the entry's link
-// fit the place that e owns. A level of depth takes at most two frames of the stack, this function's and the former's.
+// fit the place that e owns. A level of depth takes at most two frames of the stack, this function's and the former's. It is not inlined: what
+// it works with would take the registers of the loop over a place's entries.
 #[cycle(fits_place_meets_every)]
+#[inline(never)]
 pub(crate) fn meets_every(
     known: &Known,
-    places: &Places,
     g: usize,
     e: usize,
     h: usize,
     left: usize,
     adds: &mut u16,
 ) -> bool
-    requires { (g < 2048) × (left ≤ 33) × (1 ≤ e) × (e ≤ length (entries_of places.now.bytes.now)) × (1 ≤ left)
-        × OnChain (bucket_of Schema.Specimen known.now.items.most (entries_of known.now.items.bytes.now)) (hash_of known.now.items.most g 7 (nth (entries_of places.now.bytes.now) e).name) h (length (entries_of known.now.items.bytes.now)) }
-    ensures { (result ≡ groups_fit known.now.items.most left (entries_of known.now.items.bytes.now) (entries_of places.now.bytes.now) g e (nth (entries_of places.now.bytes.now) e).name h) × (adds.new ≡ adds.old) }
+    requires { (g < 2048) × (left ≤ 33) × (1 ≤ e) × (e ≤ length (entries_of known.now.places.bytes.now)) × (1 ≤ left)
+        × OnChain (bucket_of Schema.Specimen known.now.items.most (entries_of known.now.items.bytes.now))
+        (hash_of known.now.items.most g 7 (nth (entries_of known.now.places.bytes.now) e).name) h (length (entries_of known.now.items.bytes.now)) }
+    ensures { (result ≡ groups_fit known.now.items.most left (entries_of known.now.items.bytes.now) (entries_of known.now.places.bytes.now)
+        g e (nth (entries_of known.now.places.bytes.now) e).name h)
+        × (adds.new ≡ adds.old) }
 {
-    let entry = entry_at(places.bytes, e);
+    let entry = entry_at(known.places.bytes, e);
     let link = entry.link();
     for h in known.items.back_from(h) {
         if is_group(entry_at(known.items.bytes, h), g, link)
-            && !fits_place(known, places, h, e, left - 1, adds)
+            && !fits_place(known, h, e, left - 1, adds)
         {
             return false;
         }

@@ -12,25 +12,17 @@ mod entries;
 mod groups;
 mod index;
 mod judge;
-mod kinds;
 mod places;
 mod tables;
 mod totals;
 
 pub use answer::{fit, fit_counted};
+use blocks::Refusal;
 
-// The fit answer: yes, no, or the refusal's number, the input and the place.
-#[derive(Clone, Copy)]
-pub enum FitAnswer {
-    Yes,
-    No,
-    Refused(u8, u16, u16),
-}
-
-// The fit answer, with the number of additions of items in making the table of totals and in the walk over entries.
+// The fit answer, yes or no, or the refusal, with the number of additions of items in making the table of totals and in the walk over entries.
 #[derive(Clone, Copy)]
 pub struct Counted {
-    pub answer: FitAnswer,
+    pub answer: Result<bool, Refusal>,
     pub table: u16,
     pub walk: u16,
 }

@@ -1,7 +1,6 @@
 // The tables that judging needs, in four sizes: what is short is judged with short tables, which are sooner cleared.
 ghost use Rattle.std.specs.Prelude.{◌≡◌, ◌+◌, ◌%◌, ◌-◌, ◌≤◌, ◌<◌, length, replicate};
 ghost use Rattle.blocks.specs.Reading.{reading_of};
-ghost use Rattle.blocks.specs.declared.Reading.{Reading};
 ghost use Rattle.blocks.specs.declared.Schema.{Schema};
 ghost use Rattle.fit.specs.Answer.{top_fits};
 ghost use Rattle.fit.specs.Counted.{groups_in};
@@ -10,7 +9,7 @@ use crate::groups::{Items, Known};
 use crate::index::{index_description, index_specimen};
 use crate::judge::fits_place;
 use crate::places::Places;
-use crate::totals::{Totals, fill_totals};
+use crate::totals::Filling;
 
 // Whether the top item fits, and how many additions the table of totals and the walk over entries took.
 #[derive(Clone, Copy)]
@@ -28,14 +27,14 @@ fn judge_sized<const MOST: usize, const LINKS: usize>(
     d: &[u8],
     m: usize,
 ) -> Judged
-    requires { (reading_of Schema.Specimen 1 s.now ≡ Reading.Accepted n) × (reading_of Schema.Description 2 d.now ≡ Reading.Accepted m) × (n < MOST) × (m < MOST) × (MOST ≤ 2048) × ((MOST - 1) % 2 ≡ 1) × (LINKS ≡ MOST + MOST) }
+    requires { (reading_of Schema.Specimen 1 s.now ≡ Ok n) × (reading_of Schema.Description 2 d.now ≡ Ok m) × (n < MOST) × (m < MOST)
+        × (MOST ≤ 2048) × ((MOST - 1) % 2 ≡ 1) × (LINKS ≡ MOST + MOST) }
     ensures { (result.fits ≡ top_fits s.now d.now) × (result.table ≡ groups_in s.now) × (result.walk ≡ 0) }
 {
-    let mut rows = [0u64; MOST];
-    let mut links = [0u16; LINKS];
+    let mut filling = Filling::<MOST, LINKS>::new();
     let mut owning = [false; MOST];
     let mut adds: u16 = 0;
-    let used = fill_totals(s, n, MOST, &mut rows, &mut links, &mut owning, &mut adds);
+    filling.fill(s, n, &mut owning, &mut adds);
     let table = adds;
     let mut si = [0u16; LINKS];
     index_specimen(s, n, MOST, &owning, &mut si);
@@ -47,20 +46,14 @@ fn judge_sized<const MOST: usize, const LINKS: usize>(
         index: &si,
         most: MOST,
     };
-    let totals = Totals {
-        rows: &rows,
-        links: &links,
-        most: MOST,
-        used,
-    };
     let places = Places {
         bytes: d,
         index: &di,
         marks: &demanding,
         most: MOST,
     };
-    let known = Known::new(items, totals);
-    let fits = fits_place(&known, &places, 0, 0, 33, &mut adds);
+    let known = Known::new(items, filling.totals(), places);
+    let fits = fits_place(&known, 0, 0, 33, &mut adds);
     Judged {
         fits,
         table,
@@ -70,7 +63,7 @@ fn judge_sized<const MOST: usize, const LINKS: usize>(
 
 // Judges the top item, with tables of a size that is enough for the longer input.
 pub(crate) fn judge_top(s: &[u8], n: usize, d: &[u8], m: usize) -> Judged
-    requires { (reading_of Schema.Specimen 1 s.now ≡ Reading.Accepted n) × (reading_of Schema.Description 2 d.now ≡ Reading.Accepted m) }
+    requires { (reading_of Schema.Specimen 1 s.now ≡ Ok n) × (reading_of Schema.Description 2 d.now ≡ Ok m) }
     ensures { (result.fits ≡ top_fits s.now d.now) × (result.table ≡ groups_in s.now) × (result.walk ≡ 0) }
 {
     let longer = n.max(m);

@@ -15,8 +15,7 @@ ghost use Rattle.fit.specs.code.Rows.{FoundRow, Rows, Singles, Small, empty_row,
 
 use crate::chain::Chain;
 use crate::index::{hash, put};
-use crate::kinds::GROUP;
-use blocks::{Entry, Link, entries_in_order};
+use blocks::{Entry, Link, entries_in_order, kinds};
 
 // The owner and the link of a row.
 fn pair_in(row: u64) -> u64
@@ -57,7 +56,11 @@ impl<'a> Totals<'a> {
         ensures { FoundRow self.now.rows.now self.now.used owner l.0 result × (l.0 < 65536) }
     {
         let pair = pair_of(owner, l);
-        for r in Chain::of_bucket(self.links, self.most, hash(self.most, owner, GROUP, l.0)) {
+        for r in Chain::of_bucket(
+            self.links,
+            self.most,
+            hash(self.most, owner, kinds::GROUP, l.0),
+        ) {
             if pair_in(self.rows[r]) == pair {
                 return Some(r);
             }
@@ -80,7 +83,8 @@ impl<'a> Totals<'a> {
     // that at most 1 or more needs no look.
     pub(crate) fn at_most(&self, owner: usize, l: Link, number: u16) -> bool
         requires { owner < 65536 }
-        ensures { (es : List Entry) → (n : ℕ) → TotalsOf es n self.now.rows.now self.now.used → Singles es n → result ≡ leb (items_up_to es owner l.0 n) number }
+        ensures { (es : List Entry) → (n : ℕ) → TotalsOf es n self.now.rows.now self.now.used → Singles es n
+            → result ≡ leb (items_up_to es owner l.0 n) number }
     {
         if 32768 <= l.0 && 0 < number {
             return true;
@@ -98,69 +102,84 @@ fn add_items(row: u64, e: Entry, adds: &mut u16) -> u64
     row + (u64::from(e.number) + 1)
 }
 
-// Enters entry e, which stands after the first n: the items of a group go to the row of its owner and link, which is found or made. Returns
-// the number of rows.
-fn enter(
-    rows: &mut [u64],
-    links: &mut [u16],
-    most: usize,
-    n: usize,
+// The table as it is made, of fewer than MOST rows; LINKS is twice that.
+#[derive(Drop)]
+pub(crate) struct Filling<const MOST: usize, const LINKS: usize> {
+    rows: [u64; MOST],
+    links: [u16; LINKS],
     used: usize,
-    e: Entry,
-    adds: &mut u16,
-) -> usize
-    requires { Rows most rows.old links.old used × Small n rows.old used × (n + 1 < most) × (adds.old ≤ n) }
-    ensures { Rows most rows.new links.new result × Small (n + 1) rows.new result
-        × (adds.new ≡ adds.old + bit (eqb e.kind 7))
-        × ((es : List Entry) → e ≡ nth es (n + 1) → TotalsOf es n rows.old used → TotalsOf es (n + 1) rows.new result) }
-{
-    if e.kind != GROUP {
-        return used;
-    }
-    let owner = usize::from(e.owner);
-    let link = e.link();
-    let table = Totals {
-        rows: &*rows,
-        links: &*links,
-        most,
-        used,
-    };
-    match table.row_of(owner, link) {
-        Some(r) => {
-            rows[r] = add_items(rows[r], e, adds);
-            used
-        }
-        None => {
-            let row = 4294967296 * pair_of(owner, link);
-            rows[used + 1] = add_items(row, e, adds);
-            put(links, most, used + 1, hash(most, owner, GROUP, link.0));
-            used + 1
-        }
-    }
+    ghost kept: { Rows MOST rows links used },
 }
 
-// Works out the table of a specimen with so many entries, and returns its number of rows. Each group is added once. Owners are marked, so
-// that groups that own nothing are known.
-#[inline(always)]
-pub(crate) fn fill_totals(
-    s: &[u8],
-    total: usize,
-    most: usize,
-    rows: &mut [u64],
-    links: &mut [u16],
-    marks: &mut [bool],
-    adds: &mut u16,
-) -> usize
-    requires { (total ≡ length (entries_of s.now)) × (total < most) × (most ≤ 2048) × (length rows.old ≡ most) × (links.old ≡ replicate (most + most) 0) × (adds.old ≡ 0)
-        × Ordered (entries_of s.now) × (marks.old ≡ replicate most false) × Whole s.now total }
-    ensures { Rows most rows.new links.new result × TotalsOf (entries_of s.now) total rows.new result
-        × (adds.new ≡ groups_up_to (entries_of s.now) total) × Marked any_entry (entries_of s.now) total most marks.new }
-{
-    let mut used: usize = 0;
-    for (before, bytes) in entries_in_order(s, total).enumerate() {
-        let e = Entry::from(bytes);
-        marks[usize::from(e.owner)] = true;
-        used = enter(rows, links, most, before, used, e, adds);
+impl<const MOST: usize, const LINKS: usize> Filling<MOST, LINKS> {
+    // A table without rows.
+    #[inline(always)]
+    pub(crate) fn new() -> Filling<MOST, LINKS>
+        requires { (0 < MOST) × (MOST ≤ 2048) × (LINKS ≡ MOST + MOST) }
+        ensures { result.used ≡ 0 }
+    {
+        Filling {
+            rows: [0; MOST],
+            links: [0; LINKS],
+            used: 0,
+        }
     }
-    used
+
+    // The table as it is looked into.
+    #[inline(always)]
+    pub(crate) fn totals(&self) -> Totals<'_>
+        ensures { (result.rows.now ≡ self.now.rows) × (result.links.now ≡ self.now.links) × (result.most ≡ MOST) × (result.used ≡ self.now.used) }
+    {
+        Totals {
+            rows: &self.rows,
+            links: &self.links,
+            most: MOST,
+            used: self.used,
+        }
+    }
+
+    // Enters entry e, which stands after the first n: the items of a group go to the row of its owner and link, which is found or made.
+    fn enter(&mut self, n: usize, e: Entry, adds: &mut u16)
+        requires { Small n self.old.rows self.old.used × (n + 1 < MOST) × (adds.old ≤ n) }
+        ensures { Small (n + 1) self.new.rows self.new.used
+            × (adds.new ≡ adds.old + bit (eqb e.kind 7))
+            × ((es : List Entry) → e ≡ nth es (n + 1) → TotalsOf es n self.old.rows self.old.used
+            → TotalsOf es (n + 1) self.new.rows self.new.used) }
+    {
+        if e.kind != kinds::GROUP {
+            return;
+        }
+        let owner = usize::from(e.owner);
+        let link = e.link();
+        match self.totals().row_of(owner, link) {
+            Some(r) => self.rows[r] = add_items(self.rows[r], e, adds),
+            None => {
+                self.used += 1;
+                let row = 4294967296 * pair_of(owner, link);
+                self.rows[self.used] = add_items(row, e, adds);
+                put(
+                    &mut self.links,
+                    MOST,
+                    self.used,
+                    hash(MOST, owner, kinds::GROUP, link.0),
+                );
+            }
+        }
+    }
+
+    // Works out the table of a specimen with so many entries. Each group is added once. Owners are marked, so that groups that own nothing are
+    // known.
+    #[inline(always)]
+    pub(crate) fn fill(&mut self, s: &[u8], total: usize, marks: &mut [bool], adds: &mut u16)
+        requires { (total ≡ length (entries_of s.now)) × (total < MOST) × (self.old.used ≡ 0) × (adds.old ≡ 0) × Ordered (entries_of s.now)
+            × (marks.old ≡ replicate MOST false) × Whole s.now total }
+        ensures { TotalsOf (entries_of s.now) total self.new.rows self.new.used × (adds.new ≡ groups_up_to (entries_of s.now) total)
+            × Marked any_entry (entries_of s.now) total MOST marks.new }
+    {
+        for (before, bytes) in entries_in_order(s, total).enumerate() {
+            let e = Entry::from(bytes);
+            marks[usize::from(e.owner)] = true;
+            self.enter(before, e, adds);
+        }
+    }
 }

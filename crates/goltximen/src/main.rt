@@ -3,24 +3,18 @@
 // compared and the bytes of each line are the library's: this program only reads, calls and writes.
 #![tactic(auto)]
 
-use compare::Comparison;
 use report::LINE_BYTES;
 use std::io;
-
-// Writes the lines of an answer whose specimen stands in `blocks`.
-fn print_lines(rt: &impl Print, answer: Comparison, blocks: &[u8]) -> io::Result<()> {
-    let mut line = [0u8; LINE_BYTES];
-    for n in 0..=report::specimen_lines(answer) {
-        let length = report::line_text(answer, blocks, n, &mut line);
-        rt.write_all(&line[..length])?;
-    }
-    Ok(())
-}
 
 fn main(rt: HostRuntime) -> io::Result<()> {
     let mut input = report::input_buffer();
     let mut blocks = report::input_buffer();
     let length = streams::read_until_failure(&mut rt.reader(), &mut input);
     let answer = report::compare_parts(&input[..length], &mut blocks);
-    print_lines(&rt, answer, &blocks)
+    let mut line = [0u8; LINE_BYTES];
+    for n in 0..=report::specimen_lines(answer) {
+        let length = report::line_text(answer, &blocks, n, &mut line);
+        rt.write_all(&line[..length])?;
+    }
+    Ok(())
 }

@@ -5,7 +5,7 @@ ghost use Rattle.std.specs.Prelude.{◌≡◌};
 ghost use Rattle.blocks.specs.Entries.{entry_of};
 ghost use Rattle.blocks.specs.Reading.{total_read};
 
-use blocks::{Entry, Reading, Schema, nth_entry};
+use blocks::{Entry, Schema, nth_entry};
 use reading::read;
 
 // An input, lent, and how many entries it has. Only `entries_of` and `entry_held` make one.
@@ -15,13 +15,14 @@ pub struct Entries<'a> {
     total: usize,
 }
 
-// How many entries an input has, read as a description or a specimen: its total where it is accepted, 0 where it is refused.
+// How many entries an input has, read as a description or a specimen: its total where it is accepted. A refused input has none: 0 is their
+// number, and no mark.
 pub fn total_read(s: &[u8], schema: Schema) -> usize
     ensures { result ≡ total_read schema s.now }
 {
     match read(s, schema, 1) {
-        Reading::Accepted(total) => total as usize,
-        Reading::Refused(_, _, _) => 0,
+        Ok(total) => total as usize,
+        Err(_) => 0,
     }
 }
 

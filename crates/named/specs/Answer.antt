@@ -1,58 +1,53 @@
 -- The answers of the calls that take a dictionary, and the outputs that they leave: "All answers and written bytes for named descriptions
 -- .. equal those for the unfolded ones".
 -- Assumes nothing.
-use Rattle.std.specs.Prelude.{ℕ, List, []}
-use Rattle.blocks.specs.Reading.{unless_refused}
+use Rattle.std.specs.Prelude.{ℕ, List, [], Err}
+use Rattle.blocks.specs.Refusals.{unless_refused}
 use Rattle.clashes.specs.Clash.{specimen_reading}
-use Rattle.compare.specs.Answer.{compare_of, output_of}
-use Rattle.compare.specs.declared.Comparison.TheVariants as comparison
-use Rattle.compare.specs.declared.Comparison.{Comparison}
-use Rattle.fit.specs.Answer.{fit_of}
+use Rattle.compare.specs.Answer.{Comparison, compare_of, output_of}
+use Rattle.fit.specs.Answer.{FitAnswer, fit_of}
 use Rattle.fit.specs.Counted.{table_adds, with_table}
 use Rattle.fit.specs.declared.Counted.{Counted}
-use Rattle.fit.specs.declared.FitAnswer.TheVariants as fit
-use Rattle.fit.specs.declared.FitAnswer.{FitAnswer}
 use Rattle.names.specs.NamedReading.{dictionary_of, dictionary_reading, named_unfolding, sent_of, unfolding_of}
 use Rattle.normal.specs.Answer.{normalise_of, normalised_of}
-use Rattle.normal.specs.declared.NormalAnswer.TheVariants as normal
-use Rattle.normal.specs.declared.NormalAnswer.{NormalAnswer}
+use Rattle.blocks.specs.Reading.{Reading}
 use Rattle.pairs.specs.Pairs.{pairs_reading}
 
 -- ---- the normal form
 
 -- "11; the dictionary; input 1 in full", and then as for what it stands for
-unfoldable pub normalise_named : List ℕ → List ℕ → List ℕ → List ℕ → NormalAnswer
+unfoldable pub normalise_named : List ℕ → List ℕ → List ℕ → List ℕ → Reading
 normalise_named P D d out =
-    unless_refused normal.Refused (pairs_reading P) (unless_refused normal.Refused (unfolding_of D 1 d) (normalise_of P (sent_of D d) out))
+    unless_refused Err (pairs_reading P) (unless_refused Err (unfolding_of D 1 d) (normalise_of P (sent_of D d) out))
 
 unfoldable pub normalised_named : List ℕ → List ℕ → List ℕ → List ℕ → List ℕ
 normalised_named P D d out =
-    unless_refused (λ k i p. out) (pairs_reading P) (unless_refused (λ k i p. out) (unfolding_of D 1 d) (normalised_of P (sent_of D d) out))
+    unless_refused (λ e. out) (pairs_reading P) (unless_refused (λ e. out) (unfolding_of D 1 d) (normalised_of P (sent_of D d) out))
 
 -- ---- the comparison
 
 -- "11; the dictionary; input 1 in full, input 2 in full"
 unfoldable pub compare_named : List ℕ → List ℕ → List ℕ → List ℕ → List ℕ → Comparison
 compare_named P D c d out =
-    unless_refused comparison.Refused (pairs_reading P)
-    (unless_refused comparison.Refused (unfolding_of D 1 c)
-    (unless_refused comparison.Refused (unfolding_of D 2 d) (compare_of P (sent_of D c) (sent_of D d) out)))
+    unless_refused Err (pairs_reading P)
+    (unless_refused Err (unfolding_of D 1 c)
+    (unless_refused Err (unfolding_of D 2 d) (compare_of P (sent_of D c) (sent_of D d) out)))
 
 unfoldable pub output_named : List ℕ → List ℕ → List ℕ → List ℕ → List ℕ → List ℕ
 output_named P D c d out =
-    unless_refused (λ k i p. out) (pairs_reading P)
-    (unless_refused (λ k i p. out) (unfolding_of D 1 c)
-    (unless_refused (λ k i p. out) (unfolding_of D 2 d) (output_of P (sent_of D c) (sent_of D d) out)))
+    unless_refused (λ e. out) (pairs_reading P)
+    (unless_refused (λ e. out) (unfolding_of D 1 c)
+    (unless_refused (λ e. out) (unfolding_of D 2 d) (output_of P (sent_of D c) (sent_of D d) out)))
 
 -- ---- the fit answer
 
 -- "11; the dictionary; input 1 in full", a specimen, "input 2 in full"
 unfoldable pub fit_named : List ℕ → List ℕ → List ℕ → List ℕ → FitAnswer
 fit_named P D s d =
-    unless_refused fit.Refused (pairs_reading P)
-    (unless_refused fit.Refused (dictionary_reading D)
-    (unless_refused fit.Refused (specimen_reading P s)
-    (unless_refused fit.Refused (named_unfolding (dictionary_of D) 2 d) (fit_of P s (sent_of D d)))))
+    unless_refused Err (pairs_reading P)
+    (unless_refused Err (dictionary_reading D)
+    (unless_refused Err (specimen_reading P s)
+    (unless_refused Err (named_unfolding (dictionary_of D) 2 d) (fit_of P s (sent_of D d)))))
 
 -- with no pairs and no dictionary, and the additions that it took
 abbrev pub counted_named : List ℕ → List ℕ → Counted

@@ -1,40 +1,28 @@
 // The fit answer for a description that may name those of a dictionary.
 ghost use Rattle.std.specs.Prelude.{◌≡◌, [], ◌<◌, ◌≤◌, length};
-ghost use Rattle.blocks.specs.Reading.{unless_refused};
+ghost use Rattle.blocks.specs.Refusals.{unless_refused};
 ghost use Rattle.clashes.specs.Clash.{specimen_reading};
-ghost use Rattle.fit.specs.declared.FitAnswer.{FitAnswer};
 ghost use Rattle.named.specs.Answer.{counted_named, fit_named};
-ghost use Rattle.named.specs.code.Sent.{ListTaken, fit_by, fit_sent};
+ghost use Rattle.named.specs.code.Sent.{ListTaken, sent_by};
 
-use crate::sent::number_at;
-use blocks::Reading;
-use fit::{Counted, FitAnswer};
+use crate::sent::sent_as;
+use blocks::Refusal;
+use fit::Counted;
 use unfolding::unfold_into;
 use writing::bytes_for;
 
-// The refusal where no name can be given, by that of a plain description.
-fn refused_sent(d: &[u8], number: u8, input: u16, place: u16) -> FitAnswer
-    ensures { result ≡ fit_sent d.now number input place }
-{
-    if input == 2 {
-        return FitAnswer::Refused(number_at(d, place, number), 2, place);
-    }
-    FitAnswer::Refused(number, input, place)
-}
-
 // The answer where no name can be given, by that for a plain description.
-fn answer_sent(d: &[u8], answer: FitAnswer) -> FitAnswer
-    ensures { result ≡ fit_by d.now answer }
+fn answer_sent(d: &[u8], answer: Result<bool, Refusal>) -> Result<bool, Refusal>
+    ensures { result ≡ sent_by d.now 2 answer }
 {
     match answer {
-        FitAnswer::Refused(number, input, place) => refused_sent(d, number, input, place),
-        FitAnswer::Yes => FitAnswer::Yes,
-        FitAnswer::No => FitAnswer::No,
+        Err(e) => Err(sent_as(d, 2, e)),
+        Ok(fits) => Ok(fits),
     }
 }
 
 // With a dictionary of length 0: as it is sent.
-pub fn fit_sent(pairs: &[u8], s: &[u8], d: &[u8]) -> FitAnswer
+pub fn fit_sent(pairs: &[u8], s: &[u8], d: &[u8]) -> Result<bool, Refusal>
     ensures { result ≡ fit_named pairs.now [] s.now d.now }
 {
     answer_sent(d, fit::fit(pairs, s, d))
@@ -55,31 +43,34 @@ pub fn fit_counted(s: &[u8], d: &[u8]) -> Counted
 }
 
 // A refusal of the description: the specimen comes before it.
-fn specimen_first(pairs: &[u8], s: &[u8], number: u8, input: u16, place: u16) -> FitAnswer
-    ensures { result ≡ unless_refused FitAnswer.Refused (specimen_reading pairs.now s.now) (FitAnswer.Refused number input place) }
+fn specimen_first(pairs: &[u8], s: &[u8], e: Refusal) -> Result<bool, Refusal>
+    ensures { result ≡ unless_refused Err (specimen_reading pairs.now s.now) (Err e) }
 {
-    let first = clashes::read_specimen(pairs, s);
-    match first {
-        Reading::Refused(k, i, p) => FitAnswer::Refused(k, i, p),
-        Reading::Accepted(_) => FitAnswer::Refused(number, input, place),
-    }
+    clashes::read_specimen(pairs, s)?;
+    Err(e)
 }
 
 // Under a list that is accepted and a dictionary that is not of length 0, with a buffer that has room for every description. The
 // dictionary's refusals, whose input is 100 or more, come before the specimen's, and those before the description's.
-fn fit_unfolded(pairs: &[u8], dictionary: &[u8], s: &[u8], d: &[u8], buffer: &mut [u8]) -> FitAnswer
+fn fit_unfolded(
+    pairs: &[u8],
+    dictionary: &[u8],
+    s: &[u8],
+    d: &[u8],
+    buffer: &mut [u8],
+) -> Result<bool, Refusal>
     requires { (0 < length dictionary.now) × ListTaken pairs.now × (8192 ≤ length buffer.old) }
     ensures { result ≡ fit_named pairs.now dictionary.now s.now d.now }
 {
     let reading = unfold_into(dictionary, d, 2, buffer);
     match reading {
-        Reading::Refused(number, input, place) => {
-            if 100 <= input {
-                return FitAnswer::Refused(number, input, place);
+        Err(e) => {
+            if 100 <= e.input {
+                return Err(e);
             }
-            specimen_first(pairs, s, number, input, place)
+            specimen_first(pairs, s, e)
         }
-        Reading::Accepted(n) => {
+        Ok(n) => {
             let end = bytes_for(n);
             fit::fit(pairs, s, &buffer[0..end])
         }
@@ -87,7 +78,7 @@ fn fit_unfolded(pairs: &[u8], dictionary: &[u8], s: &[u8], d: &[u8], buffer: &mu
 }
 
 // The same with a buffer of its own.
-fn fit_named(pairs: &[u8], dictionary: &[u8], s: &[u8], d: &[u8]) -> FitAnswer
+fn fit_named(pairs: &[u8], dictionary: &[u8], s: &[u8], d: &[u8]) -> Result<bool, Refusal>
     requires { (0 < length dictionary.now) × ListTaken pairs.now }
     ensures { result ≡ fit_named pairs.now dictionary.now s.now d.now }
 {
@@ -96,15 +87,17 @@ fn fit_named(pairs: &[u8], dictionary: &[u8], s: &[u8], d: &[u8]) -> FitAnswer
 }
 
 // Whether the top item of a specimen, input 1, fits a description, input 2, under a list of pairs and a dictionary: as for the unfolded one.
-pub fn fit(pairs: &[u8], dictionary: &[u8], specimen: &[u8], description: &[u8]) -> FitAnswer
+pub fn fit(
+    pairs: &[u8],
+    dictionary: &[u8],
+    specimen: &[u8],
+    description: &[u8],
+) -> Result<bool, Refusal>
     ensures { result ≡ fit_named pairs.now dictionary.now specimen.now description.now }
 {
     if dictionary.len() == 0 {
         return fit_sent(pairs, specimen, description);
     }
-    let list = pairs::read_pairs(pairs);
-    match list {
-        Reading::Refused(number, input, place) => FitAnswer::Refused(number, input, place),
-        Reading::Accepted(_) => fit_named(pairs, dictionary, specimen, description),
-    }
+    pairs::read_pairs(pairs)?;
+    fit_named(pairs, dictionary, specimen, description)
 }

@@ -11,7 +11,7 @@ use Rattle.blocks.specs.Encoding.{encode}
 use Rattle.blocks.specs.Entries.{entries_of}
 use Rattle.blocks.specs.Reading.{reading_of}
 use Rattle.blocks.specs.declared.Entry.{Entry}
-use Rattle.blocks.specs.declared.Reading.TheVariants.{Accepted}
+use Rattle.std.specs.Prelude.{Ok}
 use Rattle.blocks.specs.declared.Schema.TheVariants.{Description}
 use Rattle.names.proofs.Legality.UnfoldLegal.{contents-within, legal-plain, named-within, unfold-legal}
 use Rattle.names.proofs.Meaning.UnfoldMeans.{unfold-means}
@@ -36,7 +36,7 @@ unfolds-plainly K es A =
 
 -- its blocks are accepted, and have these entries
 pub unfolded-accepted : (K : List (List Entry)) (es : List Entry) → AcceptedNamed K es → (i : ℕ)
-    → (reading_of Description i (encode (unfolded_by K es)) ≡ Accepted (length (unfolded_by K es))) × (entries_of (encode (unfolded_by K es)) ≡ unfolded_by K es)
+    → (reading_of Description i (encode (unfolded_by K es)) ≡ Ok (length (unfolded_by K es))) × (entries_of (encode (unfolded_by K es)) ≡ unfolded_by K es)
 unfolded-accepted K es A i =
     (encoded-accepted Description i (unfolded_by K es) (unfold-legal K es A) tt (omega (arith, A.small.size)), decode-encode (unfolded_by K es))
 

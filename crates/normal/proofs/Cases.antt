@@ -16,10 +16,9 @@ use Rattle.blocks.proofs.RoundTrip.Accepting.{encoded-accepted}
 use Rattle.blocks.proofs.RoundTrip.Decoding.{decode-encode}
 use Rattle.blocks.specs.Encoding.{encode}
 use Rattle.blocks.specs.Entries.{entries_of, form_ok, name_ok, nth, number_ok}
-use Rattle.blocks.specs.Faults.{entry_faults, first, rows_from}
+use Rattle.blocks.specs.Faults.{entry_faults, first, rows_from, Clean}
 use Rattle.blocks.specs.Owners.{chain, depth_of, depth_ok, owner_of, owner_ok}
 use Rattle.blocks.specs.declared.Entry.{Entry}
-use Rattle.blocks.specs.declared.Finding.TheVariants.{Clean}
 use Rattle.blocks.specs.declared.Schema.TheVariants.{Description}
 use Rattle.logic.specs.Background.{standing}
 use Rattle.logic.specs.Layout.{later, lay, weight, write}
@@ -32,7 +31,7 @@ use Rattle.meaning.specs.NormalExamples.{Line, lines, normalises}
 use Rattle.normal.proofs.AnswerLaws.{empty-list, normalised}
 use Rattle.normal.specs.Answer.{normalise_under, normalised_under, output_after}
 use Rattle.normal.specs.Promise.{NormalisedAs, Right}
-use Rattle.normal.specs.declared.NormalAnswer.TheVariants.{Normalised}
+use Rattle.std.specs.Prelude.{Ok}
 
 -- what computes: no rule refuses the entries, they have room in 16 blocks, and the normal form's entries are those given
 abbrev Computes : Line → Type 0
@@ -45,8 +44,8 @@ computed-form c n clean small h out room =
     let few : length c ≤ 1008 = leb-le small in
     let read = encoded-accepted Description 1 c (none-legal (clean-none _ clean)) tt (omega arith) in
     let form : normal_entries standing (entries_of (encode c)) ≡ n = rw (decode-encode c) h in
-    let e : normalise_under standing (encode c) out ≡ Normalised (length n) =
-    normalised standing (encode c) out (record { total = length c; read = read; room = room }) ∙ ap (λ (es : List Entry). Normalised (length es)) form in
+    let e : normalise_under standing (encode c) out ≡ Ok (length n) =
+    normalised standing (encode c) out (record { total = length c; read = read; room = room }) ∙ ap (λ (es : List Entry). Ok (length es)) form in
     let empty = empty-list (encode c) out in
     (empty.0 ∙ e, empty.1 ∙ ap (output_after standing (encode c) out) e ∙ rw form)
 

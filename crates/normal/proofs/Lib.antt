@@ -10,3 +10,5 @@ pub mod RoomLaws
 pub mod NormalWritten
 -- The normal form of an input.
 pub mod PromiseKept
+-- The slots of a table stand on the chains of their runs, once one pass has put them there.
+pub mod SlotsChained

@@ -30,7 +30,7 @@ use Rattle.normal.proofs.emit.PushLaws.{pushed-total}
 use Rattle.normal.proofs.tables.PassRows.{front_length, front-settled, rows_few, rows-normal}
 use Rattle.normal.specs.Answer.{normalise_under, normalised_under, output_after}
 use Rattle.normal.specs.code.Emitted.{Lent, Pushed, Roomy, row_number, table_rows}
-use Rattle.normal.specs.declared.NormalAnswer.TheVariants.{Normalised}
+use Rattle.std.specs.Prelude.{Ok}
 use Rattle.slots.proofs.PassLaws.{all-bounded}
 use Rattle.slots.specs.code.Standing.{Standing}
 use Rattle.slots.specs.code.TablePlaces.{used_in}
@@ -53,7 +53,7 @@ module _ {b : Background} (law : LawfulBackground b) (d out : List ℕ) (r : Rea
 
   -- a table whose first n numbers are the packed rows of the normal form: as many are written as were answered, and they are its blocks
   pub normal-written : (rows : List ℕ) (n : ℕ) → n ≤ length rows → take n rows ≡ map row_number (write (nf b (place_of (entries_of d) 0)))
-      → (normalise_under b d out ≡ Normalised n) × (written out rows n ≡ normalised_under b d out)
+      → (normalise_under b d out ≡ Ok n) × (written out rows n ≡ normalised_under b d out)
   unfolding normal_entries normalised_under
   normal-written rows n h e =
       let t : Place = nf b (place_of (entries_of d) 0) in
@@ -62,7 +62,7 @@ module _ {b : Background} (law : LawfulBackground b) (d out : List ℕ) (r : Rea
       let input = sound-of-accepted Description 1 d r.read in
       let bound = normal-bounded b (entries_of d) input.entries small (omega (arith, entries-limit input.blocks)) in
       let few : length form ≤ 2016 = omega (arith, normal-fewer b (entries_of d), entries-limit input.blocks) in (
-        normalised b d out r ∙ ap Normalised (sym size),
+        normalised b d out r ∙ ap Ok (sym size),
         written-front out rows n h ∙ ap (λ (q : List ℕ). written out q n) packs ∙ ap (written out (map packed form)) size
             ∙ written-encodes out form bound few (form-room law d out r) ∙ sym (ap (output_after b d out) (normalised b d out r)),
       )
@@ -114,7 +114,7 @@ module _ {b : Background} (law : LawfulBackground b) {d : List ℕ} {used : ℕ}
     rows-held R = omega (arith, pushed-total (table_rows front bad full) P, standing-few R)
 
     -- they are written as answered
-    pub rows_written : (out : List ℕ) → r ≤ w → length d ≤ length out → (normalise_under b d out ≡ Normalised r) × (written out rows r ≡ normalised_under b d out)
+    pub rows_written : (out : List ℕ) → r ≤ w → length d ≤ length out → (normalise_under b d out ≡ Ok r) × (written out rows r ≡ normalised_under b d out)
     rows_written out m l =
         normal-written law d out (record { total = S.total; read = S.read; room = l }) (all-bounded d S.slots-settled.tabled.bounded) rows r (omega (arith, m, P.size))
         (P.held ∙ ap (map row_number) rows_are)

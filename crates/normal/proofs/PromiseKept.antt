@@ -23,7 +23,7 @@ use Rattle.blocks.specs.Entries.{entries_of}
 use Rattle.blocks.specs.Frame.{blocks_in, plain}
 use Rattle.blocks.specs.Reading.{reading_of}
 use Rattle.blocks.specs.declared.Entry.{Entry}
-use Rattle.blocks.specs.declared.Reading.TheVariants as reading
+use Rattle.std.specs.Prelude.{Ok}
 use Rattle.blocks.specs.declared.Schema.TheVariants.{Description}
 use Rattle.logic.specs.Background.{Background, LawfulBackground}
 use Rattle.meaning.proofs.NormalForms.NormalAscends.{normal-ascends}
@@ -37,7 +37,6 @@ use Rattle.meaning.specs.Rules.{Applies}
 use Rattle.normal.proofs.AnswerLaws.{Ready, input-refused, list-output, list_read, list-refused, normalise-cases, normalised, normalised-list, normalised-ready, refused-output, refused-unchanged, too_short}
 use Rattle.normal.specs.Answer.{normalise_of, normalise_under, normalised_of, normalised_under, output_after}
 use Rattle.normal.specs.Promise.{Normalises, OwnNormalForm, SameItems}
-use Rattle.normal.specs.declared.NormalAnswer.TheVariants.{Normalised}
 use Rattle.blocks.proofs.Refusing.Readings.{reading-cases}
 use Rattle.pairs.proofs.Under.{ruled-under}
 use Rattle.pairs.specs.Pairs.{pairs_reading, under}
@@ -78,7 +77,7 @@ module _ {b : Background} (law : LawfulBackground b) (d out : List ℕ) (r : Rea
   pub form-room : 512 * blocks_for plain (length form) ≤ length out
   form-room = omega (arith, form-short, r.room)
 
-  form-read : reading_of Description 1 (encode form) ≡ reading.Accepted (length form)
+  form-read : reading_of Description 1 (encode form) ≡ Ok (length form)
   form-read = encoded-accepted Description 1 form (normal-legal b (entries_of d) input.entries) tt form-few
 
   -- its blocks are normalised to themselves
@@ -89,8 +88,8 @@ module _ {b : Background} (law : LawfulBackground b) (d out : List ℕ) (r : Rea
     form-ready : Ready (encode form) out'
     form-ready = record { total = length form; read = form-read; room = omega (arith, length-encode form) }
 
-    form-again : normalise_under b (encode form) out' ≡ Normalised (length form)
-    form-again = normalised b (encode form) out' form-ready ∙ ap (λ (es : List Entry). Normalised (length es)) form-entries
+    form-again : normalise_under b (encode form) out' ≡ Ok (length form)
+    form-again = normalised b (encode form) out' form-ready ∙ ap (λ (es : List Entry). Ok (length es)) form-entries
 
     form-itself : first_blocks (length form) (normalised_under b (encode form) out') ≡ encode form
     form-itself =
@@ -117,7 +116,7 @@ module _ {b : Background} (law : LawfulBackground b) (d out : List ℕ) (r : Rea
 
 -- ---- any input and output, under a list of pairs
 
-module _ (P : List ℕ) {m : ℕ} (l : pairs_reading P ≡ reading.Accepted m) (d out : List ℕ) (r : Ready d out) where
+module _ (P : List ℕ) {m : ℕ} (l : pairs_reading P ≡ Ok m) (d out : List ℕ) (r : Ready d out) where
   abbrev law : LawfulBackground (under P)
   law = (ruled-under P l).lawful
 
@@ -145,7 +144,7 @@ module _ (P : List ℕ) {m : ℕ} (l : pairs_reading P ≡ reading.Accepted m) (
 
 module _ (P d out : List ℕ) where
   -- an answer that is no refusal tells of the normal form
-  pub normalised-means : {k : ℕ} → normalise_of P d out ≡ Normalised k → Normalises P d out k
+  pub normalised-means : {k : ℕ} → normalise_of P d out ≡ Ok k → Normalises P d out k
   normalised-means e =
       normalised-list P d out e (λ n l f. let r = normalised-ready (under P) d out f in normalises P l d out r.0 r.1)
 
@@ -162,7 +161,7 @@ module _ (P d out : List ℕ) where
       (λ r. form-length (ruled-under P l).lawful d out r)))
 
 -- the normal form's blocks are bytes, and its entries' fields fit them
-pub normal-bytes : (b : Background) (i : ℕ) (d : List ℕ) {n : ℕ} → reading_of Description i d ≡ reading.Accepted n → Bytes d
+pub normal-bytes : (b : Background) (i : ℕ) (d : List ℕ) {n : ℕ} → reading_of Description i d ≡ Ok n → Bytes d
     → AllBounded (normal_entries b (entries_of d)) × Bytes (encode (normal_entries b (entries_of d)))
 normal-bytes b i d a small =
     let input = sound-of-accepted Description i d a in
@@ -174,7 +173,7 @@ normal-bytes b i d a small =
 -- ---- the rules leave nothing out
 
 -- an accepted description whose entries ascend, and to which no rule applies, is normalised to its own bytes
-pub irreducible-own : (P : List ℕ) {m : ℕ} → pairs_reading P ≡ reading.Accepted m → (i : ℕ) (d : List ℕ) {n : ℕ} → reading_of Description i d ≡ reading.Accepted n → Bytes d
+pub irreducible-own : (P : List ℕ) {m : ℕ} → pairs_reading P ≡ Ok m → (i : ℕ) (d : List ℕ) {n : ℕ} → reading_of Description i d ≡ Ok n → Bytes d
     → Sorted entry_before (entries_of d) → ((k : ℕ) → Applies (under P) k (entries_of d) → ⊥) → OwnNormalForm P d
 irreducible-own P l i d a bytes' up none out h =
     let b = under P in
@@ -184,6 +183,6 @@ irreducible-own P l i d a bytes' up none out h =
     let size : 512 * blocks_for plain (length es) ≡ length d = sym (length-encode es) ∙ ap length bytes in
     let r : Ready d out
     = record { total = length es; read = accepted-by-none Description 1 d (none-of-accepted Description i d a).0; room = h } in (
-      list_read P d out l ∙ normalised b d out r ∙ ap (λ (l : List Entry). Normalised (length l)) own,
+      list_read P d out l ∙ normalised b d out r ∙ ap (λ (l : List Entry). Ok (length l)) own,
       list-output P d out l ∙ output-written b d out r ∙ ap (λ (l : List Entry). encode l ++ drop (512 * blocks_for plain (length l)) out) own ∙ rw (bytes, size),
     )

@@ -5,17 +5,18 @@ use lib.Dec.{ltb}
 use lib.ListN.{length, length-replicate, replicate}
 use mathlib.Core.Bool.{true}
 use mathlib.Core.List.{List}
-use mathlib.Core.Path.{◌∙◌, ◌≡◌, refl}
+use mathlib.Core.Path.{◌∙◌, ◌≡◌, refl, sym}
 use native.Mathlib.Omega.{arith}
 use Rattle.base.proofs.Tests.{lt-ltb}
 use Rattle.blocks.proofs.Refusing.Readings.{readings-cases}
 use Rattle.blocks.specs.Entries.{entries_of}
-use Rattle.blocks.specs.Reading.{reading_of}
-use Rattle.blocks.specs.declared.Reading.TheVariants as reading
+use Rattle.blocks.specs.Reading.{reading_of, Reading}
+use Rattle.std.specs.Prelude.{Err, Ok}
+use Rattle.blocks.specs.Refusals.{refused}
+use Rattle.blocks.specs.declared.Refusal.{Refusal}
 use Rattle.blocks.specs.declared.Schema.TheVariants.{Description}
 use Rattle.normal.proofs.AnswerLaws.{input-refused, list_read, list-refused}
 use Rattle.normal.specs.Answer.{normalise_of}
-use Rattle.normal.specs.declared.NormalAnswer.TheVariants as normal
 use Rattle.pairs.proofs.Under.{ruled-under}
 use Rattle.pairs.specs.Pairs.{pairs_reading, under}
 use Rattle.pairs.specs.Promise.{ListRead}
@@ -24,11 +25,9 @@ use Rattle.slots.proofs.FailingLaws.{accepted-few}
 use Rattle.slots.proofs.PassLaws.{blank-zeros}
 use Rattle.slots.specs.code.Standing.{Standing, room_in, slotting_of, slotting_under}
 use Rattle.slots.specs.code.Tables.{slots_of}
-use Rattle.slots.specs.declared.Slotting.{Slotting}
-use Rattle.slots.specs.declared.Slotting.TheVariants.{Filled, Refused}
 
 -- cleared tables of n rows and as many slots
-pub roomy-zeros : (d : List ℕ) (n m l : ℕ) → m ≡ n + 1 → l ≡ 2 * m → 1 ≤ n → n ≤ 1008 → ((k : ℕ) → reading_of Description 1 d ≡ reading.Accepted k → k ≤ n)
+pub roomy-zeros : (d : List ℕ) (n m l : ℕ) → m ≡ n + 1 → l ≡ 2 * m → 1 ≤ n → n ≤ 1008 → ((k : ℕ) → reading_of Description 1 d ≡ Ok k → k ≤ n)
     → Roomy d (replicate m 0) (replicate m 0) (replicate m 0) (replicate l 0) (replicate m 0) (replicate n 0) (replicate n 0) (replicate m 0)
 roomy-zeros d n m l e f one few h =
     let rows = length-replicate {A = ℕ} n 0 in
@@ -53,7 +52,7 @@ roomy-zeros d n m l e f one few h =
     }
 
 -- an input has at most 63 entries for each of its blocks, of which it has at most 16
-pub entries-few : (d : List ℕ) {n : ℕ} → 63 * min (length d) 8192 ≤ 512 * n → (k : ℕ) → reading_of Description 1 d ≡ reading.Accepted k → k ≤ n
+pub entries-few : (d : List ℕ) {n : ℕ} → 63 * min (length d) 8192 ≤ 512 * n → (k : ℕ) → reading_of Description 1 d ≡ Ok k → k ≤ n
 entries-few d h k a = omega (arith, h, accepted-few 1 d a)
 
 module _ {d t bad full last before order rows below : List ℕ} (R : Roomy d t bad full last before order rows below) where
@@ -63,22 +62,21 @@ module _ {d t bad full last before order rows below : List ℕ} (R : Roomy d t b
   roomy-again e f g = record { entries = R.entries; slots-room = e ∙ R.slots-room; bad-room = f ∙ R.bad-room; full-room = g ∙ R.full-room; lent = R.lent }
 
   -- where there is room, what is refused is refused by the list or by reading
-  pub roomy-refused : (P out : List ℕ) {r : Slotting} {k i p : ℕ} → r ≡ slotting_of P (room_in t bad full) d → r ≡ Refused k i p → normalise_of P d out ≡ normal.Refused k i p
+  pub roomy-refused : (P out : List ℕ) {r : Reading} {x : Refusal} → r ≡ slotting_of P (room_in t bad full) d → r ≡ Err x → normalise_of P d out ≡ Err x
   unfolding slotting_of slotting_under
-  roomy-refused P out {r} {k} {i} {p} e f =
-      let refused : (k' i' p' : ℕ) → slotting_of P (room_in t bad full) d ≡ Refused k' i' p' → normalise_of P d out ≡ normal.Refused k' i' p' → normalise_of P d out ≡ normal.Refused k i p
-      = λ k' i' p' s h.
-      let a : k' ≡ k = cc in
-      let b : i' ≡ i = cc in
-      let c : p' ≡ p = cc in
-      h ∙ rw (a, b, c) in
+  roomy-refused P out {r} {x} e f =
+      let given : slotting_of P (room_in t bad full) d ≡ Err x = sym e ∙ f in
       readings-cases (pairs_reading P) (reading_of Description 1 d)
-      (λ k' i' p' q. refused k' i' p' (rw (slotting_of, q)) (list-refused P d out q))
-      (λ n k' i' p' l q. refused k' i' p' (rw (slotting_of, l, slotting_under, q)) (list_read P d out l ∙ input-refused (under P) d out q))
+      (λ k i p q.
+      let s : slotting_of P (room_in t bad full) d ≡ refused k i p = rw (slotting_of, q) in
+      list-refused P d out q ∙ sym s ∙ given)
+      (λ n k i p l q.
+      let s : slotting_of P (room_in t bad full) d ≡ refused k i p = rw (slotting_of, l, slotting_under, q) in
+      list_read P d out l ∙ input-refused (under P) d out q ∙ sym s ∙ given)
       (λ n m l q.
       let more : length (entries_of d) < room_in t bad full = omega (arith, R.entries m q, R.slots-room, R.bad-room, R.full-room, (accepted-few 1 d q).0) in
       let there : ltb (length (entries_of d)) (room_in t bad full) ≡ true = lt-ltb more in
-      let s : slotting_of P (room_in t bad full) d ≡ Filled (length (slots_of (under P) d)) = rw (slotting_of, l, slotting_under, q, there) in
+      let s : slotting_of P (room_in t bad full) d ≡ Ok (length (slots_of (under P) d)) = rw (slotting_of, l, slotting_under, q, there) in
       let z : ◌≡◌ {A = ℕ} 0 1 = cc in
       absurd (omega arith))
 

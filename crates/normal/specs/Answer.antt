@@ -1,33 +1,32 @@
 -- The normal form's answer, and its output, for the records that keep a background, and under a list of pairs.
 -- Assumes nothing.
-use Rattle.std.specs.Prelude.{◌*◌, ℕ, ltb, drop, length, cond, List, ◌++◌}
+use Rattle.std.specs.Prelude.{◌*◌, ℕ, ltb, drop, length, cond, List, ◌++◌, Ok, Err}
 use Rattle.blocks.specs.Encoding.{blocks_for, encode}
 use Rattle.blocks.specs.Entries.{entries_of}
 use Rattle.blocks.specs.Frame.{plain}
-use Rattle.blocks.specs.Reading.{reading_of, unless_refused}
-use Rattle.blocks.specs.declared.Reading.{Reading}
+use Rattle.blocks.specs.Reading.{reading_of, Reading}
+use Rattle.blocks.specs.Refusals.{number_of, refused, unless_refused}
 use Rattle.blocks.specs.declared.Schema.TheVariants.{Description}
 use Rattle.logic.specs.Background.{Background}
 use Rattle.meaning.specs.NormalEntries.{normal_entries}
 use Rattle.pairs.specs.Pairs.{pairs_reading, under}
-use Rattle.normal.specs.declared.NormalAnswer.{NormalAnswer}
-use Rattle.normal.specs.declared.NormalAnswer.TheVariants.{Normalised, Refused}
+use Rattle.blocks.specs.declared.Cause.TheVariants.{Room}
 
 -- "One input; the output is at least as long"; 7 otherwise, "0 for number 7". "The answer is the number of entries."
-abbrev pub room_of : Background → List ℕ → List ℕ → NormalAnswer
-room_of b d out = cond (ltb (length out) (length d)) (Refused 7 0 0) (Normalised (length (normal_entries b (entries_of d))))
+abbrev pub room_of : Background → List ℕ → List ℕ → Reading
+room_of b d out = cond (ltb (length out) (length d)) (refused Room 0 0) (Ok (length (normal_entries b (entries_of d))))
 
-abbrev pub read_of : Background → List ℕ → List ℕ → Reading → NormalAnswer
-read_of b d out r = unless_refused Refused r (room_of b d out)
+abbrev pub read_of : Background → List ℕ → List ℕ → Reading → Reading
+read_of b d out r = unless_refused Err r (room_of b d out)
 
 -- "Order: input 1 in full, .. then 7."
-unfoldable pub normalise_under : Background → List ℕ → List ℕ → NormalAnswer
+unfoldable pub normalise_under : Background → List ℕ → List ℕ → Reading
 normalise_under b d out = read_of b d out (reading_of Description 1 d)
 
 -- the output after each answer: "Written in blocks from the start of the output"; "later bytes stay"; a refusal leaves it "unchanged"
-abbrev pub output_after : Background → List ℕ → List ℕ → NormalAnswer → List ℕ
-output_after b d out (Normalised k) = encode (normal_entries b (entries_of d)) ++ drop (512 * blocks_for plain k) out
-output_after b d out (Refused k i p) = out
+abbrev pub output_after : Background → List ℕ → List ℕ → Reading → List ℕ
+output_after b d out (Ok k) = encode (normal_entries b (entries_of d)) ++ drop (512 * blocks_for plain k) out
+output_after b d out (Err e) = out
 
 unfoldable pub normalised_under : Background → List ℕ → List ℕ → List ℕ
 normalised_under b d out = output_after b d out (normalise_under b d out)
@@ -35,8 +34,8 @@ normalised_under b d out = output_after b d out (normalise_under b d out)
 -- ---- under a list of pairs
 
 -- "11, input 0, before any other check"
-unfoldable pub normalise_of : List ℕ → List ℕ → List ℕ → NormalAnswer
-normalise_of P d out = unless_refused Refused (pairs_reading P) (normalise_under (under P) d out)
+unfoldable pub normalise_of : List ℕ → List ℕ → List ℕ → Reading
+normalise_of P d out = unless_refused Err (pairs_reading P) (normalise_under (under P) d out)
 
 unfoldable pub normalised_of : List ℕ → List ℕ → List ℕ → List ℕ
 normalised_of P d out = output_after (under P) d out (normalise_of P d out)
@@ -48,6 +47,6 @@ pub record Returned : Type 0 where
   pub input : ℕ
   pub place : ℕ
 
-abbrev pub returned : NormalAnswer → Returned
-returned (Normalised k) = record { entries = k; number = 0; input = 0; place = 0 }
-returned (Refused k i p) = record { entries = 0; number = k; input = i; place = p }
+abbrev pub returned : Reading → Returned
+returned (Ok k) = record { entries = k; number = 0; input = 0; place = 0 }
+returned (Err e) = record { entries = 0; number = number_of e.cause; input = e.input; place = e.place }

@@ -1,13 +1,12 @@
 -- What the promises of the normal form speak of: the same items, and what the answer says of the output.
 -- Assumes nothing.
-use Rattle.std.specs.Prelude.{◌*◌, ◌≤◌, ℕ, drop, length, List, ◌++◌, ◌≡◌}
+use Rattle.std.specs.Prelude.{◌*◌, ◌≤◌, ℕ, drop, length, List, ◌++◌, ◌≡◌, Ok}
 use Rattle.base.specs.Ascending.{Sorted}
 use Rattle.blocks.specs.Encoding.{blocks_for, encode, first_blocks}
 use Rattle.blocks.specs.Entries.{entries_of}
 use Rattle.blocks.specs.Frame.{plain}
 use Rattle.blocks.specs.Reading.{reading_of}
 use Rattle.blocks.specs.declared.Entry.{Entry}
-use Rattle.blocks.specs.declared.Reading.TheVariants as reading
 use Rattle.blocks.specs.declared.Schema.TheVariants.{Description}
 use Rattle.logic.specs.Background.{Background}
 use Rattle.logic.specs.Meaning.{Equivalent}
@@ -17,7 +16,6 @@ use Rattle.meaning.specs.NormalExamples.{Line, normalises}
 use Rattle.meaning.specs.RowEntries.{entry_before}
 use Rattle.meaning.specs.Rules.{Applies}
 use Rattle.normal.specs.Answer.{normalise_of, normalised_of}
-use Rattle.normal.specs.declared.NormalAnswer.TheVariants.{Normalised}
 use Rattle.pairs.specs.Pairs.{under}
 
 -- the same items fit both inputs, in every finite record that keeps the background
@@ -32,7 +30,7 @@ pub record Normalises (P d out : List ℕ) (k : ℕ) : Type 0 where
   pub later : drop (512 * blocks_for plain k) (normalised_of P d out) ≡ drop (512 * blocks_for plain k) out
   -- they are a description of k entries, no more than the input has
   pub blocks : first_blocks k (normalised_of P d out) ≡ encode (normal_entries (under P) (entries_of d))
-  pub accepted : reading_of Description 1 (first_blocks k (normalised_of P d out)) ≡ reading.Accepted k
+  pub accepted : reading_of Description 1 (first_blocks k (normalised_of P d out)) ≡ Ok k
   pub few : k ≤ length (entries_of d)
   pub ascending : Sorted entry_before (entries_of (first_blocks k (normalised_of P d out)))
   -- "none of the nine rules applies" to the entries that are read back from them, nor that equal entries become one
@@ -41,14 +39,14 @@ pub record Normalises (P d out : List ℕ) (k : ℕ) : Type 0 where
   pub same : SameItems (under P) (first_blocks k (normalised_of P d out)) d
   -- they are normalised to themselves, into any output that is as long
   pub again : (out' : List ℕ) → 512 * blocks_for plain k ≤ length out'
-      → (normalise_of P (first_blocks k (normalised_of P d out)) out' ≡ Normalised k)
+      → (normalise_of P (first_blocks k (normalised_of P d out)) out' ≡ Ok k)
       × (first_blocks k (normalised_of P (first_blocks k (normalised_of P d out)) out') ≡ first_blocks k (normalised_of P d out))
 
 -- the entries c as blocks give the number of the entries n, and their blocks at the start of each output that is long enough
 abbrev pub NormalisedAs : List ℕ → List Entry → List Entry → Type 0
 NormalisedAs P c n =
     (out : List ℕ) → length (encode c) ≤ length out
-    → (normalise_of P (encode c) out ≡ Normalised (length n)) × (normalised_of P (encode c) out ≡ encode n ++ drop (512 * blocks_for plain (length n)) out)
+    → (normalise_of P (encode c) out ≡ Ok (length n)) × (normalised_of P (encode c) out ≡ encode n ++ drop (512 * blocks_for plain (length n)) out)
 
 -- what a line of the examples says
 abbrev pub Right : List ℕ → Line → Type 0
@@ -59,4 +57,4 @@ Right P (normalises c n) = NormalisedAs P c n
 abbrev pub OwnNormalForm : List ℕ → List ℕ → Type 0
 OwnNormalForm P d =
     (out : List ℕ) → length d ≤ length out
-    → (normalise_of P d out ≡ Normalised (length (entries_of d))) × (normalised_of P d out ≡ d ++ drop (length d) out)
+    → (normalise_of P d out ≡ Ok (length (entries_of d))) × (normalised_of P d out ≡ d ++ drop (length d) out)

@@ -12,7 +12,7 @@ ghost use Rattle.normal.specs.code.ClassRuns.{Tagged, cell_at, kind_cell};
 ghost use Rattle.normal.specs.code.Emitted.{cell_value, value_number, kind_in, cells_of, kept_by, tag_rows, kind_rows, atom_rows, property_rows, bound_rows, every_rows, every_slots, keep_cell, place_rows, Pushed, Placing, packed_of};
 
 use crate::settled::Slots;
-use blocks::Entry;
+use blocks::{Entry, kinds};
 use runs::{tag_name, tag_slot};
 use slots::{high_in, low_in};
 
@@ -33,9 +33,6 @@ impl AtomKind {
         self as u8
     }
 }
-
-// The number of the kind 'every'.
-const EVERY: u8 = 5;
 
 // The number that a slot of these bounds lists with a kind, if it lists one.
 fn value_of(kind: AtomKind, lo: u64, hi: u64) -> Option<u16>
@@ -142,7 +139,7 @@ fn push_link(
     if !slots.keeps(x) {
         return count;
     }
-    rows[count] = pack_row(EVERY, owner, tag_name(x) as u16, 0);
+    rows[count] = pack_row(kinds::EVERY, owner, tag_name(x) as u16, 0);
     below[count + 1] = tag_slot(x) as u16;
     count + 1
 }

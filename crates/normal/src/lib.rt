@@ -14,10 +14,4 @@ mod tables;
 mod walk;
 
 pub use output::normalise;
-
-// What normalising answers: the number of entries of the normal form; or the refusal's number, the input and the place.
-#[derive(Clone, Copy)]
-pub enum NormalAnswer {
-    Normalised(u16),
-    Refused(u8, u16, u16),
-}
+pub use settled::Workspace;

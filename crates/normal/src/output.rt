@@ -5,10 +5,9 @@ ghost use Rattle.normal.specs.Answer.{normalise_of, normalise_under, normalised_
 ghost use Rattle.normal.specs.code.Emitted.{Roomy, Stands};
 ghost use Rattle.slots.specs.code.Standing.{Standing};
 
-use crate::NormalAnswer;
 use crate::settled::Workspace;
 use crate::tables::normal_rows;
-use slots::Slotting;
+use blocks::{Cause, Refusal};
 
 // The answer for a description whose slots stand in the tables: 7 where the output is shorter, else its normal form is written. `used` stays
 // beside `table`, whose slots end with it: that there is room for the rows is known of the whole table.
@@ -20,13 +19,17 @@ fn write_normal(
     full: &[u8],
     work: Workspace,
     out: &mut [u8],
-) -> NormalAnswer
+) -> Result<u16, Refusal>
     requires { Stands d.now used table.now bad.now full.now × Roomy d.now table.now bad.now full.now work.last.now work.before.now work.order.now work.rows.now work.below.now }
     ensures { (b : Background) → LawfulBackground b → Standing b d.now used table.now bad.now full.now
         → (result ≡ normalise_under b d.now out.old) × (out.new ≡ normalised_under b d.now out.old) }
 {
     if out.len() < d.len() {
-        return NormalAnswer::Refused(7, 0, 0);
+        return Err(Refusal {
+            cause: Cause::Room,
+            input: 0,
+            place: 0,
+        });
     }
     let Workspace {
         last,
@@ -46,10 +49,11 @@ fn write_normal(
         below,
     );
     writing::write_entries(out, rows, count);
-    NormalAnswer::Normalised(count as u16)
+    Ok(count as u16)
 }
 
-// The answer for any description, in tables that have room for its entries.
+// The answer for any description, in tables that have room for its entries. Those of the slots stay apart, as `slots::fill` takes them: it writes
+// them all, and from then on they are only read.
 fn normalise_in(
     pairs: &[u8],
     d: &[u8],
@@ -58,15 +62,12 @@ fn normalise_in(
     full: &mut [u8],
     work: Workspace,
     out: &mut [u8],
-) -> NormalAnswer
+) -> Result<u16, Refusal>
     requires { Roomy d.now table.old bad.old full.old work.last.now work.before.now work.order.now work.rows.now work.below.now }
     ensures { (result ≡ normalise_of pairs.now d.now out.old) × (out.new ≡ normalised_of pairs.now d.now out.old) }
 {
-    let slotting = slots::fill(pairs, d, table, bad, full);
-    match slotting {
-        Slotting::Refused(number, input, place) => NormalAnswer::Refused(number, input, place),
-        Slotting::Filled(used) => write_normal(d, usize::from(used), table, bad, full, work, out),
-    }
+    let used = slots::fill(pairs, d, table, bad, full)?;
+    write_normal(d, usize::from(used), table, bad, full, work, out)
 }
 
 // The same in tables of its own, for so many entries: a description of one block has at most 63, and small tables are sooner cleared.
@@ -74,7 +75,7 @@ fn normalise_sized<const ROWS: usize, const SLOTS: usize, const RUNS: usize>(
     pairs: &[u8],
     d: &[u8],
     out: &mut [u8],
-) -> NormalAnswer
+) -> Result<u16, Refusal>
     requires { (63 * min (length d.now) 8192 ≤ 512 * ROWS) × (1 ≤ ROWS) × (ROWS ≤ 1008) × (SLOTS ≡ ROWS + 1) × (RUNS ≡ 2 * SLOTS) }
     ensures { (result ≡ normalise_of pairs.now d.now out.old) × (out.new ≡ normalised_of pairs.now d.now out.old) }
 {
@@ -99,7 +100,7 @@ fn normalise_sized<const ROWS: usize, const SLOTS: usize, const RUNS: usize>(
 // Writes the normal form of a description, under a list of pairs, in blocks from the start of the output, which is at least as long as the
 // description, and returns its number of entries; later bytes stay. Where the list or the description is refused, or the output is shorter,
 // the refusal is returned and no byte changes.
-pub fn normalise(pairs: &[u8], description: &[u8], out: &mut [u8]) -> NormalAnswer
+pub fn normalise(pairs: &[u8], description: &[u8], out: &mut [u8]) -> Result<u16, Refusal>
     ensures { (result ≡ normalise_of pairs.now description.now out.old) × (out.new ≡ normalised_of pairs.now description.now out.old) }
 {
     if description.len() <= 512 {

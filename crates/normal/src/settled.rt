@@ -15,12 +15,14 @@ pub(crate) struct Slots<'a> {
     ghost covered: { length table.now ≤ length full.now },
 }
 
-// What the last pass writes, in tables that are lent: the chains of the runs, a run's tags in order, the rows, and the slots that they lead to.
+// What rows are written with, in tables that are lent: the chains of the runs, a run's tags in order, the rows, and the places that they lead
+// to, each by the number of its slot, or in a specimen of crate compare by its code. Whoever lends it makes the tables in its own frame, there
+// being no heap, and each size of them is another.
 #[derive(Drop)]
-pub(crate) struct Workspace<'a> {
-    pub(crate) last: &'a mut [u16],
-    pub(crate) before: &'a mut [u16],
-    pub(crate) order: &'a mut [u64],
-    pub(crate) rows: &'a mut [u64],
-    pub(crate) below: &'a mut [u16],
+pub struct Workspace<'a> {
+    pub last: &'a mut [u16],
+    pub before: &'a mut [u16],
+    pub order: &'a mut [u64],
+    pub rows: &'a mut [u64],
+    pub below: &'a mut [u16],
 }

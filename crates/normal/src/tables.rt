@@ -35,7 +35,8 @@ fn chained_rows(
     write_rows(&slots, order, rows, below)
 }
 
-// Writes the packed entries that settled slots give; returns their number. One of kind 6 stands alone where the top is impossible.
+// Writes the packed entries that settled slots give; returns their number. One of kind 6 stands alone where the top is impossible. The tables
+// stay parameters, as above.
 pub(crate) fn normal_rows(
     table: &[u64],
     bad: &[u8],

@@ -7,7 +7,7 @@ ghost use Rattle.normal.specs.code.Emitted.{Stepped, all_rows, cells_of, kept_by
 use crate::emit::push_place;
 use crate::settled::Slots;
 
-// Pushes the rows of the place below row k, where row k leads to one.
+// Pushes the rows of the place below row k, where row k leads to one. Its tables stay parameters for the reason in emit.rt.
 fn push_below(
     k: usize,
     slots: &Slots,

@@ -5,6 +5,4 @@
 
 mod packing;
 
-pub use packing::{
-    pack_catalogued, pack_comparison, pack_counted, pack_fit, pack_normal, pack_reading,
-};
+pub use packing::{pack_comparison, pack_counted, pack_fit, pack_reading};

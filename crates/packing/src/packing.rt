@@ -1,87 +1,72 @@
 // The number of 64 bits that stands for an answer.
 ghost use Rattle.std.specs.Prelude.{◌≡◌};
-ghost use Rattle.packing.specs.Packing.{pack_adds, pack_catalogued, pack_comparison, pack_counted, pack_fit, pack_normal, pack_reading, packed};
+ghost use Rattle.packing.specs.Packing.{pack_adds, pack_comparison, pack_counted, pack_fit, pack_reading, pack_refusal, packed};
 
-use blocks::Reading;
-use catalogue::Catalogued;
-use compare::Comparison;
-use fit::{Counted, FitAnswer};
-use normal::NormalAnswer;
+use blocks::Refusal;
+use compare::NotContained;
+use fit::Counted;
 
-// Four fields as one number: bits 0 to 7, 8 to 15, 16 to 31, and 32 to 63.
+// Four fields as one number: bits 0 to 7, 8 to 15, 16 to 31, and 32 to 63. What is answered and refused is told by numbers here alone,
+// since C reads them.
 fn pack(answer: u8, number: u8, first: u16, second: u16) -> u64
     ensures { result ≡ packed answer number first second }
 {
-    answer as u64 + 256 * (number as u64) + 65536 * (first as u64) + 4294967296 * (second as u64)
+    u64::from(answer)
+        + 256 * u64::from(number)
+        + 65536 * u64::from(first)
+        + 4294967296 * u64::from(second)
 }
 
-// What reading answers: the entries read, or the refusal.
-pub fn pack_reading(answer: Reading) -> u64
+// A refusal: its number in the table of refusals, the input and the place.
+fn pack_refusal(refusal: Refusal) -> u64
+    ensures { result ≡ pack_refusal refusal }
+{
+    pack(0, refusal.cause.number(), refusal.input, refusal.place)
+}
+
+// What reading, unfolding, normalising and the call on a catalogue answer: the entries read, the entries written, or the bytes filled; or
+// the refusal.
+pub fn pack_reading(answer: Result<u16, Refusal>) -> u64
     ensures { result ≡ pack_reading answer }
 {
     match answer {
-        Reading::Accepted(total) => pack(1, 0, 0, total),
-        Reading::Refused(number, input, place) => pack(0, number, input, place),
-    }
-}
-
-// The fit answer: yes, no, or the refusal.
-pub fn pack_fit(answer: FitAnswer) -> u64
-    ensures { result ≡ pack_fit answer }
-{
-    match answer {
-        FitAnswer::Yes => pack(1, 0, 0, 0),
-        FitAnswer::No => pack(2, 0, 0, 0),
-        FitAnswer::Refused(number, input, place) => pack(0, number, input, place),
+        Ok(count) => pack(1, 0, 0, count),
+        Err(refusal) => pack_refusal(refusal),
     }
 }
 
 // A fit answer with its counts of additions, in the walk and in making the table; or the refusal.
-fn pack_adds(answer: FitAnswer, walk: u16, table: u16) -> u64
+fn pack_adds(answer: Result<bool, Refusal>, walk: u16, table: u16) -> u64
     ensures { result ≡ pack_adds answer walk table }
 {
     match answer {
-        FitAnswer::Yes => pack(1, 0, walk, table),
-        FitAnswer::No => pack(2, 0, walk, table),
-        FitAnswer::Refused(number, input, place) => pack(0, number, input, place),
+        Ok(true) => pack(1, 0, walk, table),
+        Ok(false) => pack(2, 0, walk, table),
+        Err(refusal) => pack_refusal(refusal),
     }
+}
+
+// The fit answer: yes, no, or the refusal.
+pub fn pack_fit(answer: Result<bool, Refusal>) -> u64
+    ensures { result ≡ pack_fit answer }
+{
+    pack_adds(answer, 0, 0)
 }
 
 // The fit answer with its counts: yes or no, with the additions; or the refusal.
 pub fn pack_counted(counted: Counted) -> u64
     ensures { result ≡ pack_counted counted }
 {
-    let answer = counted.answer;
-    pack_adds(answer, counted.walk, counted.table)
-}
-
-// What normalising answers: the entries written, or the refusal.
-pub fn pack_normal(answer: NormalAnswer) -> u64
-    ensures { result ≡ pack_normal answer }
-{
-    match answer {
-        NormalAnswer::Normalised(count) => pack(1, 0, 0, count),
-        NormalAnswer::Refused(number, input, place) => pack(0, number, input, place),
-    }
-}
-
-// What the call on a catalogue answers: the bytes filled, or the refusal.
-pub fn pack_catalogued(answer: Catalogued) -> u64
-    ensures { result ≡ pack_catalogued answer }
-{
-    match answer {
-        Catalogued::Filled(count) => pack(1, 0, 0, count),
-        Catalogued::Refused(number, input, place) => pack(0, number, input, place),
-    }
+    pack_adds(counted.answer, counted.walk, counted.table)
 }
 
 // What comparing answers: contained; not contained, with the entry that fails and the entries of the specimen; or the refusal.
-pub fn pack_comparison(answer: Comparison) -> u64
+pub fn pack_comparison(answer: Result<Option<NotContained>, Refusal>) -> u64
     ensures { result ≡ pack_comparison answer }
 {
     match answer {
-        Comparison::Contained => pack(1, 0, 0, 0),
-        Comparison::NotContained(entry, entries) => pack(2, 0, entry, entries),
-        Comparison::Refused(number, input, place) => pack(0, number, input, place),
+        Ok(None) => pack(1, 0, 0, 0),
+        Ok(Some(shown)) => pack(2, 0, shown.entry, shown.entries),
+        Err(refusal) => pack_refusal(refusal),
     }
 }

@@ -5,7 +5,7 @@ use Prim.Native.Nat.{◌+◌, ◌-◌, ◌<◌, ◌≤◌, suc, zero, ℕ}
 use lib.Dec.{eqb}
 use lib.ListN.{get_or, length, length-replicate, length-set, replicate, set, take}
 use lib.Seq.{get_or-set_other, get_or-set_same}
-use mathlib.Core.Bool.{Bool, ◌&&◌, ◌||◌, false, true}
+use mathlib.Core.Bool.{false}
 use mathlib.Core.List.{List, [], ◌∷◌}
 use mathlib.Core.Logic.{◌≢◌}
 use mathlib.Core.Path.{◌∙◌, ◌≡◌, ap, refl, sym}
@@ -15,7 +15,7 @@ use Rattle.base.proofs.Lists.{zeros-read}
 use Rattle.base.proofs.Tests.{bool_cases, both_ways, eq-eqb, eqb-eq, ne_eqb}
 use Rattle.base.specs.Chain.{Chains, OnChain}
 use Rattle.pairs.specs.Pairs.{pair_count}
-use Rattle.pairs.specs.code.Index.{PairsIndexed, beside_at, bucket_of, indexed_to, named_at, named_count, noted, partnered, partners}
+use Rattle.pairs.specs.code.Index.{PairsIndexed, beside_at, bucket_of, indexed_to, named_at, named_count, noted, partners}
 
 -- ---- filling
 
@@ -61,44 +61,6 @@ module _ (P : List ℕ) where
   pub index-whole : {t u : List ℕ} {m : ℕ} → pair_count P ≤ 64 → t ≡ replicate 512 0 → m ≡ named_count P → u ≡ indexed_to P t m → PairsIndexed P u
   index-whole {t} {u} {m} few e is f =
       record { few = few; chains = rw (f, is) (indexed-chains t (named_count P) e (omega arith)).1 }
-
--- ---- a walk
-
-module _ {P t : List ℕ} (I : PairsIndexed P t) (has : ℕ → Bool) (p : ℕ) where
-  -- a number of another bucket names another property
-  skips : (k : ℕ) → eqb (bucket_of (named_at P (suc k))) (bucket_of p) ≡ false → partnered P has p (suc k) ≡ partnered P has p k
-  unfolding partnered
-  skips k out =
-      bool_cases (eqb (named_at P (suc k)) p)
-      (λ q. let e : named_at P (suc k) ≡ p = eqb-eq q in let same : bucket_of (named_at P (suc k)) ≡ bucket_of p = ap bucket_of e in both_ways (eq-eqb same) out)
-      (λ q. rw q)
-
-  -- it begins at the last number of the bucket
-  module _ {k : ℕ} (e : k ≡ get_or t (bucket_of p) 0) where
-    pub naming-starts : OnChain (λ j. bucket_of (named_at P j)) (bucket_of p) k (named_count P)
-    naming-starts = walk-starts I.chains (bucket_of p) (bucket-below p) e
-
-    pub partner-starts : partnered P has p (named_count P) ≡ partnered P has p k
-    partner-starts = skip-starts I.chains (bucket_of p) (bucket-below p) e (partnered P has p) skips
-
-  -- where it ends, nothing was found
-  pub partner-ends : {k : ℕ} → k ≡ 0 → partnered P has p k ≡ false
-  unfolding partnered
-  partner-ends z = rw z
-
-  module _ {k : ℕ} (S : OnChain (λ j. bucket_of (named_at P j)) (bucket_of p) k (named_count P)) (z : k ≢ 0) where
-    abbrev here : Bool
-    here = eqb (named_at P k) p && has (beside_at P k)
-
-    partner-here : partnered P has p k ≡ (here || partnered P has p (k - 1))
-    unfolding partnered
-    partner-here = let e : k ≡ suc (k - 1) = omega arith in ap (partnered P has p) e ∙ rw (← e)
-
-    pub partner-hit : here ≡ true → partnered P has p k ≡ true
-    partner-hit h = partner-here ∙ rw h
-
-    pub partner-miss : {j : ℕ} → here ≡ false → j ≡ get_or t (256 + k) 0 → partnered P has p k ≡ partnered P has p j
-    partner-miss h e = partner-here ∙ rw h (skip-goes I.chains (bucket_of p) S z e (partnered P has p) skips)
 
 -- a list of at most 64 pairs is indexed as it is
 pub list-whole : (P : List ℕ) → pair_count P ≤ 64 → take 259 P ≡ P

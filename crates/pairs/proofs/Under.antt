@@ -8,7 +8,7 @@ use mathlib.Core.Path.{◌≡◌, refl, sym}
 use Rattle.base.proofs.Missing.{and-never, not-true}
 use Rattle.base.proofs.Tests.{and_both, both_ways}
 use Rattle.base.specs.Range.{all}
-use Rattle.blocks.specs.declared.Reading.TheVariants.{Accepted}
+use Rattle.std.specs.Prelude.{Ok}
 use Rattle.logic.proofs.Records.Kept.{lawful-standing}
 use Rattle.logic.specs.Background.{Keeps, Ruled, standing}
 use Rattle.logic.specs.Record.{Record}
@@ -20,7 +20,7 @@ use Rattle.pairs.specs.Promise.{NoneHasBoth}
 
 -- ---- lawful
 
-pub ruled-under : (P : List ℕ) {n : ℕ} → pairs_reading P ≡ Accepted n → Ruled (under P)
+pub ruled-under : (P : List ℕ) {n : ℕ} → pairs_reading P ≡ Ok n → Ruled (under P)
 ruled-under P e = record {
   lawful = record {
     some_item = lawful-standing.some_item;
@@ -71,7 +71,7 @@ unfolding excludes_in pair_count all
 empty-standing = refl
 
 -- an empty list is accepted
-pub empty-read : pairs_reading [] ≡ Accepted 0
+pub empty-read : pairs_reading [] ≡ Ok 0
 unfolding pairs_reading pair_faults list_wrong pair_count rows_from first
 empty-read = refl
 

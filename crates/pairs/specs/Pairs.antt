@@ -3,10 +3,10 @@
 use Rattle.std.specs.Prelude.{◌%◌, ◌*◌, ◌+◌, ◌-◌, ◌/◌, ℕ, eqb, ltb, length, Bool, ◌&&◌, ◌||◌, not, List, [], ◌∷◌}
 use Rattle.base.specs.Range.{all}
 use Rattle.blocks.specs.Faults.{Fault, fault, first, rows_from}
-use Rattle.blocks.specs.Reading.{answer}
+use Rattle.blocks.specs.Reading.{answer, Reading}
 use Rattle.blocks.specs.Words.{word_at}
-use Rattle.blocks.specs.declared.Reading.{Reading}
 use Rattle.logic.specs.Background.{Background, standing}
+use Rattle.blocks.specs.declared.Cause.TheVariants.{Pairs}
 
 -- ---- the list
 
@@ -32,11 +32,11 @@ pair_wrong P i = eqb (one_of P i) 0 || (eqb (other_of P i) 0 || eqb (one_of P i)
 
 -- the line of the table of refusals for pair i
 abbrev pub pair_rows : List ℕ → ℕ → List Fault
-pair_rows P i = fault (pair_wrong P i) 11 i ∷ []
+pair_rows P i = fault (pair_wrong P i) Pairs i ∷ []
 
 -- "length no multiple of 4 or over 64 pairs, place 0; else the lowest pair with 0 or two equal numbers, place that pair"
 unfoldable pub pair_faults : List ℕ → List Fault
-pair_faults P = fault (list_wrong P) 11 0 ∷ rows_from (pair_rows P) 1 (pair_count P)
+pair_faults P = fault (list_wrong P) Pairs 0 ∷ rows_from (pair_rows P) 1 (pair_count P)
 
 -- "11, input 0": what reading the list answers, its number of pairs where it is not refused
 unfoldable pub pairs_reading : List ℕ → Reading

@@ -1,8 +1,7 @@
 -- What the promises on lists of pairs speak of: where a list is refused, which list is not, and the records that keep it.
 -- Assumes nothing.
-use Rattle.std.specs.Prelude.{◌*◌, ◌<◌, ◌≤◌, ℕ, length, ◌&&◌, false, true, List, ◌⊎◌, ◌≡◌}
+use Rattle.std.specs.Prelude.{◌*◌, ◌<◌, ◌≤◌, ℕ, length, ◌&&◌, false, true, List, ◌⊎◌, ◌≡◌, Ok}
 use Rattle.logic.specs.Record.{Record}
-use Rattle.blocks.specs.declared.Reading.TheVariants.{Accepted}
 use Rattle.pairs.specs.Pairs.{list_wrong, one_of, other_of, pair_count, pair_wrong, pairs_reading}
 
 -- "the lowest pair with 0 or two equal numbers"
@@ -19,7 +18,7 @@ WrongAt P p = ((list_wrong P ≡ true) × (p ≡ 0)) ⊎ ((list_wrong P ≡ fals
 -- a list "that 11 doesn't refuse"
 pub record ListRead (P : List ℕ) : Type 0 where
   pub count : ℕ
-  pub list_read : pairs_reading P ≡ Accepted count
+  pub list_read : pairs_reading P ≡ Ok count
 
 -- what such a list of n pairs is: "up to 64 pairs of excluding properties, four bytes a pair"
 pub record RightList (P : List ℕ) (n : ℕ) : Type 0 where

@@ -92,6 +92,7 @@ impl Iterator for Excluders<'_> {
 
     ghost remaining = { item_count (λ s. partners s.all.pairs.now s.of.0 (unwrap_or s.next 0)) };
 
+    // The loop follows links, and counts nothing.
     fn next(&mut self) -> Option<Property> {
         while let Some(k) = self.next {
             self.next = self.all.link(256 + usize::from(k));

@@ -1,6 +1,6 @@
 // The index of a list of pairs: the numbers under which the list names a property stand in the chain of a bucket, so that a property that
 // no pair has costs one look. A link is a byte, and 0 where a chain ends: an Option for each would not fit the 512 bytes that are lent.
-ghost use Rattle.std.specs.Prelude.{◌≡◌, ◌+◌, ◌<◌, ◌≤◌, min, get_or};
+ghost use Rattle.std.specs.Prelude.{◌≡◌, ◌+◌, ◌<◌, ◌≤◌, min};
 ghost use Rattle.pairs.specs.code.Index.{bucket_of, indexed_to, named_count, noted, number_beside};
 
 use crate::list::named_at;
@@ -8,14 +8,11 @@ use blocks::Property;
 
 // The number of the other property of its pair; 0 for number 0. The first of a pair is the odd one: no jump by it, since nothing foretells
 // which of the two a number is.
-pub fn number_beside(k: u8) -> usize
+pub(crate) fn number_beside(k: u8) -> usize
     ensures { (result ≡ number_beside k) × (result ≤ 256) }
 {
     let n = usize::from(k);
-    if n == 0 {
-        return 0;
-    }
-    n - 1 + 2 * (n % 2)
+    n.saturating_sub(1) + 2 * (n % 2)
 }
 
 // The bucket of a property.
@@ -25,7 +22,7 @@ pub(crate) fn bucket(p: Property) -> usize
     usize::from(p.0) % 256
 }
 
-// Puts number k in front of the chain of its bucket.
+// Puts number k in front of the chain of its bucket. List and index are no `Exclusions` here: that says that the index is whole.
 #[tactic(auto, unfolding(crate::specs::code::Index::noted))]
 fn note(pairs: &[u8], index: &mut [u8; 512], k: usize)
     requires { (1 ≤ k) × (k ≤ named_count pairs.now) × (k ≤ 128) }
@@ -37,25 +34,11 @@ fn note(pairs: &[u8], index: &mut [u8; 512], k: usize)
 }
 
 // Puts the properties of a list, those of 64 pairs at most, on the chains of an index, which is blank before.
-pub fn index_pairs(pairs: &[u8], index: &mut [u8; 512])
+pub(crate) fn index_pairs(pairs: &[u8], index: &mut [u8; 512])
     ensures { index.new ≡ indexed_to pairs.now index.old (min (named_count pairs.now) 128) }
 {
     let n = (pairs.len() / 4).min(64);
     for k in 0..2 * n {
         note(pairs, index, k + 1);
     }
-}
-
-// The last number in the bucket of a property, or 0.
-pub fn last_naming(index: &[u8; 512], p: Property) -> u8
-    ensures { result ≡ get_or index.now (bucket_of p.0) 0 }
-{
-    index[bucket(p)]
-}
-
-// The number before number k in its bucket, or 0.
-pub fn naming_before(index: &[u8; 512], k: u8) -> u8
-    ensures { result ≡ get_or index.now (256 + k) 0 }
-{
-    index[256 + usize::from(k)]
 }

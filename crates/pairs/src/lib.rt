@@ -11,5 +11,4 @@ mod list;
 mod reader;
 
 pub use exclusions::{Excluders, Exclusions};
-pub use index::{index_pairs, last_naming, naming_before, number_beside};
 pub use reader::read_pairs;

@@ -1,10 +1,11 @@
 // Reading a list of pairs: number 11 by its length, then pair by pair.
 ghost use Rattle.std.specs.Prelude.{◌≡◌, ◌<◌, ◌≤◌};
+ghost use Rattle.blocks.specs.Refusals.{refusal};
 ghost use Rattle.pairs.specs.Pairs.{pair_count, pair_wrong, pairs_reading};
 ghost use Rattle.pairs.specs.code.Search.{Finds, pair_right};
 
 use crate::list::named_at;
-use blocks::Reading;
+use blocks::{Cause, Refusal};
 
 // Whether pair i has a 0 or two equal numbers.
 fn pair_wrong(pairs: &[u8], i: usize) -> bool
@@ -24,19 +25,30 @@ fn first_wrong(pairs: &[u8], n: usize) -> Option<usize>
     (1..n + 1).find(|i| pair_wrong(pairs, *i))
 }
 
+// The refusal by number 11, whose input is 0, at a place.
+fn wrong_at(place: u16) -> Refusal
+    ensures { result ≡ refusal Cause.Pairs 0 place }
+{
+    Refusal {
+        cause: Cause::Pairs,
+        input: 0,
+        place,
+    }
+}
+
 // Reads a list of pairs: how many there are, or the refusal by number 11, whose input is 0.
-pub fn read_pairs(pairs: &[u8]) -> Reading
+pub fn read_pairs(pairs: &[u8]) -> Result<u16, Refusal>
     ensures { result ≡ pairs_reading pairs.now }
 {
     let n = pairs.len() / 4;
     if pairs.len() % 4 != 0 {
-        return Reading::Refused(11, 0, 0);
+        return Err(wrong_at(0));
     }
     if 64 < n {
-        return Reading::Refused(11, 0, 0);
+        return Err(wrong_at(0));
     }
     match first_wrong(pairs, n) {
-        Some(i) => Reading::Refused(11, 0, i as u16),
-        None => Reading::Accepted(n as u16),
+        Some(i) => Err(wrong_at(i as u16)),
+        None => Ok(n as u16),
     }
 }

@@ -14,17 +14,19 @@ use Rattle.blocks.proofs.RoundTrip.Unbroken.{Unbroken}
 use Rattle.blocks.specs.Entries.{entries_of, limit_of}
 use Rattle.blocks.specs.Faults.{Fault, block_faults, entry_faults, fault, faults, first, length_wrong}
 use Rattle.blocks.specs.Frame.{blocks_in, plain, total_in}
-use Rattle.blocks.specs.Promise.{None}
-use Rattle.blocks.specs.Reading.{answer, reading_of}
+use Rattle.blocks.specs.Promise.{NoneApplies}
+use Rattle.blocks.specs.Reading.{answer, reading_of, Reading}
 use Rattle.blocks.specs.code.Blockwise.{Whole}
-use Rattle.blocks.specs.declared.Reading.TheVariants.{Accepted, Refused}
-use Rattle.blocks.specs.declared.Reading.{Reading}
+use Rattle.std.specs.Prelude.{Ok}
+use Rattle.blocks.specs.Refusals.{refused}
 use Rattle.blocks.specs.declared.Schema.TheVariants.{Description, Named, Specimen}
 use Rattle.blocks.specs.declared.Schema.{Schema}
+use Rattle.blocks.specs.declared.Cause.{Cause}
+use Rattle.blocks.specs.declared.Cause.TheVariants.{Length}
 
 -- the lines of the length and of the blocks
 abbrev pub frame_faults : Schema → List ℕ → List Fault
-frame_faults σ s = fault (length_wrong σ s) 1 0 ∷ block_faults plain s (blocks_in s) 0 (blocks_in s)
+frame_faults σ s = fault (length_wrong σ s) Length 0 ∷ block_faults plain s (blocks_in s) 0 (blocks_in s)
 
 limit-most : (σ : Schema) → limit_of σ ≤ 32
 limit-most Description = omega arith
@@ -36,16 +38,16 @@ module _ (σ : Schema) (i : ℕ) (s : List ℕ) {r : Reading} (e : r ≡ answer 
   rows = entry_faults σ (entries_of s) 1 (length (entries_of s))
 
   -- what is refused by them is refused so
-  pub blocks-refused : {k j p : ℕ} → r ≡ Refused k j p → reading_of σ i s ≡ Refused k j p
+  pub blocks-refused : {k : Cause} {j p : ℕ} → r ≡ refused k j p → reading_of σ i s ≡ refused k j p
   unfolding reading_of faults
   blocks-refused q =
       let f = refused-finding i (total_in plain s) (first (frame_faults σ s)) (sym e ∙ q) in
       rw (first-append (frame_faults σ s) rows, f.1, f.0)
 
-  module _ {n : ℕ} (q : r ≡ Accepted n) where
+  module _ {n : ℕ} (q : r ≡ Ok n) where
     -- else its blocks are sound
     pub blocks-unbroken : Unbroken plain σ s
-    unfolding None
+    unfolding NoneApplies
     blocks-unbroken =
         let f = accepted-finding i (total_in plain s) (first (frame_faults σ s)) (sym e ∙ q) in
         let h = clean-none (frame_faults σ s) f.1 in

@@ -3,9 +3,10 @@ ghost use Rattle.std.specs.Prelude.{◌≡◌, cond, ◌+◌, ◌-◌, ◌*◌, 
 ghost use Rattle.base.specs.Range.{all};
 ghost use Rattle.blocks.specs.Frame.{plain, check_wrong, zero_at, used_ok, frame_wrong};
 ghost use Rattle.blocks.specs.Faults.{block_faults, first};
+ghost use Rattle.blocks.specs.Reading.{answer};
 ghost use Rattle.blocks.specs.code.ReadingSteps.{block_refusal};
 
-use blocks::{Finding, block_check, block_second, word};
+use blocks::{Cause, Refusal, block_check, block_second, word};
 
 // 1 where a byte is not zero, else what was found before. It takes no jump, so that the loop below goes over many bytes at a step.
 fn found_with(found: u8, b: u8) -> u8
@@ -66,30 +67,33 @@ fn frame_wrong(s: &[u8], n: usize, i: usize) -> bool
     !all_zero(s, at + 4 + 8 * used, at + 508)
 }
 
-// The number that block i of n is refused by, 2 before 3; 0 where none applies.
-fn block_refusal(s: &[u8], n: usize, i: usize) -> u8
+// Why block i of n is refused, 2 before 3, if it is.
+fn block_refusal(s: &[u8], n: usize, i: usize) -> Option<Cause>
     requires { (i < n) × (n ≤ 32) × (512 * n ≤ length s.now) }
     ensures { result ≡ block_refusal s.now n i }
 {
     if check_wrong(s, i) {
-        return 2;
+        return Some(Cause::Check);
     }
     if frame_wrong(s, n, i) {
-        return 3;
+        return Some(Cause::Framing);
     }
-    0
+    None
 }
 
-// The lowest of n blocks that breaks number 2 or 3.
-pub(crate) fn first_block_fault(s: &[u8], n: usize) -> Finding
+// Refuses input `input` by the lowest of its n blocks that breaks number 2 or 3.
+pub(crate) fn check_frames(s: &[u8], n: usize, input: u16) -> Result<(), Refusal>
     requires { (512 * n ≤ length s.now) × (n ≤ 32) }
-    ensures { result ≡ first (block_faults plain s.now n 0 n) }
+    ensures { result ≡ answer input tt (first (block_faults plain s.now n 0 n)) }
 {
     for i in 0..n {
-        let number = block_refusal(s, n, i);
-        if number != 0 {
-            return Finding::Faulty(number, (i + 1) as u16);
+        if let Some(cause) = block_refusal(s, n, i) {
+            return Err(Refusal {
+                cause,
+                input,
+                place: (i + 1) as u16,
+            });
         }
     }
-    Finding::Clean
+    Ok(())
 }

@@ -1,16 +1,15 @@
 // Reading an input: number 1 by its length, then its blocks, then its entries.
-ghost use Rattle.std.specs.Prelude.{◌≡◌, ◌∷◌, ◌*◌, ◌-◌, ◌≤◌, length};
+ghost use Rattle.std.specs.Prelude.{◌≡◌, ◌∷◌, ◌*◌, ◌-◌, ◌≤◌, MatchOption, false, length, true};
 ghost use Rattle.blocks.specs.Frame.{plain, blocks_in, used_in, total_in};
 ghost use Rattle.blocks.specs.Entries.{limit_of, entries_of};
 ghost use Rattle.blocks.specs.Faults.{block_faults, entry_faults, fault, first, length_wrong};
 ghost use Rattle.blocks.specs.Reading.{answer, reading_of};
 ghost use Rattle.blocks.specs.code.Blockwise.{Whole};
-ghost use Rattle.blocks.specs.code.ReadingSteps.{blocks_read};
 ghost use Rattle.blocks.specs.declared.Schema.{Schema};
 
-use crate::frame::first_block_fault;
-use crate::single::first_entry_fault;
-use blocks::{Finding, Reading, Schema, word};
+use crate::frame::check_frames;
+use crate::single::check_entries;
+use blocks::{Cause, Refusal, Schema, word};
 
 // The most blocks that an input may have.
 fn limit_of(schema: Schema) -> usize
@@ -23,18 +22,22 @@ fn limit_of(schema: Schema) -> usize
     }
 }
 
-// The blocks of an input; 0 where number 1 refuses its length.
-fn blocks_read(s: &[u8], schema: Schema) -> usize
-    ensures { (result ≡ blocks_read schema s.now) × (result ≤ 32) × (512 * result ≤ length s.now) }
+// The blocks of an input, if number 1 allows its length.
+fn blocks_read(s: &[u8], schema: Schema) -> Option<usize>
+    ensures { MatchOption result (length_wrong schema s.now ≡ true)
+        (λ n. (length_wrong schema s.now ≡ false) × (n ≡ blocks_in s.now) × (1 ≤ n) × (n ≤ 32) × (512 * n ≤ length s.now)) }
 {
     let n = s.len();
+    if n == 0 {
+        return None;
+    }
     if n % 512 != 0 {
-        return 0;
+        return None;
     }
     if limit_of(schema) < n / 512 {
-        return 0;
+        return None;
     }
-    n / 512
+    Some(n / 512)
 }
 
 // How many entries n blocks have whose frames are sound.
@@ -47,52 +50,48 @@ fn entries_in(s: &[u8], n: usize) -> usize
 }
 
 // Reads the entries of an input whose blocks are sound.
-fn read_entries(s: &[u8], schema: Schema, input: u16, total: u16) -> Reading
+fn read_entries(s: &[u8], schema: Schema, input: u16, total: u16) -> Result<u16, Refusal>
     requires { (total ≡ length (entries_of s.now)) × (total ≤ 2016) × Whole s.now total }
     ensures { result ≡ answer input total (first (entry_faults schema (entries_of s.now) 1 total)) }
 {
-    let found = first_entry_fault(s, schema, total as usize);
-    match found {
-        Finding::Faulty(number, place) => Reading::Refused(number, input, place),
-        Finding::Clean => Reading::Accepted(total),
-    }
+    check_entries(s, schema, total as usize, input)?;
+    Ok(total)
 }
 
 // Reads the blocks of an input and not its entries: how many these are, or the refusal by number 1, 2 or 3. It stands in each function that calls it.
 #[inline(always)]
-pub fn read_blocks(s: &[u8], schema: Schema, input: u16) -> Reading
-    ensures { result ≡ answer input (total_in plain s.now) (first (fault (length_wrong schema s.now) 1 0 ∷ block_faults plain s.now (blocks_in s.now) 0 (blocks_in s.now))) }
+pub fn read_blocks(s: &[u8], schema: Schema, input: u16) -> Result<u16, Refusal>
+    ensures { result ≡ answer input (total_in plain s.now) (first (fault (length_wrong schema s.now) Cause.Length 0 ∷ block_faults plain s.now (blocks_in s.now) 0 (blocks_in s.now))) }
 {
-    let n = blocks_read(s, schema);
-    if n == 0 {
-        return Reading::Refused(1, input, 0);
-    }
-    match first_block_fault(s, n) {
-        Finding::Faulty(number, place) => Reading::Refused(number, input, place),
-        Finding::Clean => Reading::Accepted(entries_in(s, n) as u16),
-    }
+    let Some(n) = blocks_read(s, schema) else {
+        return Err(Refusal {
+            cause: Cause::Length,
+            input,
+            place: 0,
+        });
+    };
+    check_frames(s, n, input)?;
+    Ok(entries_in(s, n) as u16)
 }
 
 // Reads an input as a description, with or without names, or a specimen: its number of entries, or the refusal by the first number that applies. The
 // input's own number is only handed on, into the refusal.
-pub fn read(s: &[u8], schema: Schema, input: u16) -> Reading
+pub fn read(s: &[u8], schema: Schema, input: u16) -> Result<u16, Refusal>
     ensures { result ≡ reading_of schema input s.now }
 {
-    match read_blocks(s, schema, input) {
-        Reading::Accepted(total) => read_entries(s, schema, input, total),
-        Reading::Refused(number, at, place) => Reading::Refused(number, at, place),
-    }
+    let total = read_blocks(s, schema, input)?;
+    read_entries(s, schema, input, total)
 }
 
 // Reads a description as input 1: 1 to 16 blocks of entries of kinds 1 to 6.
-pub fn read_description(s: &[u8]) -> Reading
+pub fn read_description(s: &[u8]) -> Result<u16, Refusal>
     ensures { result ≡ reading_of Schema.Description 1 s.now }
 {
     read(s, Schema::Description, 1)
 }
 
 // Reads a specimen as input 1: 1 to 32 blocks of entries of kinds 1 and 7.
-pub fn read_specimen(s: &[u8]) -> Reading
+pub fn read_specimen(s: &[u8]) -> Result<u16, Refusal>
     ensures { result ≡ reading_of Schema.Specimen 1 s.now }
 {
     read(s, Schema::Specimen, 1)

@@ -3,20 +3,21 @@ ghost use Rattle.std.specs.Prelude.{◌≡◌, ◌||◌, false, not, true, ◌+�
 ghost use Rattle.base.specs.Range.{bit};
 ghost use Rattle.blocks.specs.Entries.{kind_ok, name_given, name_ok, names_ok, number_ok, form_ok, owning_kind, entries_of};
 ghost use Rattle.blocks.specs.Faults.{first};
+ghost use Rattle.blocks.specs.Reading.{answer};
 ghost use Rattle.blocks.specs.code.Blockwise.{Whole};
 ghost use Rattle.blocks.specs.code.ReadingSteps.{entry_refusal, level_under, rule_faults};
 ghost use Rattle.blocks.specs.declared.Schema.{Schema};
 
-use blocks::{Entry, Finding, Schema, entries_in_order};
+use blocks::{Cause, Entry, Refusal, Schema, entries_in_order, kinds};
 
 // Whether a kind is one of a description that may name others.
 fn named_kind(kind: u8) -> bool
     ensures { result ≡ kind_ok (Schema.Named 0) kind }
 {
-    if kind <= 6 {
+    if kind <= kinds::NOTHING {
         return 0 < kind;
     }
-    kind == 9
+    kind == kinds::NAME
 }
 
 // Whether a kind stands in the schema's table.
@@ -24,8 +25,8 @@ fn kind_ok(schema: Schema, kind: u8) -> bool
     ensures { result ≡ kind_ok schema kind }
 {
     match schema {
-        Schema::Description => 0 < kind && kind <= 6,
-        Schema::Specimen => kind == 1 || kind == 7,
+        Schema::Description => 0 < kind && kind <= kinds::NOTHING, // the kinds from 1 on
+        Schema::Specimen => kind == kinds::HAS || kind == kinds::GROUP,
         Schema::Named(_) => named_kind(kind),
     }
 }
@@ -35,9 +36,9 @@ fn owning_kind(schema: Schema) -> u8
     ensures { result ≡ owning_kind schema }
 {
     match schema {
-        Schema::Description => 5,
-        Schema::Specimen => 7,
-        Schema::Named(_) => 5,
+        Schema::Description => kinds::EVERY,
+        Schema::Specimen => kinds::GROUP,
+        Schema::Named(_) => kinds::EVERY,
     }
 }
 
@@ -46,9 +47,9 @@ fn name_ok(kind: u8, name: u16) -> bool
     ensures { result ≡ name_ok kind name }
 {
     if 0 < name {
-        return kind != 6;
+        return kind != kinds::NOTHING;
     }
-    kind == 6 || kind == 9
+    kind == kinds::NOTHING || kind == kinds::NAME
 }
 
 // 0 where the table allows any number for a kind, else 1. Kinds end at 9, and 8 and 9 are like 0 and 1 here; so all that is asked of a kind
@@ -57,7 +58,7 @@ fn pinned(kind: u8) -> u32
     requires { kind ≤ 9 }
     ensures { result ≡ bit (not (eqb kind 3 || (eqb kind 4 || eqb kind 7))) }
 {
-    let low = kind % 8;
+    let low = kind % 8; // of two kinds each: no kind's name
     match low {
         0 => 1,
         1 => 1,
@@ -99,7 +100,7 @@ fn form_ok(schema: Schema, e: Entry) -> bool
 fn name_given(most: u16, e: Entry) -> bool
     ensures { result ≡ name_given most e }
 {
-    if e.kind != 9 {
+    if e.kind != kinds::NAME {
         return true;
     }
     0 < e.name && e.name <= most
@@ -130,11 +131,11 @@ fn described_weight(kind: u8) -> u32
     ensures { (result ≤ 2) × (result ≤ 1 → (kind_ok Schema.Description kind ≡ true) × (kind < 6)) × (result ≡ 0 → (eqb kind 3 || (eqb kind 4 || eqb kind 7)) ≡ true) }
 {
     match kind {
-        1 => 1,
-        2 => 1,
-        3 => 0,
-        4 => 0,
-        5 => 1,
+        kinds::HAS => 1,
+        kinds::LACKS => 1,
+        kinds::AT_LEAST => 0,
+        kinds::AT_MOST => 0,
+        kinds::EVERY => 1,
         _ => 2,
     }
 }
@@ -144,8 +145,8 @@ fn grouped_weight(kind: u8) -> u32
     ensures { (result ≤ 2) × (result ≤ 1 → (kind_ok Schema.Specimen kind ≡ true) × (kind < 8)) × (result ≡ 0 → (eqb kind 3 || (eqb kind 4 || eqb kind 7)) ≡ true) }
 {
     match kind {
-        1 => 1,
-        7 => 0,
+        kinds::HAS => 1,
+        kinds::GROUP => 0,
         _ => 2,
     }
 }
@@ -163,7 +164,7 @@ fn weight_of(schema: Schema, kind: u8) -> u32
 
 // Whether a look shows that an entry whose owner has level l is right. Of entries that are, most are told here.
 fn plainly_right(schema: Schema, e: Entry, l: u8) -> bool
-    ensures { result ≡ true → entry_refusal schema e l ≡ 0 }
+    ensures { result ≡ true → entry_refusal schema e l ≡ None }
 {
     if e.reserved != 0 {
         return false;
@@ -180,31 +181,31 @@ fn plainly_right(schema: Schema, e: Entry, l: u8) -> bool
     weight_of(schema, e.kind) * (e.number as u32 + 1) <= 1
 }
 
-// The number that an entry is refused by whose owner has level l, test by test: 4 before 13 before 5 before 6; 0 where none applies.
-fn first_refusal(schema: Schema, e: Entry, l: u8) -> u8
+// Why an entry is refused whose owner has level l, if it is, test by test: 4 before 13 before 5 before 6.
+fn first_refusal(schema: Schema, e: Entry, l: u8) -> Option<Cause>
     ensures { result ≡ entry_refusal schema e l }
 {
     if !form_ok(schema, e) {
-        return 4;
+        return Some(Cause::Form);
     }
     if !names_ok(schema, e) {
-        return 13;
+        return Some(Cause::Name);
     }
     if l == 0 {
-        return 5;
+        return Some(Cause::Owner);
     }
     if 33 < l {
-        return 6;
+        return Some(Cause::Depth);
     }
-    0
+    None
 }
 
-// The number that an entry is refused by whose owner has level l, 4 before 13 before 5 before 6; 0 where none applies.
-pub fn entry_refusal(schema: Schema, e: Entry, l: u8) -> u8
+// Why an entry is refused whose owner has level l, if it is: 4 before 13 before 5 before 6.
+pub fn entry_refusal(schema: Schema, e: Entry, l: u8) -> Option<Cause>
     ensures { result ≡ entry_refusal schema e l }
 {
     if plainly_right(schema, e, l) {
-        return 0;
+        return None;
     }
     first_refusal(schema, e, l)
 }
@@ -223,42 +224,61 @@ pub fn level_under(schema: Schema, kind: u8, l: u8) -> u8
 // The lowest of `total` entries that breaks number 4, 13, 5 or 6, with a table that has room for the level of each. Each entry is decoded once, and
 // the table holds the level of each entry before it, so that neither its owner nor its chain of owners is looked up again.
 #[inline(always)]
-fn fault_by_levels(s: &[u8], schema: Schema, total: usize, level: &mut [u8]) -> Finding
+fn fault_by_levels(
+    s: &[u8],
+    schema: Schema,
+    total: usize,
+    level: &mut [u8],
+    input: u16,
+) -> Result<(), Refusal>
     requires { (total ≡ length (entries_of s.now)) × (total ≤ 2016) × Whole s.now total × (total < length level.old) }
-    ensures { result ≡ first (rule_faults schema (entries_of s.now) 1 total) }
+    ensures { result ≡ answer input tt (first (rule_faults schema (entries_of s.now) 1 total)) }
 {
     level[0] = 1;
     for (before, bytes) in entries_in_order(s, total).enumerate() {
         let e = Entry::from(bytes);
         let n = before + 1;
         let l = owner_level(&level[..n], e.owner);
-        let number = entry_refusal(schema, e, l);
-        if number != 0 {
-            return Finding::Faulty(number, n as u16);
+        if let Some(cause) = entry_refusal(schema, e, l) {
+            return Err(Refusal {
+                cause,
+                input,
+                place: n as u16,
+            });
         }
         level[n] = level_under(schema, e.kind, l);
     }
-    Finding::Clean
+    Ok(())
 }
 
-// The same with a table of its own, of N numbers.
+// The same with a table of its own, of N numbers: of fixed size, since there is no heap.
 #[inline(always)]
-fn fault_in_table<const N: usize>(s: &[u8], schema: Schema, total: usize) -> Finding
+fn fault_in_table<const N: usize>(
+    s: &[u8],
+    schema: Schema,
+    total: usize,
+    input: u16,
+) -> Result<(), Refusal>
     requires { (total ≡ length (entries_of s.now)) × (total < N) × (N ≤ 2017) × Whole s.now total }
-    ensures { result ≡ first (rule_faults schema (entries_of s.now) 1 total) }
+    ensures { result ≡ answer input tt (first (rule_faults schema (entries_of s.now) 1 total)) }
 {
     let mut level = [0u8; N];
-    fault_by_levels(s, schema, total, &mut level)
+    fault_by_levels(s, schema, total, &mut level, input)
 }
 
 // The lowest of `total` entries that breaks number 4, 13, 5 or 6. Few entries take a small table, which is sooner cleared.
 #[inline(always)]
-pub(crate) fn first_rule_fault(s: &[u8], schema: Schema, total: usize) -> Finding
+pub(crate) fn first_rule_fault(
+    s: &[u8],
+    schema: Schema,
+    total: usize,
+    input: u16,
+) -> Result<(), Refusal>
     requires { (total ≡ length (entries_of s.now)) × (total ≤ 2016) × (512 * ((total + 62) / 63) ≤ length s.now) }
-    ensures { result ≡ first (rule_faults schema (entries_of s.now) 1 total) }
+    ensures { result ≡ answer input tt (first (rule_faults schema (entries_of s.now) 1 total)) }
 {
     if total < 64 {
-        return fault_in_table::<64>(s, schema, total);
+        return fault_in_table::<64>(s, schema, total, input);
     }
-    fault_in_table::<2017>(s, schema, total)
+    fault_in_table::<2017>(s, schema, total, input)
 }

@@ -4,7 +4,8 @@
 ghost use Rattle.std.specs.Prelude.{◌≡◌, false, not, List, ◌+◌, ◌-◌, ◌/◌, ◌*◌, ◌≤◌, ◌<◌, ℕ, length, get_or};
 ghost use Rattle.base.specs.Search.{first_from};
 ghost use Rattle.blocks.specs.Entries.{entries_of, nth};
-ghost use Rattle.blocks.specs.Faults.{entry_faults, first};
+ghost use Rattle.blocks.specs.Faults.{Finding, entry_faults, first};
+ghost use Rattle.blocks.specs.Reading.{answer};
 ghost use Rattle.blocks.specs.Single.{single_group, single_ok};
 ghost use Rattle.blocks.specs.code.Blockwise.{Whole};
 ghost use Rattle.blocks.specs.code.SingleSteps.{place, stand_before};
@@ -13,14 +14,14 @@ ghost use Rattle.blocks.specs.declared.Entry.{Entry};
 ghost use Rattle.blocks.specs.declared.Schema.{Schema};
 
 use crate::rules::first_rule_fault;
-use blocks::{Entry, Finding, Schema, entries_in_order};
+use blocks::{Cause, Entry, Refusal, Schema, entries_in_order, kinds};
 
 // Whether an entry is a group by a link that leads to one item only. The link is tested first: most specimens have no such number at all,
 // so that the test is guessed right.
 fn single_group(e: Entry) -> bool
     ensures { result ≡ single_group e }
 {
-    32768 <= e.name && e.kind == 7
+    32768 <= e.name && e.kind == kinds::GROUP
 }
 
 // An owner and a link as one number, by which the table keeps them.
@@ -39,7 +40,8 @@ fn start_of(key: u32, most: usize) -> usize
 }
 
 // The cell that has a key, or the free one where it is to stand: the first from where its search begins. Owners and links that were chosen for it
-// all begin at one cell; then each search goes over all groups met, cell by cell, and a specimen of 2,016 groups takes a millisecond or so.
+// all begin at one cell; then each search goes over all groups met, cell by cell, and a specimen of 2,016 groups takes a millisecond or so. A free
+// cell is 0: an Option for each would double the table.
 fn cell_for(cells: &[u32], most: usize, key: u32) -> usize
     requires { Room most cells.now }
     ensures { Ends cells.now most key result × (result < length cells.now) }
@@ -52,7 +54,8 @@ fn cell_for(cells: &[u32], most: usize, key: u32) -> usize
     c
 }
 
-// Whether entry e breaks number 9, where the table holds the groups before it. If it does not, the table then holds it too.
+// Whether entry e breaks number 9, where the table holds the groups before it. If it does not, the table then holds it too. The cells and their
+// `most` are no struct: which entries they hold changes with each store, and only the loop knows it.
 fn brings_second(cells: &mut [u32], most: usize, e: Entry) -> bool
     requires { Room most cells.old }
     ensures { (es : List Entry) → (n : ℕ) → e ≡ nth es (n + 1) → Kept es most cells.old n
@@ -87,7 +90,7 @@ fn double_by(s: &[u8], n: usize, cells: &mut [u32], most: usize) -> Option<usize
     None
 }
 
-// The same with a table of its own, of N cells. The searches for keys begin in the first MOST of them.
+// The same with a table of its own, of N cells: of fixed size, since there is no heap. The searches for keys begin in the first MOST of them.
 #[inline(always)]
 fn double_in_table<const N: usize, const MOST: usize>(s: &[u8], n: usize) -> Option<usize>
     requires { (n ≤ length (entries_of s.now)) × (n ≤ 2016) × Whole s.now n × (0 < MOST) × (n ≤ MOST / 2) × (N ≡ MOST + MOST / 2) × (N ≤ 6144) }
@@ -112,36 +115,45 @@ fn first_double(s: &[u8], n: usize) -> Option<usize>
     double_in_table::<6144, 4096>(s, n)
 }
 
-// How many of `total` entries stand before what was found.
-fn stand_before(total: usize, found: Finding) -> usize
-    ensures { result ≡ stand_before total found }
+// How many of `total` entries stand before the one that is refused, if one is.
+fn stand_before(total: usize, found: Result<(), Refusal>) -> usize
+    ensures { (input : ℕ) (f : Finding) → found ≡ answer input tt f → result ≡ stand_before total f }
 {
     match found {
-        Finding::Faulty(_, place) => usize::from(place).saturating_sub(1),
-        Finding::Clean => total,
+        Err(refusal) => usize::from(refusal.place).saturating_sub(1),
+        Ok(()) => total,
     }
 }
 
-// The lowest of a specimen's entries that breaks number 4, 5, 6 or 9.
-fn specimen_fault(s: &[u8], total: usize) -> Finding
+// Refuses a specimen by the lowest of its entries that breaks number 4, 5, 6 or 9.
+fn specimen_fault(s: &[u8], total: usize, input: u16) -> Result<(), Refusal>
     requires { (total ≡ length (entries_of s.now)) × (total ≤ 2016) × Whole s.now total }
-    ensures { result ≡ first (entry_faults Schema.Specimen (entries_of s.now) 1 total) }
+    ensures { result ≡ answer input tt (first (entry_faults Schema.Specimen (entries_of s.now) 1 total)) }
 {
-    let found = first_rule_fault(s, Schema::Specimen, total);
+    let found = first_rule_fault(s, Schema::Specimen, total, input);
     match first_double(s, stand_before(total, found)) {
-        Some(d) => Finding::Faulty(9, d as u16),
+        Some(d) => Err(Refusal {
+            cause: Cause::Double,
+            input,
+            place: d as u16,
+        }),
         None => found,
     }
 }
 
-// The lowest of `total` entries that breaks a number of its schema's table.
-pub(crate) fn first_entry_fault(s: &[u8], schema: Schema, total: usize) -> Finding
+// Refuses input `input` by the lowest of its `total` entries that breaks a number of its schema's table.
+pub(crate) fn check_entries(
+    s: &[u8],
+    schema: Schema,
+    total: usize,
+    input: u16,
+) -> Result<(), Refusal>
     requires { (total ≡ length (entries_of s.now)) × (total ≤ 2016) × (512 * ((total + 62) / 63) ≤ length s.now) }
-    ensures { result ≡ first (entry_faults schema (entries_of s.now) 1 total) }
+    ensures { result ≡ answer input tt (first (entry_faults schema (entries_of s.now) 1 total)) }
 {
     match schema {
-        Schema::Description => first_rule_fault(s, Schema::Description, total),
-        Schema::Specimen => specimen_fault(s, total),
-        Schema::Named(most) => first_rule_fault(s, Schema::Named(most), total),
+        Schema::Description => first_rule_fault(s, Schema::Description, total, input),
+        Schema::Specimen => specimen_fault(s, total, input),
+        Schema::Named(most) => first_rule_fault(s, Schema::Named(most), total, input),
     }
 }

@@ -16,7 +16,7 @@ use Rattle.blocks.specs.Faults.{length_wrong}
 use Rattle.blocks.specs.Frame.{blocks_in, plain}
 use Rattle.blocks.specs.Reading.{reading_of}
 use Rattle.blocks.specs.Words.{word_at}
-use Rattle.blocks.specs.declared.Reading.TheVariants.{Accepted}
+use Rattle.std.specs.Prelude.{Ok}
 use Rattle.blocks.specs.declared.Schema.TheVariants.{Description}
 use Rattle.lists.proofs.FirstPart.{no_second}
 use Rattle.lists.specs.Parts.{Begins, first_length, first_part, second_part}
@@ -45,7 +45,7 @@ record Numbered (s : List ℕ) : Type 0 where
   long : length s ≡ 512 * blocks
   number : (i : ℕ) → i < blocks → word_at s (512 * i) ≡ suc i
 
-numbered : (i : ℕ) (s : List ℕ) {n : ℕ} → reading_of Description i s ≡ Accepted n → Numbered s
+numbered : (i : ℕ) (s : List ℕ) {n : ℕ} → reading_of Description i s ≡ Ok n → Numbered s
 unfolding length_wrong blocks_in
 numbered i s e =
     let u = (sound-of-accepted Description i s e).blocks in
@@ -74,7 +74,7 @@ begins-none h k b =
 -- ---- on standard input
 
 -- "C runs up to the first later whole block with number 1, D is the rest"
-pub joined-divides : (i j : ℕ) (c d : List ℕ) {n m : ℕ} → reading_of Description i c ≡ Accepted n → reading_of Description j d ≡ Accepted m
+pub joined-divides : (i j : ℕ) (c d : List ℕ) {n m : ℕ} → reading_of Description i c ≡ Ok n → reading_of Description j d ≡ Ok m
     → first_length (c ++ d) ≡ length c
 joined-divides i j c d p q = divided-by-first (c ++ d) (first (numbered i c p) (numbered j d q))
   where
@@ -97,12 +97,12 @@ joined-divides i j c d p q = divided-by-first (c ++ d) (first (numbered i c p) (
               omega arith;
         }
 
-pub joined-parts : (i j : ℕ) (c d : List ℕ) {n m : ℕ} → reading_of Description i c ≡ Accepted n → reading_of Description j d ≡ Accepted m
+pub joined-parts : (i j : ℕ) (c d : List ℕ) {n m : ℕ} → reading_of Description i c ≡ Ok n → reading_of Description j d ≡ Ok m
     → (first_part (c ++ d) ≡ c) × (second_part (c ++ d) ≡ d)
 joined-parts i j c d p q =
     let e = joined-divides i j c d p q in
     (rw (e, take-append_seam), rw (e, drop-append_seam))
 
 -- "with no such block C is all of it and D has length 0": as with one description alone
-pub alone-parts : (i : ℕ) (c : List ℕ) {n : ℕ} → reading_of Description i c ≡ Accepted n → (first_part c ≡ c) × (second_part c ≡ [])
+pub alone-parts : (i : ℕ) (c : List ℕ) {n : ℕ} → reading_of Description i c ≡ Ok n → (first_part c ≡ c) × (second_part c ≡ [])
 alone-parts i c p = no_second c (begins-none (numbered i c p))

@@ -7,15 +7,17 @@ use mathlib.Core.List.{List, [], ◌++◌, ◌∷◌}
 use mathlib.Core.Logic.{◌≢◌}
 use mathlib.Core.Path.{◌∙◌, ◌≡◌, ap, sym}
 use native.Mathlib.Omega.{arith}
+use Rattle.std.specs.Prelude.{None, Ok, Err}
 use Rattle.base.proofs.Tests.{eq-cases, eq-eqb, ne_eqb}
 use Rattle.blocks.specs.Entries.{entries_of}
 use Rattle.blocks.specs.Faults.{faults, first, length_wrong}
 use Rattle.blocks.specs.Reading.{reading_of}
-use Rattle.blocks.specs.declared.Reading.TheVariants as reading
+use Rattle.blocks.specs.Refusals.{refusal, refused}
+use Rattle.blocks.specs.declared.Cause.TheVariants.{Length}
+use Rattle.blocks.specs.declared.Refusal.{Refusal}
 use Rattle.blocks.specs.declared.Schema.TheVariants.{Description}
 use Rattle.compare.proofs.AnswerLaws.{compared, first-refused, not-contained-ready, not-verdict, second-refused}
-use Rattle.compare.specs.Answer.{output_under}
-use Rattle.compare.specs.declared.Comparison.TheVariants as comparison
+use Rattle.compare.specs.Answer.{not_contained, output_under}
 use Rattle.lists.proofs.FirstPart.{no_second}
 use Rattle.lists.specs.Parts.{first_part, second_part}
 use Rattle.logic.specs.Background.{standing}
@@ -39,17 +41,17 @@ printed s out = lines_for (first_part s) (second_part s) out
 
 module _ (c d out : List ℕ) where
   -- "It prints `contained`"
-  pub contained-lines : compare_named [] [] c d out ≡ comparison.Contained → lines_for c d out ≡ Contained ∷ []
+  pub contained-lines : compare_named [] [] c d out ≡ Ok None → lines_for c d out ≡ Contained ∷ []
   unfolding lines_of lines_from
   contained-lines e = rw (lines_of, e)
 
   -- "or `refused N input I place P`"
-  pub refused-lines : {k i p : ℕ} → compare_named [] [] c d out ≡ comparison.Refused k i p → lines_for c d out ≡ Refused k i p ∷ []
+  pub refused-lines : {e : Refusal} → compare_named [] [] c d out ≡ Err e → lines_for c d out ≡ Refused e ∷ []
   unfolding lines_of lines_from
-  refused-lines e = rw (lines_of, e)
+  refused-lines h = rw (lines_of, h)
 
   -- "or `not contained E` and one line for each specimen entry": of the specimen that the comparison's theorems speak of
-  pub not-contained-lines : {j k : ℕ} → compare_named [] [] c d out ≡ comparison.NotContained j k
+  pub not-contained-lines : {j k : ℕ} → compare_named [] [] c d out ≡ not_contained j k
       → lines_for c d out ≡ NotContained j ∷ entry_lines 1 (specimen_of standing (entries_of c) (entries_of d))
   unfolding lines_of output_under
   not-contained-lines {j} {k} e =
@@ -64,11 +66,11 @@ module _ (c d out : List ℕ) where
 -- ---- by the input
 
 -- two accepted descriptions, joined, are compared with each other
-pub joined-printed : (c d out : List ℕ) {n m : ℕ} → reading_of Description 1 c ≡ reading.Accepted n → reading_of Description 2 d ≡ reading.Accepted m
+pub joined-printed : (c d out : List ℕ) {n m : ℕ} → reading_of Description 1 c ≡ Ok n → reading_of Description 2 d ≡ Ok m
     → printed (c ++ d) out ≡ lines_for c d out
 joined-printed c d out p q = let parts = joined-parts 1 2 c d p q in rw (parts.0, parts.1)
 
-length-refused : (i : ℕ) (s : List ℕ) → length_wrong Description s ≡ true → reading_of Description i s ≡ reading.Refused 1 i 0
+length-refused : (i : ℕ) (s : List ℕ) → length_wrong Description s ≡ true → reading_of Description i s ≡ refused Length i 0
 unfolding reading_of faults first
 length-refused i s e = simp (reading_of, faults, e)
 
@@ -79,7 +81,7 @@ length-wrong s h n =
     (λ q. let r : length s % 512 ≢ 0 = λ z. omega arith in rw (length_wrong, ne_eqb q, ne_eqb r))
 
 -- "612 bytes or nothing at all: `refused 1 input 1 place 0`": so for every input that is shorter than two blocks and is not one block
-pub short-printed : (s out : List ℕ) → length s < 1024 → length s ≢ 512 → printed s out ≡ Refused 1 1 0 ∷ []
+pub short-printed : (s out : List ℕ) → length s < 1024 → length s ≢ 512 → printed s out ≡ Refused (refusal Length 1 0) ∷ []
 short-printed s out h n =
     let none = no_second s (λ k b. let w = b.whole in let l = b.later in omega arith) in
     refused-lines (first_part s) (second_part s) out
@@ -87,7 +89,7 @@ short-printed s out h n =
     (first-refused standing (first_part s) (second_part s) out (ap (reading_of Description 1) none.0 ∙ length-refused 1 s (length-wrong s h n))))
 
 -- "A valid C alone: `refused 1 input 2 place 0`"
-pub alone-printed : (c out : List ℕ) {n : ℕ} → reading_of Description 1 c ≡ reading.Accepted n → printed c out ≡ Refused 1 2 0 ∷ []
+pub alone-printed : (c out : List ℕ) {n : ℕ} → reading_of Description 1 c ≡ Ok n → printed c out ≡ Refused (refusal Length 2 0) ∷ []
 alone-printed c out e =
     let parts = alone-parts 1 c e in
     refused-lines (first_part c) (second_part c) out

@@ -7,14 +7,15 @@ use mathlib.Core.List.{List, [], ◌++◌, append_assoc, append-nil}
 use mathlib.Core.Logic.{◌≢◌}
 use mathlib.Core.Path.{◌∙◌, ◌≡◌, ap, ap₂, refl, sym}
 use native.Mathlib.Omega.{arith}
+use Rattle.std.specs.Prelude.{None, Ok, Err}
 use Rattle.base.proofs.Tests.{eq-eqb, ne_eqb}
 use Rattle.blocks.specs.Entries.{entries_of}
 use Rattle.blocks.specs.Reading.{reading_of}
+use Rattle.blocks.specs.Refusals.{number_of}
+use Rattle.blocks.specs.declared.Refusal.{Refusal}
 use Rattle.blocks.specs.declared.Entry.{Entry}
-use Rattle.blocks.specs.declared.Reading.TheVariants as reading
 use Rattle.blocks.specs.declared.Schema.TheVariants.{Description}
-use Rattle.compare.specs.declared.Comparison.{Comparison}
-use Rattle.compare.specs.declared.Comparison.TheVariants as comparison
+use Rattle.compare.specs.Answer.{Comparison, not_contained}
 use Rattle.lists.proofs.FirstPart.{parts_join}
 use Rattle.lists.specs.Parts.{first_part, second_part}
 use Rattle.logic.specs.Background.{standing}
@@ -57,18 +58,18 @@ output-room s h =
 
 module _ (c d out : List ℕ) where
   -- "It prints `contained`"
-  pub contained-text : compare_named [] [] c d out ≡ comparison.Contained → lines_text (lines_for c d out) ≡ ascii "contained\n"
+  pub contained-text : compare_named [] [] c d out ≡ Ok None → lines_text (lines_for c d out) ≡ ascii "contained\n"
   unfolding lines_text line_text line_words
   contained-text e = ap lines_text (contained-lines c d out e)
 
   -- "or `refused N input I place P`"
-  pub refused-text : {k i p : ℕ} → compare_named [] [] c d out ≡ comparison.Refused k i p
-      → lines_text (lines_for c d out) ≡ ascii "refused " ++ (decimal k ++ (ascii " input " ++ (decimal i ++ (ascii " place " ++ (decimal p ++ ascii "\n")))))
+  pub refused-text : {e : Refusal} → compare_named [] [] c d out ≡ Err e
+      → lines_text (lines_for c d out) ≡ ascii "refused " ++ (decimal (number_of e.cause) ++ (ascii " input " ++ (decimal e.input ++ (ascii " place " ++ (decimal e.place ++ ascii "\n")))))
   unfolding lines_text line_text line_words
-  refused-text {k} {i} {p} e = ap lines_text (refused-lines c d out e) ∙ rw append-nil (simp append_assoc)
+  refused-text h = ap lines_text (refused-lines c d out h) ∙ rw append-nil (simp append_assoc)
 
   -- "or `not contained E` and one line for each specimen entry"
-  pub not-contained-text : {j k : ℕ} → compare_named [] [] c d out ≡ comparison.NotContained j k
+  pub not-contained-text : {j k : ℕ} → compare_named [] [] c d out ≡ not_contained j k
       → lines_text (lines_for c d out) ≡ ascii "not contained " ++ (decimal j ++ (ascii "\n" ++ lines_text (entry_lines 1 (specimen_of standing (entries_of c) (entries_of d)))))
   unfolding lines_text line_text line_words
   not-contained-text e = ap lines_text (not-contained-lines c d out e) ∙ simp append_assoc
@@ -94,6 +95,6 @@ unfolding lines_text line_text line_words decimal digits_of
 short-text s out h n = ap lines_text (short-printed s out h n)
 
 -- "A valid C alone: `refused 1 input 2 place 0`"
-pub alone-text : (c out : List ℕ) {n : ℕ} → reading_of Description 1 c ≡ reading.Accepted n → lines_text (printed c out) ≡ ascii "refused 1 input 2 place 0\n"
+pub alone-text : (c out : List ℕ) {n : ℕ} → reading_of Description 1 c ≡ Ok n → lines_text (printed c out) ≡ ascii "refused 1 input 2 place 0\n"
 unfolding lines_text line_text line_words decimal digits_of
 alone-text c out e = ap lines_text (alone-printed c out e)

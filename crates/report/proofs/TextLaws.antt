@@ -2,11 +2,13 @@
 -- Assumes nothing.
 use Prim.Native.Nat.{◌<◌, ℕ}
 use mathlib.Core.List.{List, ◌++◌, append_assoc}
-use mathlib.Core.Path.{◌≡◌}
+use mathlib.Core.Path.{◌∙◌, ◌≡◌, ap}
 use native.Mathlib.Omega.{arith}
 use Rattle.std.specs.Fmt as std
+use Rattle.blocks.specs.Refusals.{number_of}
 use Rattle.blocks.specs.declared.Link.{Link}
 use Rattle.blocks.specs.declared.Property.{Property}
+use Rattle.blocks.specs.declared.Refusal.{Refusal}
 use Rattle.report.proofs.Decimals.{decimal_written}
 use Rattle.report.specs.Text.{ascii, decimal, line_words}
 use Rattle.report.specs.declared.Line.TheVariants.{Group, Has, Refused}
@@ -24,13 +26,13 @@ four-joined w d v e u f s g p q r o h₁ h₂ h₃ h₄ = simp (h₄, h₃, h₂
 
 -- ---- the words of a line
 
-pub refused-words : (n i p : ℕ) {t₁ t₂ t₃ : List ℕ} → n < 256 → i < 65536 → p < 65536
-    → t₁ ≡ ascii "refused " ++ std.decimal n → t₂ ≡ t₁ ++ (ascii " input " ++ std.decimal i) → t₃ ≡ t₂ ++ (ascii " place " ++ std.decimal p)
-    → t₃ ≡ line_words (Refused n i p)
+pub refused-words : (e : Refusal) {n : ℕ} {t₁ t₂ t₃ : List ℕ} → n ≡ number_of e.cause → n < 256 → e.input < 65536 → e.place < 65536
+    → t₁ ≡ ascii "refused " ++ std.decimal n → t₂ ≡ t₁ ++ (ascii " input " ++ std.decimal e.input)
+    → t₃ ≡ t₂ ++ (ascii " place " ++ std.decimal e.place) → t₃ ≡ line_words (Refused e)
 unfolding line_words
-refused-words n i p a b c =
-    three-joined (ascii "refused ") (decimal n) (ascii " input ") (decimal i) (ascii " place ") (decimal p)
-    (decimal_written n (omega arith)) (decimal_written i (omega arith)) (decimal_written p (omega arith))
+refused-words e {n} q a b c =
+    three-joined (ascii "refused ") (decimal (number_of e.cause)) (ascii " input ") (decimal e.input) (ascii " place ") (decimal e.place)
+    (decimal_written n (omega arith) ∙ ap decimal q) (decimal_written e.input (omega arith)) (decimal_written e.place (omega arith))
 
 pub has_words : (n o : ℕ) (p : Property) {t₁ t₂ t₃ : List ℕ} → n < 65536 → o < 65536 → p.0 < 65536
     → t₁ ≡ ascii "has " ++ std.decimal n → t₂ ≡ t₁ ++ (ascii " owner " ++ std.decimal o) → t₃ ≡ t₂ ++ (ascii " property " ++ std.decimal p.0)

@@ -1,24 +1,24 @@
 -- The lines that the program prints.
 -- Assumes nothing.
-use Rattle.std.specs.Prelude.{◌+◌, suc, zero, ℕ, eqb, cond, List, [], ◌∷◌}
+use Rattle.std.specs.Prelude.{◌+◌, suc, zero, ℕ, eqb, cond, List, [], ◌∷◌, None, Some, Ok, Err}
 use Rattle.blocks.specs.Entries.{entry_of}
+use Rattle.blocks.specs.Refusals.{number_of}
 use Rattle.blocks.specs.declared.Entry.{Entry}
-use Rattle.compare.specs.declared.Comparison.{Comparison}
-use Rattle.compare.specs.declared.Comparison.TheVariants as comparison
+use Rattle.compare.specs.Answer.{Comparison}
 use Rattle.report.specs.declared.Line.{Line}
 use Rattle.report.specs.declared.Line.TheVariants.{Contained, Group, Has, NotContained, Refused}
 
 -- "It prints `contained`, or `refused N input I place P`, or `not contained E`": the first line
 abbrev pub answer_line : Comparison → Line
-answer_line comparison.Contained = Contained
-answer_line (comparison.NotContained j k) = NotContained j
-answer_line (comparison.Refused n i p) = Refused n i p
+answer_line (Ok None) = Contained
+answer_line (Ok (Some n)) = NotContained n.entry
+answer_line (Err e) = Refused e
 
 -- "one line for each specimen entry": how many
 abbrev pub specimen_lines : Comparison → ℕ
-specimen_lines comparison.Contained = 0
-specimen_lines (comparison.NotContained j k) = k
-specimen_lines (comparison.Refused n i p) = 0
+specimen_lines (Ok None) = 0
+specimen_lines (Ok (Some n)) = n.entries
+specimen_lines (Err e) = 0
 
 -- "`has` or `group` with its entry number"; "`count` is the number of items, one more than the stored number": entry n
 unfoldable pub entry_line : ℕ → Entry → Line
@@ -55,6 +55,6 @@ pub data Piece : Type 0 where
 abbrev pub pieces : Line → List Piece
 pieces Contained = contained ∷ []
 pieces (NotContained e) = not_contained ∷ field e ∷ []
-pieces (Refused n i p) = refused ∷ field n ∷ input ∷ field i ∷ place ∷ field p ∷ []
+pieces (Refused e) = refused ∷ field (number_of e.cause) ∷ input ∷ field e.input ∷ place ∷ field e.place ∷ []
 pieces (Has n o name) = has ∷ field n ∷ owner ∷ field o ∷ property ∷ field name.0 ∷ []
 pieces (Group n o name items) = group ∷ field n ∷ owner ∷ field o ∷ link ∷ field name.0 ∷ count ∷ field items ∷ []

@@ -1,7 +1,7 @@
 -- What the promises of the program speak of: the first later block with number 1, a number in decimal, and what the program writes.
 -- Assumes nothing.
 use Rattle.std.specs.Prelude.{◌*◌, ◌+◌, ◌-◌, ◌<◌, ◌≤◌, suc, zero, ℕ, drop, get_or, length, replicate, take, List, [], ◌++◌, ◌∷◌, ◌≡◌}
-use Rattle.compare.specs.declared.Comparison.{Comparison}
+use Rattle.compare.specs.Answer.{Comparison}
 use Rattle.lists.specs.Parts.{Begins, first_part, second_part}
 use Rattle.named.specs.Answer.{compare_named, output_named}
 use Rattle.report.specs.Lines.{specimen_lines}

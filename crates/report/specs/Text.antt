@@ -4,7 +4,7 @@ use Prim.Native.Char.{code}
 use Rattle.std.specs.Prelude.{◌%◌, ◌+◌, ◌/◌, suc, zero, ℕ, ltb, cond, List, [], ◌++◌, ◌∷◌}
 use Prim.Native.String as string
 use Prim.Native.String.{String}
-use Rattle.compare.specs.declared.Comparison.{Comparison}
+use Rattle.compare.specs.Answer.{Comparison}
 use Rattle.report.specs.Lines.{Piece, answer_line, contained, count, field, group, has, input, link, not_contained, owner, pieces, place, property, refused, specimen_line, specimen_lines}
 use Rattle.report.specs.declared.Line.{Line}
 

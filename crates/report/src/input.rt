@@ -4,7 +4,8 @@ ghost use Rattle.lists.specs.Parts.{first_part, second_part};
 ghost use Rattle.named.specs.Answer.{compare_named, output_named};
 ghost use Rattle.report.specs.Text.{input_bytes};
 
-use compare::Comparison;
+use blocks::Refusal;
+use compare::NotContained;
 
 // Zeros, as many as the program reads bytes at most. As many are room for every specimen.
 pub fn input_buffer() -> [u8; 16385]
@@ -15,7 +16,7 @@ pub fn input_buffer() -> [u8; 16385]
 
 // Compares the first description of an input with the second, with no pairs and no dictionary, and writes the specimen from the start of
 // the output.
-pub fn compare_parts(s: &[u8], out: &mut [u8]) -> Comparison
+pub fn compare_parts(s: &[u8], out: &mut [u8]) -> Result<Option<NotContained>, Refusal>
     ensures { (result ≡ compare_named [] [] (first_part s.now) (second_part s.now) out.old)
         × (out.new ≡ output_named [] [] (first_part s.now) (second_part s.now) out.old) }
 {

@@ -10,7 +10,7 @@ mod input;
 mod lines;
 mod text;
 
-use blocks::{Link, Property};
+use blocks::{Link, Property, Refusal};
 pub use input::{compare_parts, input_buffer};
 pub use lines::specimen_lines;
 pub use text::{LINE_BYTES, line_text};
@@ -21,7 +21,7 @@ pub use text::{LINE_BYTES, line_text};
 pub enum Line {
     Contained,
     NotContained(u16),
-    Refused(u8, u16, u16),
+    Refused(Refusal),
     Has(u16, u16, Property),
     Group(u16, u16, Link, u32),
 }

@@ -3,27 +3,27 @@ ghost use Rattle.std.specs.Prelude.{◌≡◌};
 ghost use Rattle.report.specs.Lines.{answer_line, specimen_line, specimen_lines};
 
 use crate::Line;
-use compare::Comparison;
+use blocks::{Refusal, kinds};
+use compare::NotContained;
 
 // The first line: what the comparison answers.
-pub(crate) fn answer_line(answer: Comparison) -> Line
+pub(crate) fn answer_line(answer: Result<Option<NotContained>, Refusal>) -> Line
     ensures { result ≡ answer_line answer }
 {
     match answer {
-        Comparison::Contained => Line::Contained,
-        Comparison::NotContained(entry, _) => Line::NotContained(entry),
-        Comparison::Refused(number, input, place) => Line::Refused(number, input, place),
+        Ok(None) => Line::Contained,
+        Ok(Some(shown)) => Line::NotContained(shown.entry),
+        Err(refusal) => Line::Refused(refusal),
     }
 }
 
 // How many lines follow the first: one for each specimen entry, and none where there is no specimen.
-pub fn specimen_lines(answer: Comparison) -> u16
+pub fn specimen_lines(answer: Result<Option<NotContained>, Refusal>) -> u16
     ensures { result ≡ specimen_lines answer }
 {
     match answer {
-        Comparison::Contained => 0,
-        Comparison::NotContained(_, entries) => entries,
-        Comparison::Refused(_, _, _) => 0,
+        Ok(Some(shown)) => shown.entries,
+        _ => 0,
     }
 }
 
@@ -34,7 +34,7 @@ pub(crate) fn specimen_line(blocks: &[u8], total: usize, n: u16) -> Line
     ensures { result ≡ specimen_line blocks.now total n }
 {
     let e = blocks::nth_entry(blocks, total, usize::from(n));
-    if e.kind == 7 {
+    if e.kind == kinds::GROUP {
         return Line::Group(n, e.owner, e.link(), u32::from(e.number) + 1);
     }
     Line::Has(n, e.owner, e.property())

@@ -9,7 +9,8 @@ ghost use Rattle.report.specs.Text.{line_of, line_text, line_words};
 use crate::Line;
 use crate::lines::{answer_line, specimen_line, specimen_lines};
 use arrayvec::ArrayString;
-use compare::Comparison;
+use blocks::Refusal;
+use compare::NotContained;
 use itoa::{Buffer, Integer};
 
 // Room for the longest line.
@@ -35,10 +36,10 @@ fn words(line: Line) -> ArrayString<LINE_BYTES>
     match line {
         Line::Contained => text.push_str("contained"),
         Line::NotContained(entry) => put_field(&mut text, "not contained ", entry),
-        Line::Refused(number, input, place) => {
-            put_field(&mut text, "refused ", number);
-            put_field(&mut text, " input ", input);
-            put_field(&mut text, " place ", place);
+        Line::Refused(refusal) => {
+            put_field(&mut text, "refused ", refusal.cause.number());
+            put_field(&mut text, " input ", refusal.input);
+            put_field(&mut text, " place ", refusal.place);
         }
         Line::Has(n, owner, p) => {
             put_field(&mut text, "has ", n);
@@ -57,7 +58,7 @@ fn words(line: Line) -> ArrayString<LINE_BYTES>
 
 // Line n of an answer whose specimen stands in `blocks`: line 0 is the answer's, and line n that of specimen entry n.
 #[tactic(auto, unfolding(crate::specs::Text::line_of))]
-fn nth_line(answer: Comparison, blocks: &[u8], n: u16) -> Line
+fn nth_line(answer: Result<Option<NotContained>, Refusal>, blocks: &[u8], n: u16) -> Line
     ensures { result ≡ line_of answer blocks.now n }
 {
     if n == 0 {
@@ -69,7 +70,12 @@ fn nth_line(answer: Comparison, blocks: &[u8], n: u16) -> Line
 // Puts the text of line n of an answer at the start of the buffer, and returns its length; later bytes stay. Line 0 is the answer's; for
 // `not contained`, line n is that of entry n of the specimen in `blocks`. Entries above the specimen's read as the zero entry.
 #[tactic(auto, unfolding(crate::specs::Text::line_text))]
-pub fn line_text(answer: Comparison, blocks: &[u8], n: u16, buffer: &mut [u8; LINE_BYTES]) -> usize
+pub fn line_text(
+    answer: Result<Option<NotContained>, Refusal>,
+    blocks: &[u8],
+    n: u16,
+    buffer: &mut [u8; LINE_BYTES],
+) -> usize
     ensures { (result ≡ length (line_text (line_of answer blocks.now n))) × (result ≤ length buffer.new)
         × (buffer.new ≡ line_text (line_of answer blocks.now n) ++ drop result buffer.old) }
 {

@@ -46,7 +46,8 @@ impl<'a> Iterator for Chain<'a> {
     }
 }
 
-// The slot where the walk over a run begins, or 0.
+// The slot where the walk over a run begins, or 0, which ends a chain in the tables too. The tables are slices of their callers' and no struct: two
+// cores of different sizes lend them, and each writes them first.
 fn chain_start(table: &[u64], last: &[u16], before: &[u16], run: usize) -> u16
     ensures { Starting table.now last.now before.now run result }
 {

@@ -14,19 +14,23 @@ use Rattle.blocks.proofs.RoundTrip.Accepting.{accepted-by-none, none-of-accepted
 use Rattle.blocks.proofs.RoundTrip.Faithful.{entries-limit, entries-whole}
 use Rattle.blocks.specs.Entries.{entries_of}
 use Rattle.blocks.specs.Faults.{faults}
-use Rattle.blocks.specs.Promise.{FirstOf, None}
+use Rattle.blocks.specs.Promise.{FirstOf, NoneApplies}
 use Rattle.blocks.specs.Reading.{reading_of}
-use Rattle.blocks.specs.declared.Reading.TheVariants as reading
+use Rattle.std.specs.Prelude.{Err, None, Ok, Some}
+use Rattle.blocks.specs.Refusals.{number_of, refusal, refused}
+use Rattle.blocks.specs.declared.Refusal.{Refusal}
 use Rattle.blocks.specs.declared.Schema.TheVariants.{Description}
 use Rattle.logic.specs.Background.{Background}
 use Rattle.pairs.specs.Pairs.{pairs_reading, under}
 use Rattle.slots.specs.Holding.{failing_in, holding_by, holding_of, holding_returned, holding_under, where_room}
 use Rattle.slots.specs.code.Standing.{BothRead}
 use Rattle.slots.specs.code.Tables.{Readable, slots_of}
-use Rattle.slots.specs.declared.Holding.TheVariants.{All, Fails, Refused}
+use Rattle.slots.specs.declared.Unheld.{Unheld}
+use Rattle.blocks.specs.declared.Cause.{Cause}
+use Rattle.blocks.specs.declared.Cause.TheVariants.{Room}
 
 -- what the passes are told of an accepted description
-pub accepted-few : (i : ℕ) (d : List ℕ) {n : ℕ} → reading_of Description i d ≡ reading.Accepted n → Readable d n
+pub accepted-few : (i : ℕ) (d : List ℕ) {n : ℕ} → reading_of Description i d ≡ Ok n → Readable d n
 accepted-few i d e =
     let s = sound-of-accepted Description i d e in
     let t = (none-of-accepted Description i d e).1 in
@@ -36,35 +40,35 @@ accepted-few i d e =
 
 module _ (b : Background) (room : ℕ) (c d : List ℕ) where
   -- "input 1 in full"
-  pub first-refused : {k i p : ℕ} → reading_of Description 1 c ≡ reading.Refused k i p → holding_under b room c d ≡ Refused k i p
+  pub first-refused : {x : Refusal} → reading_of Description 1 c ≡ Err x → holding_under b room c d ≡ Err x
   unfolding holding_under
   first-refused e = rw (holding_under, e)
 
-  module _ {n : ℕ} (e : reading_of Description 1 c ≡ reading.Accepted n) where
+  module _ {n : ℕ} (e : reading_of Description 1 c ≡ Ok n) where
     -- "input 2 in full"
-    pub second-refused : {k i p : ℕ} → reading_of Description 2 d ≡ reading.Refused k i p → holding_under b room c d ≡ Refused k i p
+    pub second-refused : {x : Refusal} → reading_of Description 2 d ≡ Err x → holding_under b room c d ≡ Err x
     unfolding holding_under
     second-refused f = rw (holding_under, e, f)
 
-    module _ {m : ℕ} (f : reading_of Description 2 d ≡ reading.Accepted m) where
-      both_read : holding_under b room c d ≡ where_room room c (Refused 7 0 0) (holding_by (length (slots_of b c)) (failing_in b c d))
+    module _ {m : ℕ} (f : reading_of Description 2 d ≡ Ok m) where
+      both_read : holding_under b room c d ≡ where_room room c (refused Room 0 0) (Ok (holding_by (length (slots_of b c)) (failing_in b c d)))
       unfolding holding_under
       both_read = rw (holding_under, e, f)
 
       -- "then 7"
-      pub no_room : room ≤ length (entries_of c) → holding_under b room c d ≡ Refused 7 0 0
+      pub no_room : room ≤ length (entries_of c) → holding_under b room c d ≡ refused Room 0 0
       no_room l = both_read ∙ rw (ge-ltb l)
 
       -- both are accepted, and there is room
-      pub judged-read : length (entries_of c) < room → holding_under b room c d ≡ holding_by (length (slots_of b c)) (failing_in b c d)
+      pub judged-read : length (entries_of c) < room → holding_under b room c d ≡ Ok (holding_by (length (slots_of b c)) (failing_in b c d))
       judged-read l = both_read ∙ rw (lt-ltb l)
 
   -- the five ways
-  holding-cases : {X : Type 0} → ((k i p : ℕ) → reading_of Description 1 c ≡ reading.Refused k i p → holding_under b room c d ≡ Refused k i p → X)
-      → ((n k i p : ℕ) → reading_of Description 1 c ≡ reading.Accepted n → reading_of Description 2 d ≡ reading.Refused k i p → holding_under b room c d ≡ Refused k i p → X)
-      → (BothRead c d → room ≤ length (entries_of c) → holding_under b room c d ≡ Refused 7 0 0 → X)
-      → (BothRead c d → failing_in b c d ≡ 0 → holding_under b room c d ≡ All → X)
-      → (BothRead c d → failing_in b c d ≢ 0 → holding_under b room c d ≡ Fails (failing_in b c d) (length (slots_of b c)) → X) → X
+  holding-cases : {X : Type 0} → ((k : Cause) (i p : ℕ) → reading_of Description 1 c ≡ refused k i p → holding_under b room c d ≡ refused k i p → X)
+      → ((n : ℕ) (k : Cause) (i p : ℕ) → reading_of Description 1 c ≡ Ok n → reading_of Description 2 d ≡ refused k i p → holding_under b room c d ≡ refused k i p → X)
+      → (BothRead c d → room ≤ length (entries_of c) → holding_under b room c d ≡ refused Room 0 0 → X)
+      → (BothRead c d → failing_in b c d ≡ 0 → holding_under b room c d ≡ Ok None → X)
+      → (BothRead c d → failing_in b c d ≢ 0 → holding_under b room c d ≡ Ok (Some (record { entry = failing_in b c d; used = length (slots_of b c) })) → X) → X
   holding-cases f g short all some =
       readings-cases (reading_of Description 1 c) (reading_of Description 2 d)
       (λ k i p e. f k i p e (first-refused e))
@@ -78,18 +82,18 @@ module _ (b : Background) (room : ℕ) (c d : List ℕ) where
       (λ l. short r l (no_room e e' l)))
 
   -- what each answer says
-  pub refused-by : {X : Type 0} {k i p : ℕ} → holding_under b room c d ≡ Refused k i p → (reading_of Description 1 c ≡ reading.Refused k i p → X)
-      → ((n : ℕ) → reading_of Description 1 c ≡ reading.Accepted n → reading_of Description 2 d ≡ reading.Refused k i p → X)
+  pub refused-by : {X : Type 0} {k : Cause} {i p : ℕ} → holding_under b room c d ≡ refused k i p → (reading_of Description 1 c ≡ refused k i p → X)
+      → ((n : ℕ) → reading_of Description 1 c ≡ Ok n → reading_of Description 2 d ≡ refused k i p → X)
       → (BothRead c d → room ≤ length (entries_of c) → X) → X
   refused-by {X} {k} {i} {p} e f g h =
       holding-cases
-      (λ k' i' p' q y. let a : k' ≡ k = cc in let o : i' ≡ i = cc in let z : p' ≡ p = cc in f (q ∙ rw (a, o, z)))
-      (λ n k' i' p' r q y. let a : k' ≡ k = cc in let o : i' ≡ i = cc in let z : p' ≡ p = cc in g n r (q ∙ rw (a, o, z)))
+      (λ k' i' p' q y. let g : refusal k' i' p' ≡ refusal k i p = cc in f (q ∙ ap Err g))
+      (λ n k' i' p' r q y. let h : refusal k' i' p' ≡ refusal k i p = cc in g n r (q ∙ ap Err h))
       (λ r l y. h r l)
       (λ r z y. let w : ◌≡◌ {A = ℕ} 0 1 = cc in absurd (omega arith))
       (λ r z y. let w : ◌≡◌ {A = ℕ} 0 1 = cc in absurd (omega arith))
 
-  pub all_hold : holding_under b room c d ≡ All → BothRead c d × (failing_in b c d ≡ 0)
+  pub all_hold : holding_under b room c d ≡ Ok None → BothRead c d × (failing_in b c d ≡ 0)
   all_hold e =
       holding-cases
       (λ k i p q y. let w : ◌≡◌ {A = ℕ} 0 1 = cc in absurd (omega arith))
@@ -98,29 +102,32 @@ module _ (b : Background) (room : ℕ) (c d : List ℕ) where
       (λ r z y. (r, z))
       (λ r z y. let w : ◌≡◌ {A = ℕ} 0 1 = cc in absurd (omega arith))
 
-  pub one-fails : {n used : ℕ} → holding_under b room c d ≡ Fails n used → BothRead c d × (failing_in b c d ≡ n) × (n ≢ 0)
-  one-fails {n} e =
+  pub one-fails : {x : Unheld} → holding_under b room c d ≡ Ok (Some x) → BothRead c d × (failing_in b c d ≡ x.entry) × (x.entry ≢ 0)
+  one-fails {x} e =
       holding-cases
       (λ k i p q y. let w : ◌≡◌ {A = ℕ} 0 1 = cc in absurd (omega arith))
       (λ m k i p r q y. let w : ◌≡◌ {A = ℕ} 0 1 = cc in absurd (omega arith))
       (λ r l y. let w : ◌≡◌ {A = ℕ} 0 1 = cc in absurd (omega arith))
       (λ r z y. let w : ◌≡◌ {A = ℕ} 0 1 = cc in absurd (omega arith))
-      (λ r z y. let f : failing_in b c d ≡ n = cc in (r, f, λ q. z (f ∙ q)))
+      (λ r z y.
+      let g : (record { entry = failing_in b c d; used = length (slots_of b c) }) ≡ x = cc in
+      let f : failing_in b c d ≡ x.entry = ap (λ (h : Unheld). h.entry) g in
+      (r, f, λ q. z (f ∙ q)))
 
 -- ---- the paper's numbers
 
 module _ (b : Background) (room : ℕ) (c d : List ℕ) where
   -- "In one input: .." of input 1
-  pub returned-first : {k p : ℕ} → FirstOf (faults Description c) k p
-      → holding_returned (holding_under b room c d) ≡ record { all = none; entry = 0; number = k; input = 1; place = p }
+  pub returned-first : {k : Cause} {p : ℕ} → FirstOf (faults Description c) k p
+      → holding_returned (holding_under b room c d) ≡ record { all = none; entry = 0; number = number_of k; input = 1; place = p }
   returned-first f = ap holding_returned (first-refused b room c d (refused-by-first Description 1 c f))
 
   -- of input 2, where input 1 is accepted
-  pub returned-second : {k p : ℕ} → None (faults Description c) → FirstOf (faults Description d) k p
-      → holding_returned (holding_under b room c d) ≡ record { all = none; entry = 0; number = k; input = 2; place = p }
+  pub returned-second : {k : Cause} {p : ℕ} → NoneApplies (faults Description c) → FirstOf (faults Description d) k p
+      → holding_returned (holding_under b room c d) ≡ record { all = none; entry = 0; number = number_of k; input = 2; place = p }
   returned-second n f = ap holding_returned (second-refused b room c d (accepted-by-none Description 1 c n) (refused-by-first Description 2 d f))
 
-  module _ (n : None (faults Description c)) (m : None (faults Description d)) where
+  module _ (n : NoneApplies (faults Description c)) (m : NoneApplies (faults Description d)) where
     -- then 7, "0 for number 7"
     pub returned-short : room ≤ length (entries_of c) → holding_returned (holding_under b room c d) ≡ record { all = none; entry = 0; number = 7; input = 0; place = 0 }
     returned-short l = ap holding_returned (no_room b room c d (accepted-by-none Description 1 c n) (accepted-by-none Description 2 d m) l)
@@ -135,11 +142,11 @@ module _ (b : Background) (room : ℕ) (c d : List ℕ) where
 
 module _ (P : List ℕ) (room : ℕ) (c d : List ℕ) where
   -- "11 .. before any other check"
-  pub list-refused : {k i p : ℕ} → pairs_reading P ≡ reading.Refused k i p → holding_of P room c d ≡ Refused k i p
+  pub list-refused : {x : Refusal} → pairs_reading P ≡ Err x → holding_of P room c d ≡ Err x
   unfolding holding_of
   list-refused e = rw (holding_of, e)
 
   -- a list that is accepted stands for its background
-  pub list_read : {n : ℕ} → pairs_reading P ≡ reading.Accepted n → holding_of P room c d ≡ holding_under (under P) room c d
+  pub list_read : {n : ℕ} → pairs_reading P ≡ Ok n → holding_of P room c d ≡ holding_under (under P) room c d
   unfolding holding_of
   list_read e = rw (holding_of, e)

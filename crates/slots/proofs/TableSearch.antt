@@ -2,12 +2,13 @@
 -- Assumes nothing.
 use Prim.Native.Nat.{◌%◌, ◌+◌, ◌<◌, ◌≤◌, suc, zero, ℕ}
 use lib.Dec.{eqb}
-use lib.ListN.{get_or, length}
+use lib.ListN.{get_or, length, take}
 use mathlib.Core.Bool.{Bool, false, true}
 use mathlib.Core.List.{List}
 use mathlib.Core.Logic.{◌≢◌}
 use mathlib.Core.Path.{◌∙◌, ◌≡◌, refl, sym}
 use native.Mathlib.Omega.{arith}
+use Rattle.std.proofs.lemmas.List.{get_or-take}
 use Rattle.base.proofs.ChainLaws.{last_none, last_on}
 use Rattle.base.proofs.Tests.{and_zero, bool_cases, both_ways, eq-cases, eq-eqb, lt-cases, tests}
 use Rattle.base.specs.Chain.{last_where}
@@ -21,6 +22,12 @@ use Rattle.slots.specs.code.Tables.{key_in, slot_in, slots_from}
 -- as many slots as are read
 pub slots-many : (t : List ℕ) (i n : ℕ) → length (slots_from t i n) ≡ n
 slots-many t i n = length-slots t i n
+
+-- the front of a table has the slots that end in it
+pub front-slots : (t : List ℕ) (k i n : ℕ) → i + n ≤ k → slots_from (take k t) i n ≡ slots_from t i n
+unfolding slots_from
+front-slots t k i zero h = refl
+front-slots t k i (suc n) h = rw (get_or-take k t i 0 (omega arith), front-slots t k (suc i) n (omega arith))
 
 -- a name of more than two bytes is no slot's
 taken-large : (t : List ℕ) (v : ℕ) (b : Bool) (n : ℕ) → 65536 ≤ n → (i m : ℕ) → taken (slots_from t i m) v b n ≡ false

@@ -4,3 +4,5 @@
 pub mod ServiceLaws
 -- What judging a service with no names answers.
 pub mod JudgedLaws
+-- The entries of a service that are left.
+pub mod LeftLaws

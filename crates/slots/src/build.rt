@@ -4,7 +4,7 @@ ghost use Rattle.std.specs.Prelude.{◌≡◌, ◌≤◌, ◌<◌, length};
 ghost use Rattle.slots.specs.code.Tables.{Built, Readable, Workspace, bounds_base, bounds_times, built_slots, high_kind, high_part, low_kind, low_part, no_bound};
 
 use crate::slots::{enter, entry_key};
-use blocks::{Entry, entries_in_order};
+use blocks::{Entry, entries_in_order, kinds};
 
 // What an entry's number counts for in its bounds, by its kind. Constants only, here and below, which compile to a table: entries come in
 // any order of kinds, and a jump by kind would be guessed wrong.
@@ -13,8 +13,8 @@ fn bounds_times(kind: u8) -> u64
     ensures { (result ≡ bounds_times kind) × (result ≤ 131072) }
 {
     match kind {
-        3 => 131072,
-        4 => 1,
+        kinds::AT_LEAST => 131072,
+        kinds::AT_MOST => 1,
         _ => 0,
     }
 }
@@ -25,11 +25,11 @@ fn bounds_base(kind: u8) -> u64
     ensures { (result ≡ bounds_base kind) × (result ≤ 196608) }
 {
     match kind {
-        1 => 196608,
-        2 => 0,
-        3 => 65536,
-        4 => 0,
-        5 => 65536,
+        kinds::HAS => 196608,
+        kinds::LACKS => 0,
+        kinds::AT_LEAST => 65536,
+        kinds::AT_MOST => 0,
+        kinds::EVERY => 65536,
         _ => 131072,
     }
 }
@@ -42,7 +42,7 @@ fn entry_bounds(kind: u8, number: u16) -> u64
 }
 
 // Enters the `total` entries of a description into its slots, and returns their number. What the table and the chains' numbers held does not
-// count: a slot is written before it is read.
+// count: a slot is written before it is read. As `enter`, it takes the parts of the table.
 #[inline(always)]
 pub(crate) fn build<const BUCKETS: usize>(
     d: &[u8],

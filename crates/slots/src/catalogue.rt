@@ -3,7 +3,6 @@
 ghost use Rattle.std.specs.Prelude.{◌≡◌, List, ◌<◌, ◌≤◌, ℕ, eqb, length, unwrap_or, IfSome};
 ghost use Rattle.base.specs.Range.{bit};
 ghost use Rattle.blocks.specs.Reading.{reading_of};
-ghost use Rattle.blocks.specs.declared.Reading.{Reading};
 ghost use Rattle.blocks.specs.declared.Schema.{Schema};
 ghost use Rattle.lists.specs.Parts.{parts_of};
 ghost use Rattle.logic.specs.Background.{Ruled};
@@ -14,11 +13,10 @@ ghost use Rattle.slots.specs.Holding.{failing_in};
 ghost use Rattle.slots.specs.code.Lent.{HeldIn};
 ghost use Rattle.slots.specs.code.Judging.{Buffered, DictionaryTaken, JudgesAll, JudgesListed, JudgesSupplied, service_judged};
 
-use crate::Judgement;
 use crate::failing::Supplier;
 use crate::filling::chained_slots;
 use crate::service::judge_plain;
-use blocks::{Reading, Schema};
+use blocks::{Cause, Refusal, Schema};
 use lists::{Parts, parts_in};
 use pairs::Exclusions;
 use unfolding::unfold_into;
@@ -34,10 +32,10 @@ pub(crate) fn bit_of(failing: Option<usize>) -> u8
 
 // Reads a description under a dictionary. One of length 0 leaves it as it is sent; otherwise the plain description that it stands for is
 // written to a buffer that has room for every description. The dictionary is read again for each.
-fn read_sent(dictionary: &[u8], d: &[u8], input: u16, buffer: &mut [u8]) -> Reading
+fn read_sent(dictionary: &[u8], d: &[u8], input: u16, buffer: &mut [u8]) -> Result<u16, Refusal>
     requires { 8192 ≤ length buffer.old }
     ensures { (result ≡ unfolding_of dictionary.now input d.now)
-        × ((n : ℕ) → result ≡ Reading.Accepted n → Buffered dictionary.now d.now n buffer.new) }
+        × ((n : ℕ) → result ≡ Ok n → Buffered dictionary.now d.now n buffer.new) }
 {
     if dictionary.len() == 0 {
         return reading::read(d, Schema::Named(0), input);
@@ -48,7 +46,6 @@ fn read_sent(dictionary: &[u8], d: &[u8], input: u16, buffer: &mut [u8]) -> Read
 // The first entry of a description that does not hold by the slots of another, where it is accepted under a dictionary, with m entries, and
 // stands in a buffer unless the dictionary has length 0.
 fn judge_sent(
-    exclusions: Exclusions<'_>,
     supplier: Supplier<'_, 4093>,
     dictionary: &[u8],
     d: &[u8],
@@ -56,83 +53,61 @@ fn judge_sent(
     buffer: &[u8],
     states: &mut [u16],
 ) -> Option<usize>
-    requires { Ruled (under exclusions.pairs.now)
-        × (reading_of Schema.Description 2 (sent_of dictionary.now d.now) ≡ Reading.Accepted m) × Buffered dictionary.now d.now m buffer.now × (8192 ≤ length buffer.now) × (1008 < length states.old) }
-    ensures { IfSome result (λ n. 1 ≤ n) × ((c : List ℕ) → HeldIn (under exclusions.entry.pairs.now) c supplier.entry
-        → unwrap_or result 0 ≡ failing_in (under exclusions.entry.pairs.now) c (sent_of dictionary.now d.now)) }
+    requires { Ruled (under supplier.exclusions.pairs.now)
+        × (reading_of Schema.Description 2 (sent_of dictionary.now d.now) ≡ Ok m) × Buffered dictionary.now d.now m buffer.now × (8192 ≤ length buffer.now) × (1008 < length states.old) }
+    ensures { IfSome result (λ n. 1 ≤ n) × ((c : List ℕ) → HeldIn (under supplier.entry.exclusions.pairs.now) c supplier.entry
+        → unwrap_or result 0 ≡ failing_in (under supplier.entry.exclusions.pairs.now) c (sent_of dictionary.now d.now)) }
 {
     if dictionary.len() == 0 {
-        return supplier.judge(exclusions, d, usize::from(m), states);
+        return supplier.judge(d, usize::from(m), states);
     }
     let end = bytes_for(m);
-    supplier.judge(exclusions, &buffer[0..end], usize::from(m), states)
+    supplier.judge(&buffer[0..end], usize::from(m), states)
 }
 
 // Reads a service, an input of any number, and judges it. With a dictionary of length 0 it has no names, and nothing is unfolded.
 fn judge_service(
-    exclusions: Exclusions<'_>,
     supplier: Supplier<'_, 4093>,
     dictionary: &[u8],
     d: &[u8],
     input: u16,
     buffer: &mut [u8],
     states: &mut [u16],
-) -> Judgement
-    requires { Ruled (under exclusions.pairs.now)
+) -> Result<u8, Refusal>
+    requires { Ruled (under supplier.exclusions.pairs.now)
         × DictionaryTaken dictionary.now × (8192 ≤ length buffer.old) × (1008 < length states.old) }
-    ensures { (c : List ℕ) → HeldIn (under exclusions.entry.pairs.now) c supplier.entry
-        → result ≡ service_judged exclusions.entry.pairs.now dictionary.now c input d.now }
+    ensures { (c : List ℕ) → HeldIn (under supplier.entry.exclusions.pairs.now) c supplier.entry
+        → result ≡ service_judged supplier.entry.exclusions.pairs.now dictionary.now c input d.now }
 {
     if dictionary.len() == 0 {
-        return judge_plain(exclusions, supplier, d, input, states);
+        return judge_plain(supplier, d, input, states);
     }
-    let reading = read_sent(dictionary, d, input, buffer);
-    match reading {
-        Reading::Refused(number, i, place) => Judgement::Refused(number, i, place),
-        Reading::Accepted(m) => {
-            let e = judge_sent(exclusions, supplier, dictionary, d, m, buffer, states);
-            Judgement::Bit(bit_of(e))
-        }
-    }
+    let m = read_sent(dictionary, d, input, buffer)?;
+    let e = judge_sent(supplier, dictionary, d, m, buffer, states);
+    Ok(bit_of(e))
 }
 
 // Judges the services of a list in turn, as inputs 2, 3 and so on, and stores a byte for each: how many there are, or the first refusal.
 fn judge_parts(
-    exclusions: Exclusions<'_>,
     supplier: Supplier<'_, 4093>,
     dictionary: &[u8],
     list: &[u8],
     buffer: &mut [u8],
     states: &mut [u16],
     answers: &mut [u8; 64],
-) -> Reading
-    requires { Ruled (under exclusions.pairs.now)
+) -> Result<u16, Refusal>
+    requires { Ruled (under supplier.exclusions.pairs.now)
         × DictionaryTaken dictionary.now × (8192 ≤ length buffer.old) × (1008 < length states.old) × (length (parts_of list.now) ≤ 64) }
-    ensures { (c : List ℕ) → HeldIn (under exclusions.entry.pairs.now) c supplier.entry
-        → JudgesAll exclusions.entry.pairs.now dictionary.now c list.now answers.old result answers.new }
+    ensures { (c : List ℕ) → HeldIn (under supplier.entry.exclusions.pairs.now) c supplier.entry
+        → JudgesAll supplier.entry.exclusions.pairs.now dictionary.now c list.now answers.old result answers.new }
 {
     let mut n: usize = 0;
     for part in Parts::of(list) {
-        let judged = judge_service(
-            exclusions,
-            supplier,
-            dictionary,
-            part,
-            2 + n as u16,
-            buffer,
-            states,
-        );
-        match judged {
-            Judgement::Refused(number, i, place) => {
-                return Reading::Refused(number, i, place);
-            }
-            Judgement::Bit(b) => {
-                answers[n] = b;
-                n += 1;
-            }
-        }
+        let b = judge_service(supplier, dictionary, part, 2 + n as u16, buffer, states)?;
+        answers[n] = b;
+        n += 1;
     }
-    Reading::Accepted(n as u16)
+    Ok(n as u16)
 }
 
 // Slots and settles the supplier's description, which is accepted, with n entries, and judges a list of at most 64 services by its slots.
@@ -143,8 +118,8 @@ fn judge_all(
     n: usize,
     list: &[u8],
     answers: &mut [u8; 64],
-) -> Reading
-    requires { Ruled (under exclusions.pairs.now) × DictionaryTaken dictionary.now × (reading_of Schema.Description 1 c.now ≡ Reading.Accepted n)
+) -> Result<u16, Refusal>
+    requires { Ruled (under exclusions.pairs.now) × DictionaryTaken dictionary.now × (reading_of Schema.Description 1 c.now ≡ Ok n)
         × (length (parts_of list.now) ≤ 64) }
     ensures { JudgesAll exclusions.entry.pairs.now dictionary.now c.now list.now answers.old result answers.new }
 {
@@ -157,11 +132,10 @@ fn judge_all(
     let used = chained_slots(
         exclusions, c, n, &mut table, &mut next, &mut head, &mut node, &mut bad, &mut full,
     );
-    let supplier = Supplier::new(&table, &next, &head, used, &bad);
+    let supplier = Supplier::new(exclusions, &table, &next, &head, used, &bad);
     let mut buffer = [0u8; 8192];
     let mut states = [0u16; 1009];
     judge_parts(
-        exclusions,
         supplier,
         dictionary,
         list,
@@ -179,18 +153,30 @@ fn judge_cut(
     n: usize,
     list: &[u8],
     answers: &mut [u8; 64],
-) -> Reading
-    requires { Ruled (under exclusions.pairs.now) × DictionaryTaken dictionary.now × (reading_of Schema.Description 1 c.now ≡ Reading.Accepted n) }
+) -> Result<u16, Refusal>
+    requires { Ruled (under exclusions.pairs.now) × DictionaryTaken dictionary.now × (reading_of Schema.Description 1 c.now ≡ Ok n) }
     ensures { JudgesListed exclusions.entry.pairs.now dictionary.now c.now list.now answers.old result answers.new }
 {
     if list.len() == 0 {
-        return Reading::Refused(1, 2, 0);
+        return Err(Refusal {
+            cause: Cause::Length,
+            input: 2,
+            place: 0,
+        });
     }
     if list.len() % 512 != 0 {
-        return Reading::Refused(1, 2, 0);
+        return Err(Refusal {
+            cause: Cause::Length,
+            input: 2,
+            place: 0,
+        });
     }
     if 64 < parts_in(list) {
-        return Reading::Refused(8, 2, 0);
+        return Err(Refusal {
+            cause: Cause::Count,
+            input: 2,
+            place: 0,
+        });
     }
     judge_all(exclusions, dictionary, c, n, list, answers)
 }
@@ -203,28 +189,23 @@ fn judge_supplied(
     list: &[u8],
     buffer: &mut [u8],
     answers: &mut [u8; 64],
-) -> Reading
+) -> Result<u16, Refusal>
     requires { Ruled (under exclusions.pairs.now) × (8192 ≤ length buffer.old) }
     ensures { JudgesSupplied exclusions.entry.pairs.now dictionary.now c.now list.now answers.old result answers.new }
 {
-    let reading = read_sent(dictionary, c, 1, buffer);
-    match reading {
-        Reading::Refused(number, i, place) => Reading::Refused(number, i, place),
-        Reading::Accepted(n) => {
-            if dictionary.len() == 0 {
-                return judge_cut(exclusions, dictionary, c, usize::from(n), list, answers);
-            }
-            let end = bytes_for(n);
-            judge_cut(
-                exclusions,
-                dictionary,
-                &buffer[0..end],
-                usize::from(n),
-                list,
-                answers,
-            )
-        }
+    let n = read_sent(dictionary, c, 1, buffer)?;
+    if dictionary.len() == 0 {
+        return judge_cut(exclusions, dictionary, c, usize::from(n), list, answers);
     }
+    let end = bytes_for(n);
+    judge_cut(
+        exclusions,
+        dictionary,
+        &buffer[0..end],
+        usize::from(n),
+        list,
+        answers,
+    )
 }
 
 // Reads a list of pairs, a dictionary, the supplier's description and a list of services, and stores a byte for each service, from the front
@@ -236,18 +217,13 @@ pub fn judge_list(
     c: &[u8],
     list: &[u8],
     answers: &mut [u8; 64],
-) -> Reading
+) -> Result<u16, Refusal>
     ensures { (result ≡ list_reading pairs.now dictionary.now c.now list.now)
         × (answers.new ≡ answers_after pairs.now dictionary.now c.now list.now answers.old) }
 {
-    let taken = pairs::read_pairs(pairs);
-    match taken {
-        Reading::Refused(number, input, place) => Reading::Refused(number, input, place),
-        Reading::Accepted(_) => {
-            let mut index = [0u8; 512];
-            let exclusions = Exclusions::new(pairs, &mut index);
-            let mut buffer = [0u8; 8192];
-            judge_supplied(exclusions, dictionary, c, list, &mut buffer, answers)
-        }
-    }
+    pairs::read_pairs(pairs)?;
+    let mut index = [0u8; 512];
+    let exclusions = Exclusions::new(pairs, &mut index);
+    let mut buffer = [0u8; 8192];
+    judge_supplied(exclusions, dictionary, c, list, &mut buffer, answers)
 }

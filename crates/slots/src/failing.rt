@@ -1,7 +1,6 @@
 // The first entry of a second description that the normal form of a first does not hold, in a table of slots that the caller lends.
 ghost use Rattle.std.specs.Prelude.{◌≡◌, List, ◌<◌, ◌≤◌, ℕ, get_or, length, unwrap_or, IfSome};
 ghost use Rattle.blocks.specs.Reading.{reading_of};
-ghost use Rattle.blocks.specs.declared.Reading.{Reading};
 ghost use Rattle.blocks.specs.declared.Schema.{Schema};
 ghost use Rattle.base.specs.Range.{bit};
 ghost use Rattle.logic.specs.Background.{Background, Ruled};
@@ -12,33 +11,39 @@ ghost use Rattle.slots.specs.code.Lent.{HeldIn};
 ghost use Rattle.slots.specs.code.Standing.{JudgedBy, Judges, table_judged};
 ghost use Rattle.slots.specs.code.Tables.{Kept, Tabled, slots_of};
 
-use crate::Holding;
+use crate::Unheld;
 use crate::filling::chained_slots;
 use crate::slots::Slots;
-use blocks::{Reading, Schema};
+use blocks::{Cause, Refusal, Schema};
 use pairs::Exclusions;
 
 // The answer of the number of the entry that fails, if one does, and of the number of slots.
-fn answer_of(failing: Option<usize>, used: usize) -> Holding
+fn answer_of(failing: Option<usize>, used: usize) -> Option<Unheld>
     requires { (unwrap_or failing 0 ≤ 1008) × IfSome failing (λ n. 1 ≤ n) × (used ≤ 1008) }
     ensures { result ≡ holding_by used (unwrap_or failing 0) }
 {
     match failing {
-        Some(n) => Holding::Fails(n as u16, used as u16),
-        None => Holding::All,
+        Some(n) => Some(Unheld {
+            entry: n as u16,
+            used: used as u16,
+        }),
+        None => None,
     }
 }
 
-// A description that others are judged by: its settled slots, and whether nothing fits it.
+// A description that others are judged by, under a list of pairs: its settled slots, and whether nothing fits it.
 #[derive(Clone, Copy)]
 pub(crate) struct Supplier<'a, const BUCKETS: usize> {
+    pub exclusions: Exclusions<'a>,
     pub slots: Slots<'a, BUCKETS>,
     pub impossible: bool,
 }
 
 impl<'a, const BUCKETS: usize> Supplier<'a, BUCKETS> {
-    // The supplier whose settled slots stand in these tables, of which the last marks the places that are impossible.
+    // The supplier whose settled slots stand in these tables, of which the last marks the places that are impossible. They come apart: what is
+    // known of them as Slots is known once all of them are written.
     pub(crate) fn new(
+        exclusions: Exclusions<'a>,
         table: &'a [u64],
         next: &'a [u16],
         head: &'a [u16; BUCKETS],
@@ -46,8 +51,9 @@ impl<'a, const BUCKETS: usize> Supplier<'a, BUCKETS> {
         bad: &[u8],
     ) -> Self
         requires { Kept table.now next.now head.now used × (used ≤ 1008) × (0 < length bad.now) }
-        ensures { (b : Background) → (c : List ℕ) → Tabled b c used table.now → get_or bad.now 0 0 ≡ bit (inconsistent 1 (slots_of b c) 0)
+        ensures held { (b : Background) → (c : List ℕ) → Tabled b c used table.now → get_or bad.now 0 0 ≡ bit (inconsistent 1 (slots_of b c) 0)
             → (result.slots.used ≡ used) × HeldIn b c result }
+        ensures list { result.exclusions ≡ exclusions.entry }
     {
         let slots = Slots {
             table: table,
@@ -56,6 +62,7 @@ impl<'a, const BUCKETS: usize> Supplier<'a, BUCKETS> {
             used: used,
         };
         Supplier {
+            exclusions: exclusions,
             slots: slots,
             impossible: bad[0] != 0,
         }
@@ -63,22 +70,17 @@ impl<'a, const BUCKETS: usize> Supplier<'a, BUCKETS> {
 
     // The first entry of a description with m entries that does not hold by the supplier; none where nothing fits it. This is all that
     // judges, and it leaves the slots: they serve for many descriptions.
-    pub(crate) fn judge(
-        self,
-        exclusions: Exclusions<'_>,
-        d: &[u8],
-        m: usize,
-        states: &mut [u16],
-    ) -> Option<usize>
-        requires { Ruled (under exclusions.pairs.now) × (reading_of Schema.Description 2 d.now ≡ Reading.Accepted m) × (m < length states.old) }
+    pub(crate) fn judge(self, d: &[u8], m: usize, states: &mut [u16]) -> Option<usize>
+        requires { Ruled (under self.exclusions.pairs.now) × (reading_of Schema.Description 2 d.now ≡ Ok m) × (m < length states.old) }
         ensures { (unwrap_or result 0 ≤ 1008) × IfSome result (λ n. 1 ≤ n)
-            × ((c : List ℕ) → HeldIn (under exclusions.entry.pairs.now) c self.entry
-            → unwrap_or result 0 ≡ failing_in (under exclusions.entry.pairs.now) c d.now) }
+            × ((c : List ℕ) → HeldIn (under self.entry.exclusions.pairs.now) c self.entry
+            → unwrap_or result 0 ≡ failing_in (under self.entry.exclusions.pairs.now) c d.now) }
     {
         if self.impossible {
             return None;
         }
-        self.slots.first_failing_entry(exclusions, d, m, states)
+        self.slots
+            .first_failing_entry(self.exclusions, d, m, states)
     }
 }
 
@@ -91,8 +93,8 @@ fn judge<const N: usize, const BUCKETS: usize>(
     d: &[u8],
     m: usize,
     table: &mut [u64],
-) -> Holding
-    requires { Ruled (under exclusions.pairs.now) × (reading_of Schema.Description 1 c.now ≡ Reading.Accepted n) × (reading_of Schema.Description 2 d.now ≡ Reading.Accepted m) × (n < length table.old)
+) -> Result<Option<Unheld>, Refusal>
+    requires { Ruled (under exclusions.pairs.now) × (reading_of Schema.Description 1 c.now ≡ Ok n) × (reading_of Schema.Description 2 d.now ≡ Ok m) × (n < length table.old)
         × (n < N) × (m < N) × (N ≤ 1009) × (61 ≤ BUCKETS) × (BUCKETS ≤ 4093) }
     ensures { Judges (under exclusions.entry.pairs.now) c.now d.now table.old result table.new }
 {
@@ -105,9 +107,9 @@ fn judge<const N: usize, const BUCKETS: usize>(
         exclusions, c, n, table, &mut next, &mut head, &mut node, &mut bad, &mut full,
     );
     let mut states = [0u16; N];
-    let supplier = Supplier::new(table, &next, &head, used, &bad);
-    let e = supplier.judge(exclusions, d, m, &mut states);
-    answer_of(e, used)
+    let supplier = Supplier::new(exclusions, table, &next, &head, used, &bad);
+    let e = supplier.judge(d, m, &mut states);
+    Ok(answer_of(e, used))
 }
 
 // The answer for two accepted descriptions: 7 where the table is too short for the first. Few entries take small tables, which are sooner
@@ -119,12 +121,16 @@ fn judge_read(
     d: &[u8],
     m: usize,
     table: &mut [u64],
-) -> Holding
-    requires { Ruled (under exclusions.pairs.now) × (reading_of Schema.Description 1 c.now ≡ Reading.Accepted n) × (reading_of Schema.Description 2 d.now ≡ Reading.Accepted m) }
+) -> Result<Option<Unheld>, Refusal>
+    requires { Ruled (under exclusions.pairs.now) × (reading_of Schema.Description 1 c.now ≡ Ok n) × (reading_of Schema.Description 2 d.now ≡ Ok m) }
     ensures { Judges (under exclusions.entry.pairs.now) c.now d.now table.old result table.new }
 {
     if table.len() <= n {
-        return Holding::Refused(7, 0, 0);
+        return Err(Refusal {
+            cause: Cause::Room,
+            input: 0,
+            place: 0,
+        });
     }
     if n < 64 && m < 64 {
         return judge::<64, 61>(exclusions, c, n, d, m, table);
@@ -139,31 +145,35 @@ fn second_failing(
     n: usize,
     d: &[u8],
     table: &mut [u64],
-) -> Holding
-    requires { Ruled (under exclusions.pairs.now) × (reading_of Schema.Description 1 c.now ≡ Reading.Accepted n) }
+) -> Result<Option<Unheld>, Refusal>
+    requires { Ruled (under exclusions.pairs.now) × (reading_of Schema.Description 1 c.now ≡ Ok n) }
     ensures { Judges (under exclusions.entry.pairs.now) c.now d.now table.old result table.new }
 {
-    let reading = reading::read(d, Schema::Description, 2);
-    match reading {
-        Reading::Refused(number, input, place) => Holding::Refused(number, input, place),
-        Reading::Accepted(m) => judge_read(exclusions, c, n, d, usize::from(m), table),
-    }
+    let m = reading::read(d, Schema::Description, 2)?;
+    judge_read(exclusions, c, n, d, usize::from(m), table)
 }
 
 // Reads the first description, under a list of pairs that is accepted and indexed.
-fn failing_indexed(exclusions: Exclusions<'_>, c: &[u8], d: &[u8], table: &mut [u64]) -> Holding
+fn failing_indexed(
+    exclusions: Exclusions<'_>,
+    c: &[u8],
+    d: &[u8],
+    table: &mut [u64],
+) -> Result<Option<Unheld>, Refusal>
     requires { Ruled (under exclusions.pairs.now) }
     ensures { Judges (under exclusions.entry.pairs.now) c.now d.now table.old result table.new }
 {
-    let reading = reading::read(c, Schema::Description, 1);
-    match reading {
-        Reading::Refused(number, input, place) => Holding::Refused(number, input, place),
-        Reading::Accepted(n) => second_failing(exclusions, c, usize::from(n), d, table),
-    }
+    let n = reading::read(c, Schema::Description, 1)?;
+    second_failing(exclusions, c, usize::from(n), d, table)
 }
 
 // The same where the list is accepted.
-fn failing_listed(pairs: &[u8], c: &[u8], d: &[u8], table: &mut [u64]) -> Holding
+fn failing_listed(
+    pairs: &[u8],
+    c: &[u8],
+    d: &[u8],
+    table: &mut [u64],
+) -> Result<Option<Unheld>, Refusal>
     requires { (pair_count pairs.now ≤ 64) × Ruled (under pairs.now) }
     ensures { Judges (under pairs.now) c.now d.now table.old result table.new }
 {
@@ -176,14 +186,16 @@ fn failing_listed(pairs: &[u8], c: &[u8], d: &[u8], table: &mut [u64]) -> Holdin
 // its number, with the number of slots that then stand in the table, settled, from number 1 on; or that all hold; or the refusal, of the
 // list, of input 1 or 2, or 7 where the table has no number for each entry of the first after number 0. Where anything is refused the table
 // stays. Nothing is sorted.
-pub fn first_failing(pairs: &[u8], c: &[u8], d: &[u8], table: &mut [u64]) -> Holding
+pub fn first_failing(
+    pairs: &[u8],
+    c: &[u8],
+    d: &[u8],
+    table: &mut [u64],
+) -> Result<Option<Unheld>, Refusal>
     ensures { (result ≡ holding_of pairs.now (length table.old) c.now d.now)
         × (table.new ≡ table_judged pairs.now c.now d.now table.old)
         × JudgedBy pairs.now c.now d.now table.new result }
 {
-    let list = pairs::read_pairs(pairs);
-    match list {
-        Reading::Refused(number, input, place) => Holding::Refused(number, input, place),
-        Reading::Accepted(_) => failing_listed(pairs, c, d, table),
-    }
+    pairs::read_pairs(pairs)?;
+    failing_listed(pairs, c, d, table)
 }

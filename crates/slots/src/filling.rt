@@ -5,14 +5,14 @@ ghost use Rattle.pairs.specs.Pairs.{pair_count, under};
 ghost use Rattle.slots.specs.code.Tables.{Blank, Chained, Exact, Readable, Settled, Workspace};
 ghost use Rattle.slots.specs.code.Standing.{FilledBy, Fills, bad_after, full_after, room_in, slotting_of, table_after};
 
-use crate::Slotting;
 use crate::build::build;
 use crate::restrict::restrict_slots;
 use crate::settle::settle;
-use blocks::{Reading, Schema};
+use blocks::{Cause, Refusal, Schema};
 use pairs::Exclusions;
 
-// The slots of a description with `total` entries, settled, with the chains that find them; returns their number.
+// The slots of a description with `total` entries, settled, with the chains that find them; returns their number. Here and below each table is a
+// parameter, and no field: the passes are lent some to read and others to write at once, of which a struct of `&mut` slices gives no proof.
 pub(crate) fn chained_slots<const BUCKETS: usize>(
     exclusions: Exclusions<'_>,
     d: &[u8],
@@ -79,16 +79,20 @@ fn fill_accepted(
     table: &mut [u64],
     bad: &mut [u8],
     full: &mut [u8],
-) -> Slotting
-    requires { reading_of Schema.Description 1 d.now ≡ Reading.Accepted total }
+) -> Result<u16, Refusal>
+    requires { reading_of Schema.Description 1 d.now ≡ Ok total }
     ensures { Fills (under exclusions.entry.pairs.now) d.now table.old bad.old full.old result table.new bad.new full.new }
 {
     if table.len().min(bad.len().min(full.len())) <= total {
-        return Slotting::Refused(7, 0, 0);
+        return Err(Refusal {
+            cause: Cause::Room,
+            input: 0,
+            place: 0,
+        });
     }
     bad.fill(0);
     full.fill(0);
-    Slotting::Filled(settled_slots(exclusions, d, total, table, bad, full) as u16)
+    Ok(settled_slots(exclusions, d, total, table, bad, full) as u16)
 }
 
 // The same for any description, under a list of pairs that is accepted and indexed.
@@ -98,14 +102,11 @@ fn fill_indexed(
     table: &mut [u64],
     bad: &mut [u8],
     full: &mut [u8],
-) -> Slotting
+) -> Result<u16, Refusal>
     ensures { Fills (under exclusions.entry.pairs.now) d.now table.old bad.old full.old result table.new bad.new full.new }
 {
-    let reading = reading::read(d, Schema::Description, 1);
-    match reading {
-        Reading::Refused(number, input, place) => Slotting::Refused(number, input, place),
-        Reading::Accepted(n) => fill_accepted(exclusions, d, usize::from(n), table, bad, full),
-    }
+    let n = reading::read(d, Schema::Description, 1)?;
+    fill_accepted(exclusions, d, usize::from(n), table, bad, full)
 }
 
 // The same where the list is accepted.
@@ -115,7 +116,7 @@ fn fill_listed(
     table: &mut [u64],
     bad: &mut [u8],
     full: &mut [u8],
-) -> Slotting
+) -> Result<u16, Refusal>
     requires { pair_count pairs.now ≤ 64 }
     ensures { Fills (under pairs.now) d.now table.old bad.old full.old result table.new bad.new full.new }
 {
@@ -127,16 +128,19 @@ fn fill_listed(
 // Reads a list of pairs and a description and fills the tables: with the slots of the description under the list, from number 1 on, and with
 // marks, whatever they held. Returns the number of slots; or the refusal, which is 7 where a table has no number for each entry after number
 // 0, and then the tables stay.
-pub fn fill(pairs: &[u8], d: &[u8], table: &mut [u64], bad: &mut [u8], full: &mut [u8]) -> Slotting
+pub fn fill(
+    pairs: &[u8],
+    d: &[u8],
+    table: &mut [u64],
+    bad: &mut [u8],
+    full: &mut [u8],
+) -> Result<u16, Refusal>
     ensures { (result ≡ slotting_of pairs.now (room_in table.old bad.old full.old) d.now)
         × (table.new ≡ table_after pairs.now (room_in table.old bad.old full.old) d.now table.old)
         × (bad.new ≡ bad_after pairs.now (room_in table.old bad.old full.old) d.now bad.old)
         × (full.new ≡ full_after pairs.now (room_in table.old bad.old full.old) d.now full.old)
         × FilledBy pairs.now (room_in table.old bad.old full.old) d.now table.new bad.new full.new result }
 {
-    let list = pairs::read_pairs(pairs);
-    match list {
-        Reading::Refused(number, input, place) => Slotting::Refused(number, input, place),
-        Reading::Accepted(_) => fill_listed(pairs, d, table, bad, full),
-    }
+    pairs::read_pairs(pairs)?;
+    fill_listed(pairs, d, table, bad, full)
 }

@@ -24,34 +24,11 @@ pub use catalogue::judge_list;
 pub use failing::first_failing;
 pub use filling::fill;
 pub use slots::{high_in, key_in, low_in};
+pub use states::NOWHERE;
 
-// What filling tables with the slots of an input answers: how many there are; or the refusal's number, the input and the place.
-#[derive(Clone, Copy)]
-pub enum Slotting {
-    Filled(u16),
-    Refused(u8, u16, u16),
-}
-
-// Which entries of a second description the normal form of a first holds: all; all before this one, with the number of slots that stand in
-// the table; or the refusal's number, the input and the place.
-#[derive(Clone, Copy)]
-pub enum Holding {
-    All,
-    Fails(u16, u16),
-    Refused(u8, u16, u16),
-}
-
-// What judging one description of a list answers: its byte, or the refusal's number, the input and the place.
-#[derive(Clone, Copy)]
-enum Judgement {
-    Bit(u8),
-    Refused(u8, u16, u16),
-}
-
-// What going over the entries of a service answers: the number of the first that is refused and its place, or the first that does not hold, if
-// there is one.
-#[derive(Clone, Copy)]
-enum Pass {
-    Faulty(u8, u16),
-    Through(Option<usize>),
+// The first entry of a second description that the normal form of a first does not hold, and the number of slots that stand in the table.
+#[derive(Clone, Copy, Debug, PartialEq, Eq)]
+pub struct Unheld {
+    pub entry: u16,
+    pub used: u16,
 }

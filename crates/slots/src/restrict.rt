@@ -82,7 +82,8 @@ fn restricted<const BUCKETS: usize>(
     restricted_property(x, out)
 }
 
-// Puts the slots 1 to `used` under the rule. What a place has does not change on the way.
+// Puts the slots 1 to `used` under the rule. What a place has does not change on the way. It takes the parts of the table: they are lent as Slots
+// for a look, and one is written after it.
 pub(crate) fn restrict_slots<const BUCKETS: usize>(
     exclusions: Exclusions<'_>,
     table: &mut [u64],

@@ -1,126 +1,135 @@
 // A service read and judged by the slots of another description: its blocks first, and then its entries, each checked and judged in one pass. Two
 // chains run along the owners, of levels and of states; in one pass neither waits for the other.
-ghost use Rattle.std.specs.Prelude.{◌≡◌, List, ◌≤◌, ◌<◌, ℕ, false, length};
+ghost use Rattle.std.specs.Prelude.{◌≡◌, List, ◌+◌, ◌≤◌, ◌<◌, ℕ, false, length};
+ghost use Rattle.std.specs.Iterator.Adapters.{enumerate_count};
 ghost use Rattle.base.specs.Range.{bit};
-ghost use Rattle.blocks.specs.Entries.{entries_of};
+ghost use Rattle.blocks.specs.Entries.{entries_of, nth};
 ghost use Rattle.blocks.specs.Faults.{entry_faults, first};
 ghost use Rattle.blocks.specs.Reading.{answer, reading_of};
 ghost use Rattle.blocks.specs.code.Blockwise.{Whole};
+ghost use Rattle.blocks.specs.code.ReadingSteps.{Levels};
 ghost use Rattle.blocks.specs.declared.Schema.{Schema};
 ghost use Rattle.logic.specs.Background.{Ruled};
 ghost use Rattle.pairs.specs.Pairs.{under};
 ghost use Rattle.slots.specs.code.Judging.{plain_judged, bit_unless};
 ghost use Rattle.slots.specs.code.Lent.{AllPassedIn, HeldIn};
+ghost use Rattle.slots.specs.code.Pass.{EntryChecked, Left, RestChecked, left_in};
 
 use crate::catalogue::bit_of;
 use crate::failing::Supplier;
-use crate::slots::Slots;
-use crate::{Judgement, Pass};
-use blocks::{Entry, Reading, Schema, entries_in_order};
-use pairs::Exclusions;
+use blocks::{Entry, InOrder, Refusal, Schema, entries_in_order};
 use reading::{entry_refusal, level_under, owner_level, read_blocks};
+use std::iter::Enumerate;
 
-// Goes over the `total` entries of a service, with tables that have a number for each: checks each, and judges it as long as none before it
-// fails. What the tables held does not count.
+// Checks entry n of a service by the levels of the entries before it, and notes its own. A part of both loops below, inlined into each.
+#[inline(always)]
+fn check_entry(e: Entry, n: usize, level: &mut [u8], input: u16) -> Result<(), Refusal>
+    requires { (n < length level.old) × (n ≤ 1008) }
+    ensures { (es : List Entry) → Levels (Schema.Named 0) es level.old n → 1 ≤ n → n ≤ length es → e ≡ nth es n
+        → EntryChecked es n input result level.new }
+{
+    let l = owner_level(&level[..n], e.owner);
+    if let Some(cause) = entry_refusal(Schema::Named(0), e, l) {
+        return Err(Refusal {
+            cause,
+            input,
+            place: n as u16,
+        });
+    }
+    level[n] = level_under(Schema::Named(0), e.kind, l);
+    Ok(())
+}
+
+// Checks the entries that are left of a service, of which one has failed: none is judged any more.
+fn check_rest(rest: Enumerate<InOrder<'_>>, level: &mut [u8], input: u16) -> Result<(), Refusal>
+    requires { (enumerate_count rest + length (left_in rest) < length level.old) × (enumerate_count rest + length (left_in rest) ≤ 1008) }
+    ensures { (d : List ℕ) → (total : ℕ) → Left d total rest.entry → Levels (Schema.Named 0) (entries_of d) level.old (enumerate_count rest.entry + 1)
+        → RestChecked d (enumerate_count rest.entry) total input result }
+{
+    for (before, bytes) in rest {
+        check_entry(Entry::from(bytes), before + 1, level, input)?;
+    }
+    Ok(())
+}
+
+// Goes over the `total` entries of a service, with tables that have a number for each: checks and judges each until one fails, and only checks
+// the rest. What the tables held does not count.
 #[inline(always)]
 fn pass_entries(
-    exclusions: Exclusions<'_>,
-    slots: Slots<'_, 4093>,
+    supplier: Supplier<'_, 4093>,
     d: &[u8],
     total: usize,
     states: &mut [u16],
     level: &mut [u8],
-) -> Pass
+    input: u16,
+) -> Result<Option<usize>, Refusal>
     requires { (total ≡ length (entries_of d.now)) × (total ≤ 1008)
         × Whole d.now total × (total < length states.old) × (total < length level.old) }
-    ensures { AllPassedIn (under exclusions.entry.pairs.now) d.now slots.entry total result }
+    ensures { AllPassedIn (under supplier.entry.exclusions.pairs.now) d.now supplier.entry.slots total input result }
 {
     states[0] = 0;
     level[0] = 1;
-    let mut failing = None;
-    for (before, bytes) in entries_in_order(d, total).enumerate() {
+    let mut rest = entries_in_order(d, total).enumerate();
+    // `while let` and no `for`: what is left is handed on where an entry fails.
+    while let Some((before, bytes)) = rest.next() {
         let e = Entry::from(bytes);
         let n = before + 1;
-        let l = owner_level(&level[..n], e.owner);
-        let number = entry_refusal(Schema::Named(0), e, l);
-        if number != 0 {
-            return Pass::Faulty(number, n as u16);
-        }
-        level[n] = level_under(Schema::Named(0), e.kind, l);
-        if failing.is_none() {
-            let s = states[usize::from(e.owner)];
-            match slots.look(exclusions, s, e) {
-                Some(below) => states[n] = below,
-                None => failing = Some(n),
+        check_entry(e, n, level, input)?;
+        let s = states[usize::from(e.owner)];
+        match supplier.slots.look(supplier.exclusions, s, e) {
+            Some(below) => states[n] = below,
+            None => {
+                check_rest(rest, level, input)?;
+                return Ok(Some(n));
             }
         }
     }
-    Pass::Through(failing)
+    Ok(None)
 }
 
 // Reads a service that is contained if it is accepted: nothing fits the other description.
-fn judge_broken(d: &[u8], input: u16) -> Judgement
+fn judge_broken(d: &[u8], input: u16) -> Result<u8, Refusal>
     ensures { result ≡ bit_unless (reading_of (Schema.Named 0) input d.now) 1 }
 {
-    let reading = reading::read(d, Schema::Named(0), input);
-    match reading {
-        Reading::Refused(number, i, place) => Judgement::Refused(number, i, place),
-        Reading::Accepted(_) => Judgement::Bit(1),
-    }
+    reading::read(d, Schema::Named(0), input)?;
+    Ok(1)
 }
 
 // Judges a service whose blocks are sound and have `total` entries.
 fn judge_entries(
-    exclusions: Exclusions<'_>,
     supplier: Supplier<'_, 4093>,
     d: &[u8],
     total: u16,
     input: u16,
     states: &mut [u16],
     level: &mut [u8],
-) -> Judgement
-    requires { Ruled (under exclusions.pairs.now) × (supplier.impossible ≡ false)
+) -> Result<u8, Refusal>
+    requires { Ruled (under supplier.exclusions.pairs.now) × (supplier.impossible ≡ false)
         × (reading_of (Schema.Named 0) input d.now ≡ answer input total (first (entry_faults (Schema.Named 0) (entries_of d.now) 1 total)))
         × (total ≡ length (entries_of d.now)) × (total ≤ 1008) × Whole d.now total × (1008 < length states.old) × (1008 < length level.old) }
-    ensures { (c : List ℕ) → HeldIn (under exclusions.entry.pairs.now) c supplier.entry
-        → result ≡ plain_judged exclusions.entry.pairs.now c input d.now }
+    ensures { (c : List ℕ) → HeldIn (under supplier.entry.exclusions.pairs.now) c supplier.entry
+        → result ≡ plain_judged supplier.entry.exclusions.pairs.now c input d.now }
 {
-    let found = pass_entries(
-        exclusions,
-        supplier.slots,
-        d,
-        usize::from(total),
-        states,
-        level,
-    );
-    match found {
-        Pass::Faulty(number, place) => Judgement::Refused(number, input, place),
-        Pass::Through(f) => Judgement::Bit(bit_of(f)),
-    }
+    let f = pass_entries(supplier, d, usize::from(total), states, level, input)?;
+    Ok(bit_of(f))
 }
 
 // Reads a service with no names, an input of any number, and judges it.
 pub(crate) fn judge_plain(
-    exclusions: Exclusions<'_>,
     supplier: Supplier<'_, 4093>,
     d: &[u8],
     input: u16,
     states: &mut [u16],
-) -> Judgement
-    requires { Ruled (under exclusions.pairs.now)
+) -> Result<u8, Refusal>
+    requires { Ruled (under supplier.exclusions.pairs.now)
         × (1008 < length states.old) }
-    ensures { (c : List ℕ) → HeldIn (under exclusions.entry.pairs.now) c supplier.entry
-        → result ≡ plain_judged exclusions.entry.pairs.now c input d.now }
+    ensures { (c : List ℕ) → HeldIn (under supplier.entry.exclusions.pairs.now) c supplier.entry
+        → result ≡ plain_judged supplier.entry.exclusions.pairs.now c input d.now }
 {
     let mut level = [0u8; 1009];
     if supplier.impossible {
         return judge_broken(d, input);
     }
-    let reading = read_blocks(d, Schema::Named(0), input);
-    match reading {
-        Reading::Refused(number, i, place) => Judgement::Refused(number, i, place),
-        Reading::Accepted(total) => judge_entries(
-            exclusions, supplier, d, total, input, states, &mut level,
-        ),
-    }
+    let total = read_blocks(d, Schema::Named(0), input)?;
+    judge_entries(supplier, d, total, input, states, &mut level)
 }

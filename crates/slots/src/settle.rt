@@ -58,7 +58,7 @@ fn mark(marks: &mut [u8], v: usize, test: bool)
     }
 }
 
-// Settles slot s, where the slots above it are settled.
+// Settles slot s, where the slots above it are settled. The two marks stay apart from the slots: each is a table that the caller lends for itself.
 fn settle_slot(table: &mut [u64], bad: &mut [u8], full: &mut [u8], s: usize)
     requires { (s < length table.old) × (s < length bad.old) × (s < length full.old) × (key_in (get_or table.old s 0) / 131072 < s) }
     ensures { Slotted table.old bad.old full.old s table.new bad.new full.new }

@@ -5,7 +5,7 @@ ghost use Rattle.base.specs.Chain.{last_where};
 ghost use Rattle.passes.specs.code.Keys.{key_number};
 ghost use Rattle.slots.specs.code.Tables.{key_in, low_part, high_part, slot_number, hash_of, Kept, Entered, link_kind, no_bound};
 
-use blocks::{Entry, Link, Property};
+use blocks::{Entry, Link, Property, kinds};
 
 // The upper bound that stands for none: no bound of an entry is as large. It stays a number, since a slot is one number of 64 bits, in which an
 // Option would have to be packed as this one.
@@ -76,6 +76,7 @@ impl<const BUCKETS: usize> Slots<'_, BUCKETS> {
         }
         let b = bucket::<BUCKETS>(key);
         let mut s = usize::from(self.head[b]);
+        // The one walk along a chain: an iterator for it would say the same in three places.
         while s != 0 {
             if key_in(self.table[s]) == key {
                 return Some(s);
@@ -97,7 +98,7 @@ fn tighten(table: &mut [u64], s: usize, bounds: u64)
     table[s] = make_slot(key_in(x), low_in(x).max(lo), high_in(x).min(hi));
 }
 
-// Puts a new slot in front of its chain.
+// Puts a new slot in front of its chain. As `enter`, it takes the parts of the table.
 fn append<const BUCKETS: usize>(
     table: &mut [u64],
     next: &mut [u16],
@@ -142,9 +143,9 @@ fn link_kind(kind: u8) -> bool
     ensures { result ≡ link_kind kind }
 {
     match kind {
-        3 => true,
-        4 => true,
-        _ => kind == 5,
+        kinds::AT_LEAST => true,
+        kinds::AT_MOST => true,
+        _ => kind == kinds::EVERY,
     }
 }
 

@@ -14,12 +14,12 @@ ghost use Rattle.slots.specs.code.States.{beside_bounds, bounds_support, entry_s
 ghost use Rattle.slots.specs.code.Tables.{Readable, high_in, high_part, low_part, no_bound, slots_in};
 
 use crate::slots::{NO_BOUND, Slots, entry_key, high_in, low_in};
-use blocks::{Entry, entries_in_order};
+use blocks::{Entry, entries_in_order, kinds};
 use pairs::Exclusions;
 
 // Two states that are no place of the normal form: below NOWHERE nothing stands, and after PASSED, an at most 0, all holds. A slot has
 // neither number. They stay numbers and no enum, since a state is looked up as a place: there is no slot at NOWHERE, which needs no test.
-const NOWHERE: u16 = 1023;
+pub const NOWHERE: u16 = 1023;
 
 const PASSED: u16 = 1024;
 
@@ -39,11 +39,11 @@ fn least_asked(kind: u8) -> u64
     ensures { (result ≡ least_asked kind) × (result ≤ 131072) }
 {
     match kind {
-        1 => 1,
-        2 => 0,
-        3 => 0,
-        4 => 0,
-        5 => 0,
+        kinds::HAS => 1,
+        kinds::LACKS => 0,
+        kinds::AT_LEAST => 0,
+        kinds::AT_MOST => 0,
+        kinds::EVERY => 0,
         _ => NEVER,
     }
 }
@@ -53,11 +53,11 @@ fn most_asked(kind: u8) -> u64
     ensures { (result ≡ most_asked kind) × (result ≤ 131071) }
 {
     match kind {
-        1 => ANY,
-        2 => LISTED,
-        3 => ANY,
-        4 => 0,
-        5 => ANY,
+        kinds::HAS => ANY,
+        kinds::LACKS => LISTED,
+        kinds::AT_LEAST => ANY,
+        kinds::AT_MOST => 0,
+        kinds::EVERY => ANY,
         _ => ANY,
     }
 }
@@ -73,10 +73,10 @@ fn number_of(kind: u8, other: u8, number: u16) -> u64
 fn supported(kind: u8, number: u16, x: u64) -> bool
     ensures { result ≡ bounds_support kind number (low_part x) (high_in (high_part x)) }
 {
-    if low_in(x) < least_asked(kind) + number_of(kind, 3, number) {
+    if low_in(x) < least_asked(kind) + number_of(kind, kinds::AT_LEAST, number) {
         return false;
     }
-    high_in(x) <= most_asked(kind) + number_of(kind, 4, number)
+    high_in(x) <= most_asked(kind) + number_of(kind, kinds::AT_MOST, number)
 }
 
 // Whether every record has at most so many of a link: "at most 1 or more is always met" of a link from 32,768 up.
@@ -126,8 +126,8 @@ impl<const BUCKETS: usize> Slots<'_, BUCKETS> {
     {
         let kind = e.kind;
         match kind {
-            2 => self.excluded(exclusions, place, e.property()),
-            4 => always(e.name, e.number),
+            kinds::LACKS => self.excluded(exclusions, place, e.property()),
+            kinds::AT_MOST => always(e.name, e.number),
             _ => false,
         }
     }

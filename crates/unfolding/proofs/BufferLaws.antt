@@ -14,7 +14,7 @@ use Rattle.blocks.proofs.RoundTrip.Decoding.{length-encode}
 use Rattle.blocks.specs.Encoding.{blocks_for, encode}
 use Rattle.blocks.specs.Entries.{entries_of}
 use Rattle.blocks.specs.Frame.{plain}
-use Rattle.blocks.specs.declared.Reading.TheVariants.{Accepted}
+use Rattle.std.specs.Prelude.{Ok}
 use Rattle.names.proofs.Legality.AcceptedReadings.{sent-count, sent-legal}
 use Rattle.names.specs.NamedReading.{dictionary_of, plain_of, sent_of, unfolding_of}
 use Rattle.names.specs.Unfold.{unfolded_by}
@@ -37,7 +37,7 @@ pub blocks-room : (n : ℕ) → n ≤ 1008 → 512 * blocks_for plain n ≤ 8192
 unfolding blocks_for
 blocks-room n h = omega arith
 
-module _ (D : List ℕ) (i : ℕ) (s : List ℕ) {n : ℕ} (e : unfolding_of D i s ≡ Accepted n) where
+module _ (D : List ℕ) (i : ℕ) (s : List ℕ) {n : ℕ} (e : unfolding_of D i s ≡ Ok n) where
   pub unfolded-few : n ≤ 1008
   unfolded-few = omega (arith, sent-count D i s e, (sent-legal D i s e).small.size)
 

@@ -11,7 +11,8 @@ use Rattle.blocks.proofs.RoundTrip.Unbroken.{Unbroken}
 use Rattle.blocks.specs.Entries.{entries_of}
 use Rattle.blocks.specs.Frame.{plain}
 use Rattle.blocks.specs.declared.Entry.{Entry}
-use Rattle.blocks.specs.declared.Reading.TheVariants.{Accepted, Refused}
+use Rattle.std.specs.Prelude.{Result, Ok, Err}
+use Rattle.blocks.specs.declared.Refusal.{Refusal}
 use Rattle.blocks.specs.declared.Schema.TheVariants.{Named}
 use Rattle.lists.proofs.PartLaws.{part-long, start-next, start-within}
 use Rattle.lists.specs.Parts.{parts_of, start_of}
@@ -19,7 +20,6 @@ use Rattle.names.proofs.Legality.NamedReadings.{taken-within}
 use Rattle.names.specs.NamedReading.{dictionary_of, named_reading, parts_reading}
 use Rattle.unfolding.proofs.KnownLaws.{known_more, known_start}
 use Rattle.unfolding.specs.code.Known.{Known, MeasuredBy, Ready, blank, start_in}
-use Rattle.unfolding.specs.declared.Measured.TheVariants as measured
 use Rattle.unfolding.specs.declared.Measured.{Measured}
 use Rattle.unfolding.specs.declared.tables.Described.{Described}
 use Rattle.unfolding.specs.declared.tables.Tables.{Tables}
@@ -36,7 +36,7 @@ earlier_more : (D : List ℕ) (n : ℕ) → n < length (parts_of D) → earlier 
 earlier_more D n h = ap (map entries_of) (take-suc (parts_of D) n [] h) ∙ map-append entries_of (take n (parts_of D)) (get_or (parts_of D) n [] ∷ [])
 
 -- what is measured, by what came of it
-measured-as : (K : List (List Entry)) (i : ℕ) (s : List ℕ) {r r' : Measured} → r ≡ r' → MeasuredBy K i s r → MeasuredBy K i s r'
+measured-as : (K : List (List Entry)) (i : ℕ) (s : List ℕ) {r r' : Result Measured Refusal} → r ≡ r' → MeasuredBy K i s r → MeasuredBy K i s r'
 measured-as K i s q M = subst (MeasuredBy K i s) q M
 
 -- some descriptions are read and taken: the tables have where they begin, their sizes and levels, and the answer is what the others, which are
@@ -100,24 +100,24 @@ module _ {D : List ℕ} {t : Tables} {at : ℕ} {rest : List (List ℕ)} (P : Pa
     earlier-next = earlier_more D n passed-some ∙ ap (λ (s : List ℕ). earlier D n ++ (entries_of s ∷ [])) (sym part-is)
 
     -- where it is taken, the tables have its size and its levels
-    known_next : length (parts_of D) ≤ 64 → {m z l : ℕ} → MeasuredBy (earlier D n) (101 + n) part (measured.Taken m z l)
-        → (t' : Tables) → t'.count ≡ n + 1 → t'.of ≡ set t.of (n + 1) (record { start = at; size = z; levels = l }) → Known (earlier D (n + 1)) t'
-    known_next few {z = z} {l = l} M t' c q =
+    known_next : length (parts_of D) ≤ 64 → {m : Measured} → MeasuredBy (earlier D n) (101 + n) part (Ok m)
+        → (t' : Tables) → t'.count ≡ n + 1 → t'.of ≡ set t.of (n + 1) (record { start = at; size = m.size; levels = m.levels }) → Known (earlier D (n + 1)) t'
+    known_next few {m = m} M t' c q =
         let K = earlier D n in
         let one : n + 1 ≡ suc n = omega arith in
         let W = taken-within K (101 + n) part P.known.sized.each M.5 M.0 in
-        let d : Described = record { start = at; size = z; levels = l } in
+        let d : Described = record { start = at; size = m.size; levels = m.levels } in
         let more = known_more K (entries_of part) {t' = t'} P.known M.5 W (omega (arith, passed-many, passed-some)) P.long d M.3 M.4 (omega (arith, passed-many)) (rw passed-many q) in
         let list : earlier D (n + 1) ≡ K ++ (entries_of part ∷ []) = ap (earlier D) one ∙ earlier-next in
         rw list more
 
     -- the answer is what the others give
-    same_next : {m z l : ℕ} → MeasuredBy (earlier D n) (101 + n) part (measured.Taken m z l) → parts_reading [] (parts_of D) ≡ parts_reading (earlier D (suc n)) more
+    same_next : {m : Measured} → MeasuredBy (earlier D n) (101 + n) part (Ok m) → parts_reading [] (parts_of D) ≡ parts_reading (earlier D (suc n)) more
     unfolding parts_reading
     same_next M = P.same ∙ rw (next, parts_reading, passed-many, M.0, earlier-next)
 
     -- and none of 1 to 3 applies to it
-    sound-next : {m z l : ℕ} → MeasuredBy (earlier D n) (101 + n) part (measured.Taken m z l) → (k : ℕ) → k < n + 1 → Unbroken plain (Named k) (get_or (parts_of D) k [])
+    sound-next : {m : Measured} → MeasuredBy (earlier D n) (101 + n) part (Ok m) → (k : ℕ) → k < n + 1 → Unbroken plain (Named k) (get_or (parts_of D) k [])
     sound-next M k b =
         eq-cases k n
         (λ q. let u : Unbroken plain (Named n) part = rw passed-many at M.6 in rw q (subst (Unbroken plain (Named n)) part-is u))
@@ -131,24 +131,24 @@ module _ {D : List ℕ} {t : Tables} {at : ℕ} {rest : List (List ℕ)} (P : Pa
         (λ q. ap (λ (x : Described). x.start) (get_or-set_other t.of (n + 1) (k + 1) d blank (omega arith)) ∙ P.starts k (omega arith))
 
     -- refused, it is the answer
-    pub passed-refused : {r : Measured} {k j p : ℕ} → r ≡ measured.Refused k j p → MeasuredBy (earlier D n) (101 + n) part r → parts_reading [] (parts_of D) ≡ Refused k j p
+    pub passed-refused : {r : Result Measured Refusal} {x : Refusal} → r ≡ Err x → MeasuredBy (earlier D n) (101 + n) part r → parts_reading [] (parts_of D) ≡ Err x
     unfolding parts_reading
-    passed-refused {k = k} {j = j} {p = p} q M =
-        let R : named_reading (earlier D n) (101 + n) part ≡ Refused k j p = measured-as (earlier D n) (101 + n) part q M in
+    passed-refused {x = x} q M =
+        let R : named_reading (earlier D n) (101 + n) part ≡ Err x = measured-as (earlier D n) (101 + n) part q M in
         P.same ∙ rw (next, parts_reading, passed-many, R)
 
     -- taken, it is one of those that are passed
-    pub passed-more : length (parts_of D) ≤ 64 → {r : Measured} {m z l : ℕ} → r ≡ measured.Taken m z l → MeasuredBy (earlier D n) (101 + n) part r
-        → {t' : Tables} → t'.count ≡ n + 1 → t'.of ≡ set t.of (n + 1) (record { start = at; size = z; levels = l }) → Passed D t' (at + length part) more
-    passed-more few {m = m} {z = z} {l = l} q given {t'} c w =
-        let M : MeasuredBy (earlier D n) (101 + n) part (measured.Taken m z l) = measured-as (earlier D n) (101 + n) part q given in
+    pub passed-more : length (parts_of D) ≤ 64 → {r : Result Measured Refusal} {m : Measured} → r ≡ Ok m → MeasuredBy (earlier D n) (101 + n) part r
+        → {t' : Tables} → t'.count ≡ n + 1 → t'.of ≡ set t.of (n + 1) (record { start = at; size = m.size; levels = m.levels }) → Passed D t' (at + length part) more
+    passed-more few {m = m} q given {t'} c w =
+        let M : MeasuredBy (earlier D n) (101 + n) part (Ok m) = measured-as (earlier D n) (101 + n) part q given in
         let one : n + 1 ≡ suc n = omega arith in
         record {
           few = omega (arith, passed-some);
           left = rw (c, one) more-is;
           start = rw (c, one) next-start;
           long = ap length w ∙ length-set t.of (n + 1) _ ∙ P.long;
-          starts = rw (w, c) (starts-next few (record { start = at; size = z; levels = l }) refl);
+          starts = rw (w, c) (starts-next few (record { start = at; size = m.size; levels = m.levels }) refl);
           known = let K : earlier D t'.count ≡ earlier D (n + 1) = ap (earlier D) c in rw K (known_next few M t' c w);
           same = rw (c, one) (same_next M);
           sound = rw c (sound-next M);
@@ -163,7 +163,7 @@ module _ {D : List ℕ} {t : Tables} {at : ℕ} {rest : List (List ℕ)} (P : Pa
     whole : earlier D n ≡ dictionary_of D
     whole = ap (map entries_of) (take_all n (parts_of D) (omega (arith, passed-all)))
 
-    pub passed-accepted : parts_reading [] (parts_of D) ≡ Accepted n
+    pub passed-accepted : parts_reading [] (parts_of D) ≡ Ok n
     unfolding parts_reading
     passed-accepted = P.same ∙ rw (none, parts_reading, passed-many)
 

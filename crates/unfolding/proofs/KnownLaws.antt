@@ -16,10 +16,10 @@ use Rattle.blocks.specs.Entries.{entries_of, name_given}
 use Rattle.blocks.specs.Faults.{entry_faults, first}
 use Rattle.blocks.specs.Reading.{answer, reading_of}
 use Rattle.blocks.specs.code.Blockwise.{Whole}
-use Rattle.blocks.specs.code.ReadingSteps.{rule_faults}
 use Rattle.blocks.specs.declared.Entry.{Entry}
-use Rattle.blocks.specs.declared.Finding.TheVariants.{Faulty}
-use Rattle.blocks.specs.declared.Reading.TheVariants.{Accepted, Refused}
+use Rattle.blocks.specs.declared.Refusal.{Refusal}
+use Rattle.std.specs.Prelude.{Result, Ok, Err}
+use Rattle.blocks.specs.Refusals.{refused}
 use Rattle.blocks.specs.declared.Schema.TheVariants.{Named}
 use Rattle.names.proofs.Dictionary.InTurn.{each_more, in-turn-more}
 use Rattle.names.proofs.Entries.EachEntry.{each-of-numbers}
@@ -34,9 +34,8 @@ use Rattle.unfolding.specs.code.Checking.{CheckedAll}
 use Rattle.unfolding.specs.code.Known.{Known, MeasuredBy, blank, levels_in, size_in}
 use Rattle.unfolding.specs.declared.tables.Described.{Described}
 use Rattle.unfolding.specs.declared.tables.Tables.{Tables}
-use Rattle.unfolding.specs.declared.Checked.TheVariants as checked
-use Rattle.unfolding.specs.declared.Checked.{Checked}
-use Rattle.unfolding.specs.declared.Measured.TheVariants as measured
+use Rattle.unfolding.specs.declared.Extent.{Extent}
+use Rattle.blocks.specs.declared.Cause.TheVariants.{Size}
 
 -- ---- the tables
 
@@ -95,16 +94,17 @@ module _ (K : List (List Entry)) (es : List Entry) where
 
 -- by what going over its entries answers, where its blocks are sound
 module _ (most i : ℕ) (s : List ℕ) (total : ℕ) (e : reading_of (Named most) i s ≡ answer i total (first (entry_faults (Named most) (entries_of s) 1 total)))
-    (S L : ℕ → ℕ) {c : Checked} (C : CheckedAll most S L (entries_of s) total c) where
-  pub checked_refused : {k p : ℕ} → c ≡ checked.Faulty k p → reading_of (Named most) i s ≡ Refused k i p
-  checked_refused {k} {p} q =
-      let f : first (rule_faults (Named most) (entries_of s) 1 total) ≡ Faulty k p = subst (CheckedAll most S L (entries_of s) total) q C in
-      e ∙ rw (sym (named-first most (entries_of s) total) ∙ f)
+    (S L : ℕ → ℕ) {c : Result Extent Refusal} (C : CheckedAll most S L (entries_of s) total i c) where
+  pub checked_refused : {x : Refusal} → c ≡ Err x → reading_of (Named most) i s ≡ Err x
+  checked_refused {x} q =
+      let f = subst (CheckedAll most S L (entries_of s) total i) q C in
+      let whose : refused x.cause i x.place ≡ Err x = ap (λ (j : ℕ). refused x.cause j x.place) (sym f.1) in
+      e ∙ rw (sym (named-first most (entries_of s) total) ∙ f.0) whose
 
-  pub checked-sound : {z l : ℕ} → c ≡ checked.Sound z l
-      → (reading_of (Named most) i s ≡ Accepted total) × ((z ≡ size_by S (entries_of s)) × (l ≡ levels_by L (entries_of s)))
-  checked-sound {z} {l} q =
-      let f = subst (CheckedAll most S L (entries_of s) total) q C in
+  pub checked-sound : {x : Extent} → c ≡ Ok x
+      → (reading_of (Named most) i s ≡ Ok total) × ((x.size ≡ size_by S (entries_of s)) × (x.levels ≡ levels_by L (entries_of s)))
+  checked-sound {x} q =
+      let f = subst (CheckedAll most S L (entries_of s) total i) q C in
       (e ∙ rw (sym (named-first most (entries_of s) total) ∙ f.0), (f.1, f.2))
 
 module _ {K : List (List Entry)} {t : Tables} (k : Known K t) (es : List Entry) (N : LegalNamed (length K) es) where
@@ -121,7 +121,7 @@ module _ {K : List (List Entry)} {t : Tables} (k : Known K t) (es : List Entry) 
       levels-given (levels_in t.of) (levels_nth K) (length K) (λ n h. k.deep n (omega (arith, k.sized.few))) (λ j. 0) 1 es
       (each-of-numbers (λ e. name_given (length K) e ≡ true) es N.name)
 
-module _ (most i : ℕ) (s : List ℕ) {total : ℕ} (e : reading_of (Named most) i s ≡ Accepted total) where
+module _ (most i : ℕ) (s : List ℕ) {total : ℕ} (e : reading_of (Named most) i s ≡ Ok total) where
   -- its entries can be gone over
   pub read_whole : (total ≡ length (entries_of s)) × Whole s total × (total ≤ 1008)
   read_whole =
@@ -133,23 +133,23 @@ module _ (most i : ℕ) (s : List ℕ) {total : ℕ} (e : reading_of (Named most
   read-legal = accepted-legal most i s e
 
 module _ {K : List (List Entry)} {t : Tables} (k : Known K t) (i : ℕ) (s : List ℕ) {total : ℕ}
-    (e : reading_of (Named (length K)) i s ≡ Accepted total) where
+    (e : reading_of (Named (length K)) i s ≡ Ok total) where
   abbrev legal : LegalNamed (length K) (entries_of s)
   legal = read-legal (length K) i s e
 
   -- where the numbers that are worked out are too large, it is refused
-  beyond : (Within (size_named K (entries_of s)) (levels_named K (entries_of s)) → ⊥) → named_reading K i s ≡ Refused 14 i 0
+  beyond : (Within (size_named K (entries_of s)) (levels_named K (entries_of s)) → ⊥) → named_reading K i s ≡ refused Size i 0
   beyond h = named-large K i s e (beyond-large K k.sized.each (length K) (entries_of s) legal h)
 
-  pub read-too-many : {z : ℕ} → z ≡ size_by (size_in t.of) (entries_of s) → 1008 < z → named_reading K i s ≡ Refused 14 i 0
+  pub read-too-many : {z : ℕ} → z ≡ size_by (size_in t.of) (entries_of s) → 1008 < z → named_reading K i s ≡ refused Size i 0
   read-too-many ze h = beyond (λ W. let t = tabled-size k (entries_of s) legal in omega (arith, W.few))
 
-  pub read-too-deep : {l : ℕ} → l ≡ levels_by (levels_in t.of) (entries_of s) → 33 < l → named_reading K i s ≡ Refused 14 i 0
+  pub read-too-deep : {l : ℕ} → l ≡ levels_by (levels_in t.of) (entries_of s) → 33 < l → named_reading K i s ≡ refused Size i 0
   read-too-deep le h = beyond (λ W. let t = tabled-levels k (entries_of s) legal in omega (arith, W.shallow))
 
   -- else it is taken
   pub read_taken : {z l : ℕ} → z ≡ size_by (size_in t.of) (entries_of s) → l ≡ levels_by (levels_in t.of) (entries_of s) → z ≤ 1008 → l ≤ 33
-      → MeasuredBy K i s (measured.Taken total z l)
+      → MeasuredBy K i s (Ok (record { total = total; size = z; levels = l }))
   read_taken {z} {l} ze le zb lb =
       let zs : z ≡ size_named K (entries_of s) = ze ∙ tabled-size k (entries_of s) legal in
       let ls : l ≡ levels_named K (entries_of s) = le ∙ tabled-levels k (entries_of s) legal in

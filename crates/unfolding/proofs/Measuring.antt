@@ -10,9 +10,14 @@ use mathlib.Core.Logic.{◌≢◌}
 use mathlib.Core.Path.{◌∙◌, ◌≡◌, ap, refl, sym}
 use native.Mathlib.Omega.{arith}
 use Rattle.base.proofs.Tests.{bool_cases, eq-cases, eq-eqb, lt-cases, lt-ltb, ne_eqb, tests}
+use Rattle.blocks.proofs.Refusing.LevelLaws.{entries-end, entries-found, entries-more, levels-more, levels-start}
 use Rattle.blocks.specs.Entries.{form_ok, is_named, name_given, nth, zero_entry}
-use Rattle.blocks.specs.code.ReadingSteps.{entry_refusal, level_by, level_under}
+use Rattle.blocks.specs.Faults.{Clean, Faulty, first}
+use Rattle.blocks.specs.code.ReadingSteps.{Levels, entry_refusal, level_by, level_under, rule_faults}
+use Rattle.blocks.specs.declared.Cause.{Cause}
+use Rattle.blocks.specs.declared.Cause.TheVariants.{Depth, Form, Name, Owner}
 use Rattle.blocks.specs.declared.Entry.{Entry}
+use Rattle.std.specs.Prelude.{None, Option, Some}
 use Rattle.blocks.specs.declared.Schema.TheVariants.{Description, Named}
 use Rattle.names.proofs.Legality.NamedReadings.{form-named}
 use Rattle.names.proofs.Legality.NoNames.{form-same}
@@ -88,11 +93,14 @@ module _ (S L : ℕ → ℕ) (es : List Entry) where
 
 -- ---- the rules of one entry
 
+some_none : {A : Type 0} {k : A} → Some k ≡ None → ⊥
+some_none e = let z : ◌≡◌ {A = ℕ} 0 1 = cc in omega arith
+
 module _ (most : ℕ) (e : Entry) (l : ℕ) where
   -- those of a name
   pub name_rules : is_named e ≡ true
       → entry_refusal (Named most) e l
-      ≡ cond (eqb e.reserved 0 && eqb e.number 0) (cond (ltb 0 e.name && leb e.name most) (cond (eqb l 0) 5 (cond (ltb 33 l) 6 0)) 13) 4
+      ≡ cond (eqb e.reserved 0 && eqb e.number 0) (cond (ltb 0 e.name && leb e.name most) (cond (eqb l 0) (Some Owner) (cond (ltb 33 l) (Some Depth) None)) (Some Name)) (Some Form)
   unfolding entry_refusal named_form_ok name_given
   name_rules q = rw (entry_refusal, form-named most e, named_form_ok, name_given, q)
 
@@ -107,21 +115,61 @@ module _ (most : ℕ) (e : Entry) (l : ℕ) where
   name-level q = let z : eqb e.kind 5 ≡ false = omega tests in rw (level_under, z)
 
   -- what an entry that breaks none keeps
-  pub unrefused : {number : ℕ} → number ≡ entry_refusal (Named most) e l → number ≡ 0 → (name_given most e ≡ true) × ((l ≢ 0) × (l ≤ 33))
+  pub unrefused : {o : Option Cause} → o ≡ entry_refusal (Named most) e l → o ≡ None → (name_given most e ≡ true) × ((l ≢ 0) × (l ≤ 33))
   unfolding entry_refusal
-  unrefused {number} r n =
-      let h : entry_refusal (Named most) e l ≡ 0 = sym r ∙ n in
+  unrefused r n =
+      let h : entry_refusal (Named most) e l ≡ None = sym r ∙ n in
       bool_cases (form_ok (Named most) e)
       (λ p. bool_cases (name_given most e)
       (λ w. eq-cases l 0
-      (λ z. let g = rw (entry_refusal, p, w, eq-eqb z) at h in absurd (omega arith))
+      (λ z. let g = rw (entry_refusal, p, w, eq-eqb z) at h in absurd (some_none g))
       (λ z. lt-cases 33 l
-      (λ d. let g = rw (entry_refusal, p, w, ne_eqb z, lt-ltb d) at h in absurd (omega arith))
+      (λ d. let g = rw (entry_refusal, p, w, ne_eqb z, lt-ltb d) at h in absurd (some_none g))
       (λ d. (w, (z, d)))))
-      (λ w. let g = rw (entry_refusal, p, w) at h in absurd (omega arith)))
-      (λ p. let g = rw (entry_refusal, p) at h in absurd (omega arith))
+      (λ w. let g = rw (entry_refusal, p, w) at h in absurd (some_none g)))
+      (λ p. let g = rw (entry_refusal, p) at h in absurd (some_none g))
 
 -- the level of an entry that may own others
 pub other-level : (most kind l : ℕ) {v : ℕ} → v ≡ level_under Description kind l → v ≡ level_under (Named most) kind l
 unfolding level_under
 other-level most kind l e = e
+
+-- ---- checked and measured together
+
+-- k entries are passed: the table has their levels, what the whole search finds is what the search of those left finds, and what they come to
+pub record Past (most : ℕ) (S L : ℕ → ℕ) (es : List Entry) (total : ℕ) (level : List ℕ) (had deep k : ℕ) : Type 0 where
+  pub levels : Levels (Named most) es level (k + 1)
+  pub rest : first (rule_faults (Named most) es 1 total) ≡ first (rule_faults (Named most) es (k + 1) (total + 1 - (k + 1)))
+  pub gone : Gone S L es level had deep k
+
+pub past-start : (most : ℕ) (S L : ℕ → ℕ) (es : List Entry) (total : ℕ) (level : List ℕ) → length es < length level
+    → Past most S L es total (set level 0 1) 0 0 0
+past-start most S L es total level h =
+    let e : total + 1 - 1 ≡ total = omega arith in
+    record { levels = levels-start _ _ level h; rest = rw e; gone = gone-start _ _ _ level (omega arith) }
+
+module _ {most : ℕ} {S L : ℕ → ℕ} {es : List Entry} {total : ℕ} {level : List ℕ} {had deep k : ℕ} (P : Past most S L es total level had deep k) where
+  -- the next: l is the level of its owner, o why it is refused
+  module _ (b : k < total) (all : total ≡ length es) {e : Entry} (at : e ≡ nth es (k + 1)) {l : ℕ} (lv : l ≡ level_by level (k + 1) e.owner) {o : Option Cause}
+      (r : o ≡ entry_refusal (Named most) e l) where
+    pub past-refused : {x : Cause} → o ≡ Some x → first (rule_faults (Named most) es 1 total) ≡ Faulty x (k + 1)
+    past-refused z = P.rest ∙ entries-found _ _ _ _ P.levels (omega arith) at lv r total (omega arith) z
+
+    -- it is right: v is its level in the table, z how many entries it stands for, u how deep they stand
+    pub past-more : o ≡ None → {v z u m : ℕ} → v ≡ level_under (Named most) e.kind l
+        → z ≡ cond (is_named e) (S e.name) 1 → z ≤ 65535
+        → u ≡ under (l - 1) (cond (is_named e) (L e.name) 1) → m ≡ max deep u → Past most S L es total (set level (k + 1) v) (had + z) m (k + 1)
+    past-more n ve ze zb ue me =
+        let there : k + 1 ≤ length es = omega arith in
+        record {
+          levels = levels-more _ _ _ _ P.levels (omega arith) at lv r n there ve;
+          rest = P.rest ∙ entries-more _ _ _ _ P.levels (omega arith) at lv r total (omega arith) n;
+          gone =
+              gone-more _ _ _ P.gone (omega arith) there (omega (arith, P.levels.room)) at most lv (unrefused _ _ _ r n).1.0 ve ze zb ue me;
+        }
+
+  -- all are passed
+  pub past-all : total ≡ length es → k ≡ total → (first (rule_faults (Named most) es 1 total) ≡ Clean) × (had ≡ size_by S es) × (deep ≡ levels_by L es)
+  past-all all e =
+      let g = gone-all _ _ _ P.gone (omega arith) in
+      (P.rest ∙ entries-end _ _ _ _ (omega arith), g.0, g.1)

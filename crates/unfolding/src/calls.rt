@@ -3,8 +3,7 @@ ghost use Rattle.std.specs.Prelude.{◌≡◌, ℕ, ◌*◌, ◌≤◌, ◌<◌,
 ghost use Rattle.blocks.specs.Encoding.{blocks_for, encode};
 ghost use Rattle.blocks.specs.Entries.{entries_of};
 ghost use Rattle.blocks.specs.Frame.{plain};
-ghost use Rattle.blocks.specs.Reading.{unless_refused};
-ghost use Rattle.blocks.specs.declared.Reading.{Reading};
+ghost use Rattle.blocks.specs.Refusals.{unless_refused};
 ghost use Rattle.names.specs.NamedReading.{dictionary_of, dictionary_reading, named_unfolding, plain_of};
 ghost use Rattle.names.specs.Unfold.{unfolded_by};
 ghost use Rattle.unfolding.specs.Answer.{both_of, over, second_after, short_by, unfold_at, unfolded_at};
@@ -13,29 +12,28 @@ use crate::dictionary::{Dictionary, read_dictionary, read_named};
 use crate::passes::unfold_rows;
 use crate::rows::{Rows, load};
 use crate::tables::{BLANK, Tables};
-use crate::{Measured, Unfolded};
-use blocks::Reading;
+use blocks::{Cause, Refusal};
 use writing::write_entries;
 
 // Reads a description, under a dictionary, and leaves its entries, unfolded, in a table.
-fn unfold_read(dictionary: Dictionary, d: &[u8], input: u16, rows: &mut Rows) -> Reading
+fn unfold_read(
+    dictionary: Dictionary,
+    d: &[u8],
+    input: u16,
+    rows: &mut Rows,
+) -> Result<u16, Refusal>
     ensures { (result ≡ named_unfolding (dictionary_of dictionary.entry.bytes.now) input d.now)
-        × ((n : ℕ) → result ≡ Reading.Accepted n → rows.new ≡ unfolded_by (dictionary_of dictionary.entry.bytes.now) (entries_of d.now)) }
+        × ((n : ℕ) → result ≡ Ok n → rows.new ≡ unfolded_by (dictionary_of dictionary.entry.bytes.now) (entries_of d.now)) }
 {
     let mut next = Rows {
         numbers: [0; 1008],
         len: 0,
     };
     let mut inner = [0u16; 1009];
-    let m = read_named(d, input, dictionary.tables);
-    match m {
-        Measured::Refused(number, i, place) => Reading::Refused(number, i, place),
-        Measured::Taken(total, _, _) => {
-            load(d, usize::from(total), &mut next);
-            unfold_rows(dictionary, rows, &mut next, &mut inner);
-            Reading::Accepted(rows.len() as u16)
-        }
-    }
+    let m = read_named(d, input, dictionary.tables)?;
+    load(d, usize::from(m.total), &mut next);
+    unfold_rows(dictionary, rows, &mut next, &mut inner);
+    Ok(rows.len() as u16)
 }
 
 // Writes the entries of a table as blocks from the start of an output; false, and no byte changes, where it is too short.
@@ -49,77 +47,80 @@ fn write_rows(out: &mut [u8], rows: &Rows) -> bool
 }
 
 // The same, written from the start of an output; 7 where it is too short.
-fn write_unfolded(dictionary: Dictionary, d: &[u8], input: u16, out: &mut [u8]) -> Reading
+fn write_unfolded(
+    dictionary: Dictionary,
+    d: &[u8],
+    input: u16,
+    out: &mut [u8],
+) -> Result<u16, Refusal>
     ensures { (result ≡ short_by out.old (named_unfolding (dictionary_of dictionary.entry.bytes.now) input d.now))
-        × (out.new ≡ unless_refused (λ k i p. out.old) result (over (plain_of dictionary.entry.bytes.now d.now) out.old)) }
+        × (out.new ≡ unless_refused (λ e. out.old) result (over (plain_of dictionary.entry.bytes.now d.now) out.old)) }
 {
     let mut rows = Rows {
         numbers: [0; 1008],
         len: 0,
     };
-    let reading = unfold_read(dictionary, d, input, &mut rows);
-    match reading {
-        Reading::Refused(number, i, place) => Reading::Refused(number, i, place),
-        Reading::Accepted(n) => {
-            if !write_rows(out, &rows) {
-                return Reading::Refused(7, 0, 0);
-            }
-            Reading::Accepted(n)
-        }
+    let n = unfold_read(dictionary, d, input, &mut rows)?;
+    if !write_rows(out, &rows) {
+        return Err(Refusal {
+            cause: Cause::Room,
+            input: 0,
+            place: 0,
+        });
     }
+    Ok(n)
 }
 
 // Reads a dictionary and a description, an input of any number, and writes the plain description that it stands for in blocks from the start
 // of an output; returns its number of entries. Later bytes stay. Where anything is refused, or the output is shorter than what would be
 // written, the refusal is returned and no byte changes. An output of 8,192 bytes is never too short.
-pub fn unfold_into(dictionary: &[u8], d: &[u8], input: u16, out: &mut [u8]) -> Reading
+pub fn unfold_into(dictionary: &[u8], d: &[u8], input: u16, out: &mut [u8]) -> Result<u16, Refusal>
     ensures { (result ≡ unfold_at dictionary.now input d.now out.old) × (out.new ≡ unfolded_at dictionary.now input d.now out.old) }
 {
     let mut tables = Tables {
         of: [BLANK; 65],
         count: 0,
     };
-    let reading = read_dictionary(dictionary, &mut tables);
-    match reading {
-        Reading::Refused(number, i, place) => Reading::Refused(number, i, place),
-        Reading::Accepted(_) => {
-            let dictionary = Dictionary {
-                bytes: dictionary,
-                tables: &tables,
-            };
-            write_unfolded(dictionary, d, input, out)
-        }
-    }
+    read_dictionary(dictionary, &mut tables)?;
+    let dictionary = Dictionary {
+        bytes: dictionary,
+        tables: &tables,
+    };
+    write_unfolded(dictionary, d, input, out)
 }
 
 // The unfolding: the same for input 1.
-pub fn unfold(dictionary: &[u8], d: &[u8], out: &mut [u8]) -> Reading
+pub fn unfold(dictionary: &[u8], d: &[u8], out: &mut [u8]) -> Result<u16, Refusal>
     ensures { (result ≡ unfold_at dictionary.now 1 d.now out.old) × (out.new ≡ unfolded_at dictionary.now 1 d.now out.old) }
 {
     unfold_into(dictionary, d, 1, out)
 }
 
-// Two descriptions, inputs 1 and 2, under one dictionary.
-fn unfold_two(dictionary: Dictionary, c: &[u8], d: &[u8], a: &mut [u8], b: &mut [u8]) -> Unfolded
-    requires { dictionary_reading dictionary.bytes.now ≡ Reading.Accepted dictionary.tables.now.count }
+// Two descriptions, inputs 1 and 2, under one dictionary: how many entries each has then.
+fn unfold_two(
+    dictionary: Dictionary,
+    c: &[u8],
+    d: &[u8],
+    a: &mut [u8],
+    b: &mut [u8],
+) -> Result<(u16, u16), Refusal>
+    requires { dictionary_reading dictionary.bytes.now ≡ Ok dictionary.tables.now.count }
     ensures { (result ≡ both_of dictionary.entry.bytes.now c.now d.now a.old b.old) × (a.new ≡ unfolded_at dictionary.entry.bytes.now 1 c.now a.old)
         × (b.new ≡ second_after dictionary.entry.bytes.now c.now d.now a.old b.old) }
 {
-    let first = write_unfolded(dictionary, c, 1, a);
-    match first {
-        Reading::Refused(number, i, place) => Unfolded::Refused(number, i, place),
-        Reading::Accepted(n) => {
-            let second = write_unfolded(dictionary, d, 2, b);
-            match second {
-                Reading::Refused(number, i, place) => Unfolded::Refused(number, i, place),
-                Reading::Accepted(m) => Unfolded::Both(n, m),
-            }
-        }
-    }
+    let n = write_unfolded(dictionary, c, 1, a)?;
+    let m = write_unfolded(dictionary, d, 2, b)?;
+    Ok((n, m))
 }
 
-// Unfolds two descriptions, inputs 1 and 2, to two outputs; the dictionary is read once.
-pub fn unfold_both(dictionary: &[u8], c: &[u8], d: &[u8], a: &mut [u8], b: &mut [u8]) -> Unfolded
+// Unfolds two descriptions, inputs 1 and 2, to two outputs, and returns how many entries each has then; the dictionary is read once.
+pub fn unfold_both(
+    dictionary: &[u8],
+    c: &[u8],
+    d: &[u8],
+    a: &mut [u8],
+    b: &mut [u8],
+) -> Result<(u16, u16), Refusal>
     ensures { (result ≡ both_of dictionary.now c.now d.now a.old b.old) × (a.new ≡ unfolded_at dictionary.now 1 c.now a.old)
         × (b.new ≡ second_after dictionary.now c.now d.now a.old b.old) }
 {
@@ -127,15 +128,10 @@ pub fn unfold_both(dictionary: &[u8], c: &[u8], d: &[u8], a: &mut [u8], b: &mut 
         of: [BLANK; 65],
         count: 0,
     };
-    let reading = read_dictionary(dictionary, &mut tables);
-    match reading {
-        Reading::Refused(number, i, place) => Unfolded::Refused(number, i, place),
-        Reading::Accepted(_) => {
-            let dictionary = Dictionary {
-                bytes: dictionary,
-                tables: &tables,
-            };
-            unfold_two(dictionary, c, d, a, b)
-        }
-    }
+    read_dictionary(dictionary, &mut tables)?;
+    let dictionary = Dictionary {
+        bytes: dictionary,
+        tables: &tables,
+    };
+    unfold_two(dictionary, c, d, a, b)
 }

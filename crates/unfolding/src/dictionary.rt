@@ -5,16 +5,15 @@ ghost use Rattle.blocks.specs.Faults.{entry_faults, first};
 ghost use Rattle.blocks.specs.Reading.{answer, reading_of};
 ghost use Rattle.blocks.specs.code.Blockwise.{Whole};
 ghost use Rattle.blocks.specs.declared.Entry.{Entry};
-ghost use Rattle.blocks.specs.declared.Reading.{Reading};
 ghost use Rattle.blocks.specs.declared.Schema.{Schema};
 ghost use Rattle.lists.specs.Parts.{parts_of};
 ghost use Rattle.names.specs.NamedReading.{dictionary_of, dictionary_reading, parts_reading};
 ghost use Rattle.unfolding.specs.code.Known.{Known, MeasuredBy, Ready, Ready-prop, blank};
 
+use crate::Measured;
 use crate::measure::check;
 use crate::tables::{Described, Tables};
-use crate::{Checked, Measured};
-use blocks::{Reading, Schema};
+use blocks::{Cause, Refusal, Schema};
 use lists::{Parts, part_length, parts_in};
 use reading::read_blocks;
 
@@ -38,74 +37,81 @@ impl<'a> Dictionary<'a> {
     }
 }
 
-// The answer for a description whose blocks are sound, with `total` entries: the refusal of the first that breaks a rule, else 14, or that it
-// is taken.
-fn take_entries(s: &[u8], total: u16, input: u16, tables: &Tables) -> Measured
+// The answer for a description whose blocks are sound, with `total` entries: the refusal of the first that breaks a rule, else 14, or what it
+// comes to.
+fn take_entries(s: &[u8], total: u16, input: u16, tables: &Tables) -> Result<Measured, Refusal>
     requires { (total ≡ length (entries_of s.now)) × (total ≤ 1008) × Whole s.now total
         × (reading_of (Schema.Named tables.now.count) input s.now ≡ answer input total (first (entry_faults (Schema.Named tables.now.count) (entries_of s.now) 1 total))) }
     ensures { (K : List (List Entry)) → Known K tables.now → MeasuredBy K input s.now result }
 {
-    let found = check(s, usize::from(total), tables);
-    match found {
-        Checked::Faulty(number, place) => Measured::Refused(number, input, place),
-        Checked::Sound(z, l) => {
-            if 1008 < z {
-                return Measured::Refused(14, input, 0);
-            }
-            if 33 < l {
-                return Measured::Refused(14, input, 0);
-            }
-            Measured::Taken(total, z as u16, l as u8)
-        }
+    let x = check(s, usize::from(total), tables, input)?;
+    if 1008 < x.size {
+        return Err(Refusal {
+            cause: Cause::Size,
+            input,
+            place: 0,
+        });
     }
+    if 33 < x.levels {
+        return Err(Refusal {
+            cause: Cause::Size,
+            input,
+            place: 0,
+        });
+    }
+    Ok(Measured {
+        total,
+        size: x.size as u16,
+        levels: x.levels as u8,
+    })
 }
 
 // Reads a description that may name those of a dictionary that are read.
-pub(crate) fn read_named(s: &[u8], input: u16, tables: &Tables) -> Measured
+pub(crate) fn read_named(s: &[u8], input: u16, tables: &Tables) -> Result<Measured, Refusal>
     ensures { (K : List (List Entry)) → Known K tables.now → MeasuredBy K input s.now result }
 {
-    let reading = read_blocks(s, Schema::Named(tables.count), input);
-    match reading {
-        Reading::Refused(number, i, place) => Measured::Refused(number, i, place),
-        Reading::Accepted(total) => take_entries(s, total, input, tables),
-    }
+    let total = read_blocks(s, Schema::Named(tables.count), input)?;
+    take_entries(s, total, input, tables)
 }
 
 // Reads the descriptions of a dictionary in turn: each may name the earlier ones.
-fn read_parts(bytes: &[u8], tables: &mut Tables) -> Reading
+fn read_parts(bytes: &[u8], tables: &mut Tables) -> Result<u16, Refusal>
     requires { (length (parts_of bytes.now) ≤ 64) × (tables.old.of ≡ replicate 65 blank) × (tables.old.count ≡ 0) }
     ensures { (result ≡ parts_reading [] (parts_of bytes.now))
-        × ((n : ℕ) → result ≡ Reading.Accepted n → (n ≡ tables.new.count) × Ready bytes.now tables.new) }
+        × ((n : ℕ) → result ≡ Ok n → (n ≡ tables.new.count) × Ready bytes.now tables.new) }
 {
     let mut at: usize = 0;
     for part in Parts::of(bytes) {
-        let m = read_named(part, 101 + tables.count, tables);
-        match m {
-            Measured::Refused(number, i, place) => return Reading::Refused(number, i, place),
-            Measured::Taken(_, size, levels) => {
-                tables.add(Described {
-                    start: at,
-                    size,
-                    levels,
-                });
-                at += part.len();
-            }
-        }
+        let m = read_named(part, 101 + tables.count, tables)?;
+        tables.add(Described {
+            start: at,
+            size: m.size,
+            levels: m.levels,
+        });
+        at += part.len();
     }
-    Reading::Accepted(tables.count)
+    Ok(tables.count)
 }
 
 // Reads a dictionary: how many descriptions it has, or the refusal. What is kept of each is left in tables that are blank before.
-pub(crate) fn read_dictionary(bytes: &[u8], tables: &mut Tables) -> Reading
+pub(crate) fn read_dictionary(bytes: &[u8], tables: &mut Tables) -> Result<u16, Refusal>
     requires { (tables.old.of ≡ replicate 65 blank) × (tables.old.count ≡ 0) }
     ensures { (result ≡ dictionary_reading bytes.now)
-        × ((n : ℕ) → result ≡ Reading.Accepted n → (n ≡ tables.new.count) × Ready bytes.now tables.new) }
+        × ((n : ℕ) → result ≡ Ok n → (n ≡ tables.new.count) × Ready bytes.now tables.new) }
 {
     if bytes.len() % 512 != 0 {
-        return Reading::Refused(1, 100, 0);
+        return Err(Refusal {
+            cause: Cause::Length,
+            input: 100,
+            place: 0,
+        });
     }
     if 64 < parts_in(bytes) {
-        return Reading::Refused(8, 100, 0);
+        return Err(Refusal {
+            cause: Cause::Count,
+            input: 100,
+            place: 0,
+        });
     }
     read_parts(bytes, tables)
 }

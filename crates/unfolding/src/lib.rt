@@ -19,25 +19,17 @@ mod tables;
 
 pub use calls::{unfold, unfold_both, unfold_into};
 
-// What unfolding two descriptions answers: the refusal's number, the input and the place, or how many entries each has then.
+// What the entries of a description come to: how many they are once unfolded, and on how many levels these stand.
 #[derive(Clone, Copy)]
-pub enum Unfolded {
-    Refused(u8, u16, u16),
-    Both(u16, u16),
+struct Extent {
+    size: usize,
+    levels: usize,
 }
 
-// What going over the entries of a description answers: the number of the first that is refused and its place, or how many entries they are
-// once unfolded, and on how many levels these stand.
+// A description that is read under a dictionary: how many entries it has, how many once unfolded, and on how many levels these stand.
 #[derive(Clone, Copy)]
-enum Checked {
-    Faulty(u8, u16),
-    Sound(usize, usize),
-}
-
-// What reading a description under a dictionary answers: the refusal's number, the input and the place, or how many entries it has, how many
-// once unfolded, and on how many levels these stand.
-#[derive(Clone, Copy)]
-enum Measured {
-    Refused(u8, u16, u16),
-    Taken(u16, u16, u8),
+struct Measured {
+    total: u16,
+    size: u16,
+    levels: u8,
 }

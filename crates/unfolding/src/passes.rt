@@ -9,7 +9,7 @@ ghost use Rattle.unfolding.specs.code.Replacing.{NamesOf, Stood};
 use crate::dictionary::Dictionary;
 use crate::replace::{put_again, put_part};
 use crate::rows::{Rows, entry_of_row};
-use blocks::{Entry, word};
+use blocks::{Entry, kinds, word};
 
 // Where what a name becomes stands: after how many entries, and how many entries it has.
 #[derive(Clone, Copy)]
@@ -74,7 +74,7 @@ fn open_names(dictionary: Dictionary, rows: &Rows, inner: &mut [u16; 1009], out:
     for (i, x) in rows.numbers().iter().enumerate() {
         let e = entry_of_row(*x);
         let o = number[usize::from(e.owner)];
-        if e.kind == 9 {
+        if e.kind == kinds::NAME {
             put_name(dictionary, e.name, o, inner, &mut stood, out);
         } else {
             out.push(Entry { owner: o, ..e });

@@ -13,7 +13,7 @@ ghost use Rattle.unfolding.specs.code.Replacing.{NamesFew, again};
 
 use crate::rows::Rows;
 use crate::tables::Tables;
-use blocks::{Entry, entries_in_order};
+use blocks::{Entry, entries_in_order, kinds};
 
 // Puts in a name, at the place of o, if it stands for something.
 fn keep_name(e: Entry, o: u16, tables: &Tables, out: &mut Rows)
@@ -44,7 +44,7 @@ pub(crate) fn put_part(
     for (before, bytes) in entries_in_order(s, total).enumerate() {
         let e = Entry::from(bytes);
         let owner = number[usize::from(e.owner)];
-        if e.kind == 9 {
+        if e.kind == kinds::NAME {
             keep_name(e, owner, tables, out);
         } else {
             out.push(Entry { owner, ..e });

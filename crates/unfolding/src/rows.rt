@@ -6,7 +6,7 @@ ghost use Rattle.blocks.specs.code.Blockwise.{Whole};
 ghost use Rattle.blocks.specs.declared.Entry.{Entry};
 ghost use Rattle.unfolding.specs.code.Rows.{entries_in, entry_of_row};
 
-use blocks::{Entry, entries_in_order, entry_of_bytes, pack};
+use blocks::{Entry, entries_in_order, kinds, pack};
 use std::marker::Model;
 
 // A table of at most 1,008 entries, which a contract sees as their list.
@@ -51,7 +51,9 @@ impl Rows {
     pub(crate) fn has_names(&self) -> bool
         ensures { result ≡ list_any is_named self.now }
     {
-        self.numbers().iter().any(|x| entry_of_row(*x).kind == 9)
+        self.numbers()
+            .iter()
+            .any(|x| entry_of_row(*x).kind == kinds::NAME)
     }
 
     // Takes all entries out.
@@ -84,26 +86,7 @@ impl Rows {
 pub(crate) fn entry_of_row(x: u64) -> Entry
     ensures { result ≡ entry_of_row x }
 {
-    let [
-        kind,
-        reserved,
-        owner,
-        owner_high,
-        name,
-        name_high,
-        number,
-        number_high,
-    ] = x.to_le_bytes();
-    entry_of_bytes(
-        kind,
-        reserved,
-        owner,
-        owner_high,
-        name,
-        name_high,
-        number,
-        number_high,
-    )
+    Entry::from(&x.to_le_bytes())
 }
 
 // Puts the `total` entries of a description into a table.

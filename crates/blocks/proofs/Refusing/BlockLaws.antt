@@ -1,16 +1,17 @@
 -- Laws of the rows that blocks break.
 -- Assumes nothing.
-use Rattle.std.proofs.Common.{◌≡◌, ℕ, zero, suc, ◌+◌, ◌-◌, ◌*◌, ◌<◌, ◌≤◌, Bool, true, false, not, ◌||◌, eqb, ltb, leb, ◌≢◌, List, sym, ap, ◌∙◌, add-one, arith}
+use Rattle.std.proofs.Common.{◌≡◌, ℕ, zero, suc, ◌+◌, ◌-◌, ◌*◌, ◌<◌, ◌≤◌, Bool, true, false, not, ◌||◌, eqb, ltb, leb, ◌≢◌, List, Option, Some, None, sym, ap, ◌∙◌, add-one, arith}
 use Rattle.base.proofs.RangeLaws.{none_left, one_left}
 use Rattle.base.proofs.Tests.{and_left, bool_cases, both_ways, eq-cases, eq-eqb, ne_eqb, tests}
 use Rattle.base.specs.Range.{all}
 use Rattle.blocks.proofs.Refusing.FirstFault.{clean-none, step, step-found, step-more}
-use Rattle.blocks.specs.Faults.{block_faults, first}
+use Rattle.blocks.specs.Faults.{Clean, Faulty, block_faults, first}
+use Rattle.blocks.specs.declared.Cause.TheVariants.{Check}
+use Rattle.blocks.specs.declared.Cause.{Cause}
 use Rattle.blocks.specs.Frame.{Frame, check_wrong, frame_wrong, plain, rest_zero, used_in, used_ok, zero_at}
-use Rattle.blocks.specs.Promise.{None}
+use Rattle.blocks.specs.Promise.{NoneApplies}
 use Rattle.blocks.specs.Words.{check_of, second_of, word_at}
 use Rattle.blocks.specs.code.ReadingSteps.{block_refusal}
-use Rattle.blocks.specs.declared.Finding.TheVariants.{Clean, Faulty}
 
 -- ---- number 3, one law for each way through its tests
 
@@ -70,18 +71,18 @@ pub blocks_end : (s : List ℕ) (n i : ℕ) → n ≤ i → first (block_faults 
 unfolding block_faults first
 blocks_end s n i h = rw (none_left i n h)
 
-module _ (s : List ℕ) (n i : ℕ) {number : ℕ} (l : i < n) (e : number ≡ block_refusal s n i) where
-  pub blocks_more : number ≡ 0 → first (block_faults plain s n i (n - i)) ≡ first (block_faults plain s n (i + 1) (n - (i + 1)))
+module _ (s : List ℕ) (n i : ℕ) {o : Option Cause} (l : i < n) (e : o ≡ block_refusal s n i) where
+  pub blocks_more : o ≡ None → first (block_faults plain s n i (n - i)) ≡ first (block_faults plain s n (i + 1) (n - (i + 1)))
   blocks_more z = rw (one_left i n l, add-one i) (block-step s n i (n - suc i) ∙ step-more _ _ _ (sym e ∙ z))
 
-  pub blocks-found : number ≢ 0 → first (block_faults plain s n i (n - i)) ≡ Faulty number (i + 1)
+  pub blocks-found : {k : Cause} → o ≡ Some k → first (block_faults plain s n i (n - i)) ≡ Faulty k (i + 1)
   blocks-found z =
-      rw (one_left i n l, add-one i) (block-step s n i (n - suc i) ∙ step-found _ _ _ (λ q. z (e ∙ q)) ∙ ap (λ (k : ℕ). Faulty k (suc i)) (sym e))
+      rw (one_left i n l, add-one i) (block-step s n i (n - suc i) ∙ step-found _ _ _ (sym e ∙ z))
 
 -- blocks in which no fault is found break neither number
-pub blocks-none : (F : Frame) (s : List ℕ) (n i left : ℕ) → None (block_faults F s n i left) → (k : ℕ) → i ≤ k → k < i + left
+pub blocks-none : (F : Frame) (s : List ℕ) (n i left : ℕ) → NoneApplies (block_faults F s n i left) → (k : ℕ) → i ≤ k → k < i + left
     → (check_wrong s k ≡ false) × (frame_wrong F s n k ≡ false)
-unfolding block_faults None
+unfolding block_faults NoneApplies
 blocks-none F s n i zero h k lo hi = absurd (omega arith)
 blocks-none F s n i (suc left) h k lo hi =
     eq-cases k i
@@ -89,8 +90,8 @@ blocks-none F s n i (suc left) h k lo hi =
     (λ q. blocks-none F s n (suc i) left h.1.1 k (omega arith) (omega arith))
 
 pub none-blocks : (F : Frame) (s : List ℕ) (n i left : ℕ) → ((k : ℕ) → i ≤ k → k < i + left → (check_wrong s k ≡ false) × (frame_wrong F s n k ≡ false))
-    → None (block_faults F s n i left)
-unfolding block_faults None
+    → NoneApplies (block_faults F s n i left)
+unfolding block_faults NoneApplies
 none-blocks F s n i zero h = tt
 none-blocks F s n i (suc left) h =
     let g = h i (omega arith) (omega arith) in
@@ -99,7 +100,7 @@ none-blocks F s n i (suc left) h =
 -- block b breaks number 2, and no earlier one breaks any
 pub blocks-check : (F : Frame) (s : List ℕ) (n i left b : ℕ) → i ≤ b → b < i + left
     → ((k : ℕ) → k < b → (check_wrong s k ≡ false) × (frame_wrong F s n k ≡ false)) → check_wrong s b ≡ true
-    → first (block_faults F s n i left) ≡ Faulty 2 (suc b)
+    → first (block_faults F s n i left) ≡ Faulty Check (suc b)
 unfolding block_faults first
 blocks-check F s n i zero b lo hi h w = absurd (omega arith)
 blocks-check F s n i (suc left) b lo hi h w =

@@ -1,26 +1,14 @@
 -- Laws of entries read by number.
 -- Assumes nothing.
-use Rattle.std.proofs.Common.{◌≡◌, ℕ, zero, suc, ◌+◌, ◌*◌, ◌/◌, ◌<◌, ◌≤◌, true, ltb, ◌≢◌, List, length, get_or, sym, refl, ap, ◌∙◌, arith}
+use Rattle.std.proofs.Common.{◌≡◌, ℕ, zero, suc, ◌+◌, ◌*◌, ◌/◌, ◌<◌, ◌≤◌, true, ltb, ◌≢◌, List, length, sym, refl, ap, ◌∙◌, arith}
 use lib.ListN.{get_or-eq_default}
 use Rattle.base.proofs.Lists.{get_d-listed}
 use Rattle.base.proofs.Tests.{and_zero, gt-leb, le-leb, lt-cases, tests}
 use Rattle.blocks.proofs.Format.EntryBytes.{entries-listed, length-entries}
 use Rattle.blocks.proofs.words.WordLaws.{word-past}
-use Rattle.blocks.specs.Entries.{entries_of, entry_at, entry_from, entry_of, entry_of_bytes, nth, zero_entry}
+use Rattle.blocks.specs.Entries.{entries_of, entry_at, entry_from, entry_of, nth, zero_entry}
 use Rattle.blocks.specs.Frame.{entry_pos, plain, total_in}
-use Rattle.blocks.specs.Words.{word_at}
 use Rattle.blocks.specs.declared.Entry.{Entry}
-
--- an entry by its 8 bytes
-pub from_bytes : (s : List ℕ) (at : ℕ) {r : Entry}
-    → r ≡ entry_of_bytes (get_or s at 0) (get_or s (at + 1) 0) (get_or s (at + 2) 0) (get_or s (at + 3) 0) (get_or s (at + 4) 0) (get_or s (at + 5) 0) (get_or s (at + 6) 0) (get_or s (at + 7) 0)
-    → r ≡ entry_from s at
-unfolding entry_from entry_of_bytes word_at
-from_bytes s at e =
-    let o : at + 3 ≡ at + 2 + 1 = omega arith in
-    let m : at + 5 ≡ at + 4 + 1 = omega arith in
-    let n : at + 7 ≡ at + 6 + 1 = omega arith in
-    rw (o, m, n) at e
 
 -- an entry that starts past the end is the zero entry
 pub entry_past : (s : List ℕ) (at : ℕ) → length s ≤ at → entry_from s at ≡ zero_entry

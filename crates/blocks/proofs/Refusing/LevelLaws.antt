@@ -1,18 +1,18 @@
 -- Owners, depths, and the table of levels that stands in for them.
 -- Assumes nothing.
-use Rattle.std.proofs.Common.{◌≡◌, ℕ, zero, suc, ◌+◌, ◌-◌, ◌<◌, ◌≤◌, true, false, cond, eqb, leb, ◌≢◌, List, [], ◌∷◌, ◌++◌, length, get_or, take, set, sym, refl, ap, ◌∙◌, append_assoc, ne_of_lt, add-one, arith, length-set, length-take, get_or-set_other, get_or-set_same, below_more}
+use Rattle.std.proofs.Common.{◌≡◌, ℕ, zero, suc, ◌+◌, ◌-◌, ◌<◌, ◌≤◌, true, false, cond, eqb, leb, ◌≢◌, List, [], ◌∷◌, ◌++◌, length, get_or, take, set, Option, Some, None, sym, refl, ap, ◌∙◌, ne_of_lt, add-one, arith, length-set, length-take, get_or-set_other, get_or-set_same, below_more}
 use lib.ListN.{get_or-eq_default}
 use Rattle.std.proofs.lemmas.List.{get_or-take}
 use Rattle.base.proofs.RangeLaws.{none_left, one_left}
 use Rattle.base.proofs.Tests.{bool_cases, both_ways, eq-cases, eq-eqb, ge-ltb, lt-cases, lt-ltb, ne_eqb, tests}
-use Rattle.blocks.proofs.Refusing.FirstFault.{first-append, or_else, step, step-found, step-more}
+use Rattle.blocks.proofs.Refusing.FirstFault.{first-append, step, step-found, step-more}
 use Rattle.blocks.specs.Entries.{form_ok, names_ok, nth, owning_kind}
-use Rattle.blocks.specs.Faults.{Fault, depth_row, first, owner_row, rows_from}
+use Rattle.blocks.specs.Faults.{Fault, Clean, Faulty, depth_row, first, owner_row, rows_from}
 use Rattle.blocks.specs.Owners.{chain, depth_of, depth_ok, level_of, owner_of, owner_ok}
 use Rattle.blocks.specs.code.ReadingSteps.{Levels, entry_refusal, level_by, level_under, name_rows, rule_faults, rule_rows}
+use Rattle.blocks.specs.declared.Cause.TheVariants.{Name}
+use Rattle.blocks.specs.declared.Cause.{Cause}
 use Rattle.blocks.specs.declared.Entry.{Entry}
-use Rattle.blocks.specs.declared.Finding.{Finding}
-use Rattle.blocks.specs.declared.Finding.TheVariants.{Clean, Faulty}
 use Rattle.blocks.specs.declared.Schema.TheVariants.{Description, Named, Specimen}
 use Rattle.blocks.specs.declared.Schema.{Schema}
 
@@ -94,7 +94,7 @@ names-passed Description es n fs h = refl
 names-passed Specimen es n fs h = refl
 names-passed (Named most) es n fs h = rw h
 
-pub names-refused : (σ : Schema) (es : List Entry) (n : ℕ) (fs : List Fault) → names_ok σ (nth es n) ≡ false → first (name_rows σ es n ++ fs) ≡ Faulty 13 n
+pub names-refused : (σ : Schema) (es : List Entry) (n : ℕ) (fs : List Fault) → names_ok σ (nth es n) ≡ false → first (name_rows σ es n ++ fs) ≡ Faulty Name n
 unfolding first
 names-refused Description es n fs h = both_ways refl h
 names-refused Specimen es n fs h = both_ways refl h
@@ -110,30 +110,33 @@ level-passed t n o =
 
 -- ---- entries, by the table
 
+some_none : {A : Type 0} {k : A} → Some k ≡ None → ⊥
+some_none e = let z : ◌≡◌ {A = ℕ} 0 1 = cc in omega arith
+
 -- an entry that breaks no number: its form is allowed, and its owner has a level from 1 to 33
-unrefused : (σ : Schema) (e : Entry) (l : ℕ) → entry_refusal σ e l ≡ 0 → (form_ok σ e ≡ true) × ((l ≢ 0) × (l ≤ 33))
+unrefused : (σ : Schema) (e : Entry) (l : ℕ) → entry_refusal σ e l ≡ None → (form_ok σ e ≡ true) × ((l ≢ 0) × (l ≤ 33))
 unfolding entry_refusal
 unrefused σ e l h =
     bool_cases (form_ok σ e)
     (λ p. bool_cases (names_ok σ e)
     (λ w. eq-cases l 0
-    (λ z. let g = rw (entry_refusal, p, w, eq-eqb z) at h in absurd (omega arith))
+    (λ z. let g = rw (entry_refusal, p, w, eq-eqb z) at h in absurd (some_none g))
     (λ z. lt-cases 33 l
-    (λ d. let g = rw (entry_refusal, p, w, ne_eqb z, lt-ltb d) at h in absurd (omega arith))
+    (λ d. let g = rw (entry_refusal, p, w, ne_eqb z, lt-ltb d) at h in absurd (some_none g))
     (λ d. (p, (z, d)))))
-    (λ w. let g = rw (entry_refusal, p, w) at h in absurd (omega arith)))
-    (λ p. let g = rw (entry_refusal, p) at h in absurd (omega arith))
+    (λ w. let g = rw (entry_refusal, p, w) at h in absurd (some_none g)))
+    (λ p. let g = rw (entry_refusal, p) at h in absurd (some_none g))
 
-module _ (σ : Schema) (es : List Entry) (t : List ℕ) (n : ℕ) {e : Entry} {l number : ℕ} (T : Levels σ es t n) (one : 1 ≤ n) (at : e ≡ nth es n)
-    (lv : l ≡ level_by t n e.owner) (r : number ≡ entry_refusal σ e l) where
+module _ (σ : Schema) (es : List Entry) (t : List ℕ) (n : ℕ) {e : Entry} {l : ℕ} {o : Option Cause} (T : Levels σ es t n) (one : 1 ≤ n) (at : e ≡ nth es n)
+    (lv : l ≡ level_by t n e.owner) (r : o ≡ entry_refusal σ e l) where
   owner-level : l ≡ level_by t n (owner_of es n)
   unfolding owner_of
   owner-level = lv ∙ ap (λ (x : Entry). level_by t n x.owner) at
 
-  refusal-here : number ≡ entry_refusal σ (nth es n) l
+  refusal-here : o ≡ entry_refusal σ (nth es n) l
   refusal-here = r ∙ ap (λ (x : Entry). entry_refusal σ x l) at
 
-  entry-step : (left : ℕ) → first (rule_faults σ es n (suc left)) ≡ step number n (first (rule_faults σ es (suc n) left))
+  entry-step : (left : ℕ) → first (rule_faults σ es n (suc left)) ≡ step o n (first (rule_faults σ es (suc n) left))
   unfolding rows_from first entry_refusal depth_ok
   entry-step left =
       let rest = owner_row σ es n ∷ depth_row es n ∷ [] in
@@ -148,19 +151,19 @@ module _ (σ : Schema) (es : List Entry) (t : List ℕ) (n : ℕ) {e : Entry} {l
       (λ w. let s = names-refused σ es n rest w in rw (p, s, entry_refusal, w)))
       (λ p. simp (entry_refusal, p)))
 
-  pub level-small : number ≡ 0 → l ≤ 33
+  pub level-small : o ≡ None → l ≤ 33
   level-small z = (unrefused σ e l (sym r ∙ z)).1.1
 
-  pub entries-more : (total : ℕ) → n ≤ total → number ≡ 0
+  pub entries-more : (total : ℕ) → n ≤ total → o ≡ None
       → first (rule_faults σ es n (total + 1 - n)) ≡ first (rule_faults σ es (n + 1) (total + 1 - (n + 1)))
   entries-more total h z =
       rw (one_left n (total + 1) (omega arith), add-one n) (entry-step (total + 1 - suc n) ∙ step-more _ _ _ z)
 
-  pub entries-found : (total : ℕ) → n ≤ total → number ≢ 0 → first (rule_faults σ es n (total + 1 - n)) ≡ Faulty number n
+  pub entries-found : (total : ℕ) → n ≤ total → {k : Cause} → o ≡ Some k → first (rule_faults σ es n (total + 1 - n)) ≡ Faulty k n
   entries-found total h z =
       rw (one_left n (total + 1) (omega arith)) (entry-step (total + 1 - (n + 1)) ∙ step-found _ _ _ z)
 
-  pub levels-more : {v : ℕ} → number ≡ 0 → n ≤ length es → v ≡ level_under σ e.kind l → Levels σ es (set t n v) (n + 1)
+  pub levels-more : {v : ℕ} → o ≡ None → n ≤ length es → v ≡ level_under σ e.kind l → Levels σ es (set t n v) (n + 1)
   unfolding level_under
   levels-more {v} z h u =
       let same = get_or-set_same t n v 0 (omega (arith, T.room)) in
@@ -180,31 +183,3 @@ module _ (σ : Schema) (es : List Entry) (t : List ℕ) (n : ℕ) {e : Entry} {l
 pub entries-end : (σ : Schema) (es : List Entry) (n total : ℕ) → total < n → first (rule_faults σ es n (total + 1 - n)) ≡ Clean
 unfolding rows_from first
 entries-end σ es n total h = rw (none_left n (total + 1) (omega arith))
-
--- ---- `count` entries at a time
-
-module _ (σ : Schema) (es : List Entry) where
-  faults-split : (n a b : ℕ) → rule_faults σ es n (a + b) ≡ rule_faults σ es n a ++ rule_faults σ es (n + a) b
-  unfolding rows_from
-  faults-split n zero b =
-      let e : n + 0 ≡ n = omega arith in
-      let z : 0 + b ≡ b = omega arith in
-      rw (e, z)
-  faults-split n (suc a) b =
-      let e : n + suc a ≡ suc n + a = omega arith in
-      let s : suc a + b ≡ suc (a + b) = omega arith in
-      rw (e, s, faults-split (suc n) a b) (sym (append_assoc (rule_rows σ es n) _ _))
-
-  first-split : (n count e : ℕ) → n + count ≤ e
-      → first (rule_faults σ es n (e - n)) ≡ or_else (first (rule_faults σ es n count)) (first (rule_faults σ es (n + count) (e - (n + count))))
-  first-split n count e h =
-      let s : e - n ≡ count + (e - (n + count)) = omega arith in
-      rw (s, faults-split n count (e - (n + count))) (first-append _ _)
-
-  pub entries-later : (n count e : ℕ) {r : Finding} → n + count ≤ e → r ≡ first (rule_faults σ es n count) → r ≡ Clean
-      → first (rule_faults σ es n (e - n)) ≡ first (rule_faults σ es (n + count) (e - (n + count)))
-  entries-later n count e h q z = first-split n count e h ∙ rw (← q, z)
-
-  pub entries-sooner : (n count e : ℕ) {r : Finding} {k p : ℕ} → n + count ≤ e → r ≡ first (rule_faults σ es n count) → r ≡ Faulty k p
-      → first (rule_faults σ es n (e - n)) ≡ Faulty k p
-  entries-sooner n count e h q z = first-split n count e h ∙ rw (← q, z)

@@ -6,14 +6,13 @@ use Rattle.base.specs.Search.{first_from}
 use Rattle.blocks.proofs.Refusing.FirstFault.{first-append, or_else}
 use Rattle.blocks.proofs.Refusing.LevelLaws.{names-passed, names-refused}
 use Rattle.blocks.specs.Entries.{form_ok, names_ok, nth}
-use Rattle.blocks.specs.Faults.{Fault, depth_row, entry_faults, fault, first, owner_row, rows_from}
+use Rattle.blocks.specs.Faults.{Fault, Finding, Clean, Faulty, depth_row, entry_faults, fault, first, owner_row, rows_from}
 use Rattle.blocks.specs.Owners.{depth_ok, owner_ok}
 use Rattle.blocks.specs.Single.{single_ok}
 use Rattle.blocks.specs.code.ReadingSteps.{rule_faults, rule_rows}
 use Rattle.blocks.specs.code.SingleSteps.{stand_before, unless_single}
 use Rattle.blocks.specs.declared.Entry.{Entry}
-use Rattle.blocks.specs.declared.Finding.TheVariants.{Clean, Faulty}
-use Rattle.blocks.specs.declared.Finding.{Finding}
+use Rattle.blocks.specs.declared.Cause.TheVariants.{Double}
 use Rattle.blocks.specs.declared.Schema.TheVariants.{Description, Named, Specimen}
 use Rattle.blocks.specs.declared.Schema.{Schema}
 
@@ -50,7 +49,7 @@ ahead_more n left (Faulty k p) h = omega (arith, h.0)
 module _ (rows : ℕ → List Fault) (ok : ℕ → Bool) (placed : (n : ℕ) → Within n (suc n) (first (rows n))) where
   -- the lines of an entry, and number 9 after them
   abbrev with-nine : ℕ → List Fault
-  with-nine n = rows n ++ (fault (not (ok n)) 9 n ∷ [])
+  with-nine n = rows n ++ (fault (not (ok n)) Double n ∷ [])
 
   -- the lines of entries give their places
   rows-within : (n left : ℕ) → Within n (n + left) (first (rows_from rows n left))
@@ -62,7 +61,7 @@ module _ (rows : ℕ → List Fault) (ok : ℕ → Bool) (placed : (n : ℕ) →
   -- entry n and what is found after it
   step-nine : (n left : ℕ) (x f : Finding) {g : Finding} → 1 ≤ n → Within n (suc n) x → Within (suc n) (suc n + left) f
       → g ≡ unless_single (first_from ok (suc n) (ahead (suc n) left f)) f
-      → or_else (or_else x (first (fault (not (ok n)) 9 n ∷ []))) g ≡ unless_single (first_from ok n (ahead n (suc left) (or_else x f))) (or_else x f)
+      → or_else (or_else x (first (fault (not (ok n)) Double n ∷ []))) g ≡ unless_single (first_from ok n (ahead n (suc left) (or_else x f))) (or_else x f)
   unfolding first first_from
   step-nine n left (Faulty k p) f one w h e = let z : p - n ≡ 0 = omega (arith, w.1) in rw z
   step-nine n left Clean f one w h e =
@@ -76,7 +75,7 @@ module _ (rows : ℕ → List Fault) (ok : ℕ → Bool) (placed : (n : ℕ) →
   nine-from n zero one = refl
   nine-from n (suc left) one =
       first-append (with-nine n) (rows_from with-nine (suc n) left)
-      ∙ ap (λ (x : Finding). or_else x (first (rows_from with-nine (suc n) left))) (first-append (rows n) (fault (not (ok n)) 9 n ∷ []))
+      ∙ ap (λ (x : Finding). or_else x (first (rows_from with-nine (suc n) left))) (first-append (rows n) (fault (not (ok n)) Double n ∷ []))
       ∙ rw (first-append (rows n) (rows_from rows (suc n) left))
       (step-nine n left (first (rows n)) (first (rows_from rows (suc n) left)) one (placed n) (rows-within (suc n) left)
       (nine-from (suc n) left (omega arith)))
@@ -118,5 +117,5 @@ module _ (es : List Entry) (n : ℕ) {f : Finding} (e : f ≡ first (rule_faults
   pub single-nowhere : {d : ℕ} → d ≡ first_from (single_ok es) 1 (stand_before n f) → d ≡ 0 → f ≡ first (entry_faults Specimen es 1 n)
   single-nowhere g z = rw (eq-eqb z) at (specimen-first g)
 
-  pub single-found : {d : ℕ} → d ≡ first_from (single_ok es) 1 (stand_before n f) → d ≢ 0 → Faulty 9 d ≡ first (entry_faults Specimen es 1 n)
+  pub single-found : {d : ℕ} → d ≡ first_from (single_ok es) 1 (stand_before n f) → d ≢ 0 → Faulty Double d ≡ first (entry_faults Specimen es 1 n)
   single-found g z = rw (ne_eqb z) at (specimen-first g)

@@ -1,7 +1,7 @@
 -- What reading means: a refusal is the first fault in the paper's order, an accepted input is the encoding of its entries, and every
 -- legal list that keeps the schema's further lines is accepted once encoded.
 -- Assumes nothing.
-use Rattle.std.proofs.Common.{◌≡◌, ℕ, suc, ◌+◌, ◌*◌, ◌/◌, ◌%◌, ◌<◌, ◌≤◌, false, eqb, List, [], ◌∷◌, ◌++◌, map, length, take, drop, sym, refl, ap, ◌∙◌, arith, take_all}
+use Rattle.std.proofs.Common.{◌≡◌, ℕ, suc, ◌+◌, ◌*◌, ◌/◌, ◌%◌, ◌<◌, ◌≤◌, false, eqb, List, [], ◌∷◌, ◌++◌, map, length, take, drop, Ok, sym, refl, ap, ◌∙◌, arith, take_all}
 use lib.ListN.{length-map}
 use Rattle.base.proofs.Split.{place_of, row_of}
 use Rattle.base.proofs.Tests.{le-leb, leb-self, tests}
@@ -21,43 +21,44 @@ use Rattle.blocks.specs.Encoding.{blocks_for, bytes_written, encode, row_bytes, 
 use Rattle.blocks.specs.Entries.{Bounded, entries_of, entry_bytes, limit_of, packed}
 use Rattle.blocks.specs.Faults.{block_faults, entry_faults, faults, first}
 use Rattle.blocks.specs.Frame.{blocks_in, plain, total_in}
-use Rattle.blocks.specs.Promise.{FirstOf, Further, Legal, None}
+use Rattle.blocks.specs.Promise.{FirstOf, Further, Legal, NoneApplies}
 use Rattle.blocks.specs.Reading.{reading_of, returned}
 use Rattle.blocks.specs.Words.{word_bytes}
+use Rattle.blocks.specs.declared.Cause.{Cause}
 use Rattle.blocks.specs.declared.Entry.{Entry}
-use Rattle.blocks.specs.declared.Reading.TheVariants.{Accepted, Refused}
+use Rattle.blocks.specs.Refusals.{number_of, refused}
 use Rattle.blocks.specs.declared.Schema.{Schema}
 
 module _ (σ : Schema) (i : ℕ) (s : List ℕ) where
   -- ---- refused exactly by the first fault that applies
 
-  pub refused-by-first : {k p : ℕ} → FirstOf (faults σ s) k p → reading_of σ i s ≡ Refused k i p
+  pub refused-by-first : {k : Cause} {p : ℕ} → FirstOf (faults σ s) k p → reading_of σ i s ≡ refused k i p
   unfolding reading_of
   refused-by-first {k} {p} f = rw (reading_of, first_found (faults σ s) k p f)
 
-  pub first-of-refused : {j k p : ℕ} → reading_of σ i s ≡ Refused k j p → (j ≡ i) × FirstOf (faults σ s) k p
+  pub first-of-refused : {k : Cause} {j p : ℕ} → reading_of σ i s ≡ refused k j p → (j ≡ i) × FirstOf (faults σ s) k p
   unfolding reading_of
-  first-of-refused {j} {k} {p} e =
+  first-of-refused {k} {j} {p} e =
       let r = refused-finding i (total_in plain s) (first (faults σ s)) e in (r.0, found_first (faults σ s) k p r.1)
 
   -- ---- accepted exactly where none applies
 
-  pub accepted-by-none : None (faults σ s) → reading_of σ i s ≡ Accepted (length (entries_of s))
+  pub accepted-by-none : NoneApplies (faults σ s) → reading_of σ i s ≡ Ok (length (entries_of s))
   unfolding reading_of
   accepted-by-none h = rw (reading_of, none-clean (faults σ s) h, length-entries s)
 
-  pub none-of-accepted : {n : ℕ} → reading_of σ i s ≡ Accepted n → None (faults σ s) × (n ≡ length (entries_of s))
+  pub none-of-accepted : {n : ℕ} → reading_of σ i s ≡ Ok n → NoneApplies (faults σ s) × (n ≡ length (entries_of s))
   unfolding reading_of
   none-of-accepted {n} e =
       let r = accepted-finding i (total_in plain s) (first (faults σ s)) e in (clean-none (faults σ s) r.1, r.0 ∙ sym (length-entries s))
 
   -- ---- the paper's numbers for each of the two
 
-  pub returned-refusal : {k p : ℕ} → FirstOf (faults σ s) k p
-      → returned (reading_of σ i s) ≡ record { number = k; input = i; place = p; entries = 0 }
+  pub returned-refusal : {k : Cause} {p : ℕ} → FirstOf (faults σ s) k p
+      → returned (reading_of σ i s) ≡ record { number = number_of k; input = i; place = p; entries = 0 }
   returned-refusal f = ap returned (refused-by-first f)
 
-  pub returned-total : None (faults σ s)
+  pub returned-total : NoneApplies (faults σ s)
       → returned (reading_of σ i s) ≡ record { number = 0; input = 0; place = 0; entries = length (entries_of s) }
   returned-total h = ap returned (accepted-by-none h)
 
@@ -70,8 +71,8 @@ pub record Sound (σ : Schema) (s : List ℕ) : Type 0 where
   pub further : Further σ (entries_of s)
 
 module _ (σ : Schema) (i : ℕ) (s : List ℕ) where
-  pub sound-of-accepted : {n : ℕ} → reading_of σ i s ≡ Accepted n → Sound σ s
-  unfolding faults None
+  pub sound-of-accepted : {n : ℕ} → reading_of σ i s ≡ Ok n → Sound σ s
+  unfolding faults NoneApplies
   sound-of-accepted e =
       let h = (none-of-accepted σ i s e).0 in
       let n = blocks_in s in
@@ -86,8 +87,8 @@ module _ (σ : Schema) (i : ℕ) (s : List ℕ) where
         further = none-further σ (entries_of s) r.1;
       }
 
-  pub accepted-of-sound : Sound σ s → reading_of σ i s ≡ Accepted (length (entries_of s))
-  unfolding faults None
+  pub accepted-of-sound : Sound σ s → reading_of σ i s ≡ Ok (length (entries_of s))
+  unfolding faults NoneApplies
   accepted-of-sound h =
       let n = blocks_in s in
       accepted-by-none σ i s (
@@ -98,16 +99,16 @@ module _ (σ : Schema) (i : ℕ) (s : List ℕ) where
       )
 
   -- an accepted input is the encoding of its entries
-  pub accepted-encodes : {n : ℕ} → Bytes s → reading_of σ i s ≡ Accepted n → encode (entries_of s) ≡ s
+  pub accepted-encodes : {n : ℕ} → Bytes s → reading_of σ i s ≡ Ok n → encode (entries_of s) ≡ s
   accepted-encodes b e = encode-decode b (sound-of-accepted e).blocks
 
 -- every legal list that keeps the further lines and that the limit allows is accepted once encoded: nothing else is refused
 pub encoded-accepted : (σ : Schema) (i : ℕ) (es : List Entry) → Legal σ es → Further σ es → length es ≤ 63 * limit_of σ
-    → reading_of σ i (encode es) ≡ Accepted (length es)
+    → reading_of σ i (encode es) ≡ Ok (length es)
 encoded-accepted σ i es L f h =
     let back = decode-encode es in
     accepted-of-sound σ i (encode es) (record { blocks = encode-sound σ es h; entries = rw back L; further = rw back f })
-    ∙ ap (λ (l : List Entry). Accepted (length l)) back
+    ∙ ap (λ (l : List Entry). Ok (length l)) back
 
 -- ---- written entries are an encoding
 

@@ -1,7 +1,7 @@
 -- "Exchanging two used entries p entries apart in one block of an accepted input is refused as 2 exactly when p times the
 -- difference of their word sums is no multiple of 16,384."
 -- Assumes nothing.
-use Rattle.std.proofs.Common.{◌≡◌, ℕ, suc, ◌+◌, ◌*◌, ◌/◌, ◌%◌, ◌<◌, ◌≤◌, true, false, ◌≢◌, ◌↔◌, List, length, refl, ap, ◌∙◌, arith}
+use Rattle.std.proofs.Common.{◌≡◌, ℕ, suc, ◌+◌, ◌*◌, ◌/◌, ◌%◌, ◌<◌, ◌≤◌, true, false, ◌≢◌, ◌↔◌, List, Ok, length, refl, ap, ◌∙◌, arith}
 use Rattle.base.proofs.Tests.{bool_cases, eq-cases}
 use Rattle.base.specs.Exchange.{difference}
 use Rattle.blocks.proofs.Format.Lawful.{plain-lawful}
@@ -14,15 +14,16 @@ use Rattle.blocks.proofs.RoundTrip.RefusalNumbers.{unbroken-number}
 use Rattle.blocks.proofs.RoundTrip.Unbroken.{Unbroken}
 use Rattle.blocks.specs.Entries.{entries_of}
 use Rattle.blocks.specs.Exchange.{EntriesExchanged, entry_words}
-use Rattle.blocks.specs.Faults.{block_faults, entry_faults, faults, first, length_wrong}
+use Rattle.blocks.specs.Faults.{Faulty, block_faults, entry_faults, faults, first, length_wrong}
 use Rattle.blocks.specs.Frame.{blocks_in, check_wrong, frame_wrong, plain, used_in}
 use Rattle.blocks.specs.Reading.{reading_of}
-use Rattle.blocks.specs.declared.Finding.TheVariants.{Faulty}
-use Rattle.blocks.specs.declared.Reading.TheVariants.{Accepted, Refused}
+use Rattle.blocks.specs.Refusals.{number_of, refused}
+use Rattle.blocks.specs.declared.Cause.TheVariants.{Check}
+use Rattle.blocks.specs.declared.Cause.{Cause}
 use Rattle.blocks.specs.declared.Schema.{Schema}
 
 -- s is accepted, and t is s with the used entries e and e + p of its block b exchanged, all counted from 0
-module _ (σ : Schema) (i : ℕ) {n : ℕ} (s t : List ℕ) (b e p : ℕ) (accepted : reading_of σ i s ≡ Accepted n) (within : b < blocks_in s)
+module _ (σ : Schema) (i : ℕ) {n : ℕ} (s t : List ℕ) (b e p : ℕ) (accepted : reading_of σ i s ≡ Ok n) (within : b < blocks_in s)
     (some : 1 ≤ p) (used : e + p < used_in s b) (x : EntriesExchanged plain s t b e p) where
   sound : Unbroken plain σ s
   sound = (sound-of-accepted σ i s accepted).blocks
@@ -58,13 +59,13 @@ module _ (σ : Schema) (i : ℕ) {n : ℕ} (s t : List ℕ) (b e p : ℕ) (accep
         frame = λ k l. framed k (rw same_blocks at l);
       }
 
-  refused : check_wrong t b ≡ true → reading_of σ i t ≡ Refused 2 i (suc b)
+  broken : check_wrong t b ≡ true → reading_of σ i t ≡ refused Check i (suc b)
   unfolding reading_of faults first
-  refused w =
+  broken w =
       let m = blocks_in t in
       let es = entries_of t in
       let l : b < m = rw same_blocks within in
-      let f : first (block_faults plain t m 0 m) ≡ Faulty 2 (suc b)
+      let f : first (block_faults plain t m 0 m) ≡ Faulty Check (suc b)
       = blocks-check plain t m 0 m b (omega arith) (omega arith)
       (λ k h. (others k (omega arith) (omega arith), framed k (omega arith))) w in
       let parts = first-append (block_faults plain t m 0 m) (entry_faults σ es 1 (length es)) in
@@ -72,12 +73,12 @@ module _ (σ : Schema) (i : ℕ) {n : ℕ} (s t : List ℕ) (b e p : ℕ) (accep
 
   -- where the product is a multiple of it, none of 1 to 3 applies: only an entry may be refused
   pub exchange-otherwise : (p * difference (entry_words plain s b e) (entry_words plain s b (e + p))) % 16384 ≡ 0
-      → (k j q : ℕ) → reading_of σ i t ≡ Refused k j q → 4 ≤ k
+      → (k : Cause) (j q : ℕ) → reading_of σ i t ≡ refused k j q → 4 ≤ number_of k
   exchange-otherwise m k j q r = unbroken-number σ i t r (unbroken (check-exactly.1 m))
 
-  pub exchange-exactly : (reading_of σ i t ≡ Refused 2 i (suc b))
+  pub exchange-exactly : (reading_of σ i t ≡ refused Check i (suc b))
       ↔ ((p * difference (entry_words plain s b e) (entry_words plain s b (e + p))) % 16384 ≢ 0)
   exchange-exactly = (
-    λ r m. let four = exchange-otherwise m 2 i (suc b) r in omega arith,
-    λ ne. bool_cases (check_wrong t b) refused (λ q. absurd (ne (check-exactly.0 q))),
+    λ r m. let four = exchange-otherwise m Check i (suc b) r in omega arith,
+    λ ne. bool_cases (check_wrong t b) broken (λ q. absurd (ne (check-exactly.0 q))),
   )

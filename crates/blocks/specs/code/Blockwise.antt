@@ -1,5 +1,4 @@
--- Passes over entries that go block by block: where one stands before a block, and the entries of the block. No public promise names
--- them.
+-- Passes over entries: which are left, and where one that goes block by block stands. No public promise names these.
 -- Assumes nothing.
 use Rattle.std.specs.Prelude.{◌≡◌, ℕ, ◌+◌, ◌*◌, ◌/◌, ◌%◌, ◌<◌, ◌≤◌, min, List, ◌++◌, map, length}
 use Rattle.blocks.specs.Entries.{entries_from, entries_of, entry_from, nth}

@@ -1,22 +1,20 @@
 -- The steps of the passes over blocks and entries, as the code takes them. No public promise names them: proofs/ ties them to
 -- the table of refusals and to the encoding.
 -- Assumes nothing.
-use Rattle.std.specs.Prelude.{◌≡◌, ℕ, ◌+◌, ◌/◌, ◌<◌, ◌≤◌, cond, List, [], ◌∷◌, ◌++◌, length, ◌==◌, nat_lt, slice_index}
+use Rattle.std.specs.Prelude.{◌≡◌, ℕ, ◌+◌, ◌<◌, ◌≤◌, cond, List, [], ◌∷◌, ◌++◌, length, ◌==◌, nat_lt, slice_index, Option, Some, None}
 use Rattle.blocks.specs.Entries.{form_ok, names_ok, owning_kind}
-use Rattle.blocks.specs.Faults.{Fault, depth_row, form_row, length_wrong, name_row, owner_row, rows_from}
+use Rattle.blocks.specs.Faults.{Fault, depth_row, form_row, name_row, owner_row, rows_from}
 use Rattle.blocks.specs.Frame.{check_wrong, frame_wrong, plain}
 use Rattle.blocks.specs.Owners.{level_of, owner_of}
+use Rattle.blocks.specs.declared.Cause.{Cause}
+use Rattle.blocks.specs.declared.Cause.TheVariants.{Check, Framing, Form, Owner, Depth, Name}
 use Rattle.blocks.specs.declared.Entry.{Entry}
 use Rattle.blocks.specs.declared.Schema.TheVariants.{Description, Named, Specimen}
 use Rattle.blocks.specs.declared.Schema.{Schema}
 
--- the number that block i of n is refused by, 2 before 3, or 0
-unfoldable pub block_refusal : List ℕ → ℕ → ℕ → ℕ
-block_refusal s n i = cond (check_wrong s i) 2 (cond (frame_wrong plain s n i) 3 0)
-
--- the blocks of an input whose length number 1 allows, or 0
-unfoldable pub blocks_read : Schema → List ℕ → ℕ
-blocks_read σ s = cond (length_wrong σ s) 0 (length s / 512)
+-- why block i of n is refused, 2 before 3, if it is
+unfoldable pub block_refusal : List ℕ → ℕ → ℕ → Option Cause
+block_refusal s n i = cond (check_wrong s i) (Some Check) (cond (frame_wrong plain s n i) (Some Framing) None)
 
 -- number 13 where entries may be names
 abbrev pub name_rows : Schema → List Entry → ℕ → List Fault
@@ -41,9 +39,9 @@ pub record Levels (σ : Schema) (es : List Entry) (t : List ℕ) (n : ℕ) : Typ
   pub right : (k : ℕ) → k < n → slice_index t k ≡ level_of σ es k
   pub early : (k : ℕ) → 1 ≤ k → k < n → owner_of es k < k
 
--- the number that an entry is refused by whose owner has level l, 4 before 13 before 5 before 6, or 0
-unfoldable pub entry_refusal : Schema → Entry → ℕ → ℕ
-entry_refusal σ e l = cond (form_ok σ e) (cond (names_ok σ e) (cond (l == 0) 5 (cond (nat_lt 33 l) 6 0)) 13) 4
+-- why an entry is refused whose owner has level l, 4 before 13 before 5 before 6, if it is
+unfoldable pub entry_refusal : Schema → Entry → ℕ → Option Cause
+entry_refusal σ e l = cond (form_ok σ e) (cond (names_ok σ e) (cond (l == 0) (Some Owner) (cond (nat_lt 33 l) (Some Depth) None)) (Some Name)) (Some Form)
 
 -- the level of an entry of this kind whose owner has level l
 unfoldable pub level_under : Schema → ℕ → ℕ → ℕ

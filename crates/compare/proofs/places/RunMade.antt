@@ -15,7 +15,8 @@ use Rattle.base.specs.Stores.{stored}
 use Rattle.compare.proofs.places.RunLaws.{listed_by, listed_tags, run-asked, run-listed}
 use Rattle.compare.proofs.places.RunWalks.{gathered-listed}
 use Rattle.compare.specs.code.Asked.{One}
-use Rattle.compare.specs.code.Tags.{Chained, Run, extra_tag, extra_tags, taken_over}
+use Rattle.compare.specs.code.Tags.{Run, extra_tag, extra_tags, taken_over}
+use Rattle.normal.specs.code.ClassRuns.{Chained}
 use Rattle.logic.specs.Filling.{Filled}
 use Rattle.logic.specs.Normal.{find, found}
 use Rattle.logic.specs.Place.{Kind, has, least}

@@ -12,7 +12,8 @@ use Rattle.base.proofs.Tests.{bool_cases, eq-cases, eq-eqb, lt-cases, ne_eqb, te
 use Rattle.base.specs.Chain.{last_where}
 use Rattle.base.specs.Range.{bit}
 use Rattle.compare.proofs.places.RunLaws.{listed_tags}
-use Rattle.compare.specs.code.Tags.{Chained, extra_tag}
+use Rattle.compare.specs.code.Tags.{extra_tag}
+use Rattle.normal.specs.code.ClassRuns.{Chained}
 use Rattle.logic.proofs.TreeRows.FillLaws.{filled_none, filled-one}
 use Rattle.logic.specs.Filling.{Filled}
 use Rattle.passes.specs.code.Keys.{key_number}
@@ -45,6 +46,13 @@ module _ {t last before : List ℕ} (S : Stood t) (C : Chained t last before) wh
   in_table : used_in t < length t
   in_table = omega (arith, S.some')
 
+  -- each slot before it has a place on the chains
+  in_befores : used_in t < length before
+  in_befores = omega (arith, S.some', C.befores)
+
+  in_lasts : {j : ℕ} → 1 ≤ j → j ≤ used_in t → run_at t j < length last
+  in_lasts {j} lo hi = omega (arith, S.lower j lo hi, C.wide, S.some')
+
   -- of a run past the table's end nothing is gathered, and no slot is of it
   gathered-past : {r : ℕ} (room : ℕ) → length last ≤ r → gathered t last before r 1 room ≡ []
   unfolding gathered chain_down tags_along
@@ -54,14 +62,14 @@ module _ {t last before : List ℕ} (S : Stood t) (C : Chained t last before) wh
   tags-past {r} h =
       none-empty (tags_down t r 1 (used_in t)) (λ x m.
       let T = tag-from t r 1 (used_in t) x m in
-      omega (arith, T.run, h, C.lasts T.at T.from T.to))
+      omega (arith, T.run, h, in_lasts T.from T.to))
 
   -- what is gathered, of any run
   pub gathered-listed : (v : ℕ) (b : Bool) {room : ℕ} → used_in t ≤ room → gathered t last before (2 * v + bit b) 1 room ≡ listed_tags S v b
   gathered-listed v b {room} fits =
       let r : ℕ = 2 * v + bit b in
       lt-cases r (length last)
-      (λ h. gathered-all t last before C.chains in_table C.befores h 1 fits)
+      (λ h. gathered-all t last before C.chains in_table in_befores h 1 fits)
       (λ h. gathered-past room h ∙ sym (tags-past h))
 
   -- the slot of a name, in any run
@@ -72,7 +80,7 @@ module _ {t last before : List ℕ} (S : Stood t) (C : Chained t last before) wh
       let key : 65536 * r + n ≡ key_number v b n = omega arith in
       lt-cases r (length last)
       (λ h.
-      named-is t last before C.chains in_table C.befores h small
+      named-is t last before C.chains in_table in_befores h small
       ∙ ap (λ (k : ℕ). last_where (λ j. key_in (get_or t j 0)) k (used_in t)) key ∙ sym (slot-last t (used_in t) S.apart v b n small))
       (λ h.
       rw (start-past t last before r h)
@@ -81,7 +89,7 @@ module _ {t last before : List ℕ} (S : Stood t) (C : Chained t last before) wh
       (λ z.
       let k = slot-key t (used_in t) S.apart v b n z in
       let run : run_at t (slot_by t v b n) ≡ r = omega (arith, k.1, k.2) in
-      absurd (omega (arith, run, h, C.lasts (slot_by t v b n) (omega arith) k.0)))))
+      absurd (omega (arith, run, h, in_lasts (omega arith) k.0)))))
 
   -- in either case a slot of the table
   pub named-within : (r : ℕ) {n : ℕ} → n < 65536 → named t last before r n ≤ used_in t

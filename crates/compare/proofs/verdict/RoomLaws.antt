@@ -14,7 +14,7 @@ use Rattle.blocks.proofs.RoundTrip.Accepting.{none-of-accepted, sound-of-accepte
 use Rattle.blocks.proofs.RoundTrip.Faithful.{total-bound}
 use Rattle.blocks.specs.Entries.{entries_of}
 use Rattle.blocks.specs.Reading.{reading_of}
-use Rattle.blocks.specs.declared.Reading.TheVariants as reading
+use Rattle.std.specs.Prelude.{Ok}
 use Rattle.blocks.specs.declared.Schema.TheVariants.{Description}
 use Rattle.compare.specs.code.Prepared.{Roomy}
 use Rattle.slots.specs.code.Standing.{BothRead}
@@ -25,7 +25,7 @@ pub record Counted (c : List ℕ) (n : ℕ) : Type 0 where
   pub few : 512 * n ≤ 63 * length c
   pub short : length c ≤ 8192
 
-pub accepted-counted : (i : ℕ) (c : List ℕ) {n : ℕ} → reading_of Description i c ≡ reading.Accepted n → Counted c n
+pub accepted-counted : (i : ℕ) (c : List ℕ) {n : ℕ} → reading_of Description i c ≡ Ok n → Counted c n
 accepted-counted i c e =
     let s = sound-of-accepted Description i c e in
     let whole = whole-blocks Description c s.blocks.length in

@@ -17,10 +17,9 @@ use Rattle.compare.proofs.AnswerLaws.{compared, verdict-not}
 use Rattle.compare.proofs.PromiseKept.{shown-room}
 use Rattle.compare.proofs.verdict.RoomLaws.{accepted-counted, both-few, both-short}
 use Rattle.compare.proofs.verdict.VerdictLaws.{read-comparable}
-use Rattle.compare.specs.Answer.{compare_under, output_after, output_under}
+use Rattle.compare.specs.Answer.{compare_under, output_after, output_under, not_contained}
 use Rattle.compare.specs.code.Codes.{up_from}
 use Rattle.compare.specs.code.Prepared.{Failed, Showable, shown_after, shown_by}
-use Rattle.compare.specs.declared.Comparison.TheVariants.{NotContained}
 use Rattle.logic.proofs.NormalForm.NormalFields.{Fields, nf-fields}
 use Rattle.logic.proofs.SpecimenTrees.WitnessFields.{AllNames, TargetFields, witness-fields}
 use Rattle.logic.specs.Background.{Background, Ruled}
@@ -109,7 +108,7 @@ module _ {b : Background} (R : Ruled b) {c d : List ℕ} {n : ℕ} {t : List ℕ
 
   module _ (out : List ℕ) (room : length c + length d ≤ length out) where
     -- the answer
-    answer : compare_under b c d out ≡ NotContained n (length (shown_by t d n))
+    answer : compare_under b c d out ≡ not_contained n (length (shown_by t d n))
     answer = compared b c d out (read-comparable c d out f.read room) ∙ verdict-not b cs ds fails-some ∙ rw (f.fails, shown-is)
 
     fits-output : 512 * blocks_for plain (length (shown_by t d n)) ≤ length out
@@ -139,9 +138,9 @@ module _ {b : Background} (R : Ruled b) {c d : List ℕ} {n : ℕ} {t : List ℕ
 
     -- and is what the answer promises
     pub failed-shown : {r : ℕ} {out' : List ℕ} → r ≡ length (shown_by t d n) → out' ≡ shown_after t d n out
-        → (NotContained n r ≡ compare_under b c d out) × (out' ≡ output_under b c d out)
+        → (not_contained n r ≡ compare_under b c d out) × (out' ≡ output_under b c d out)
     unfolding shown_after output_under
     failed-shown e o = (
-      ap (NotContained n) e ∙ sym answer,
+      ap (not_contained n) e ∙ sym answer,
       o ∙ ap (λ (es : List Entry). encode es ++ drop (512 * blocks_for plain (length (shown_by t d n))) out) shown-is ∙ sym (ap (output_after b c d out) answer),
     )

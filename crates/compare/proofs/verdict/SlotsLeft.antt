@@ -1,21 +1,21 @@
 -- What the slots' layer answers and leaves behind: refused, all hold, or the slots of the first description and the entry that fails.
 -- Assumes nothing.
-use Prim.Native.Nat.{◌+◌, ◌<◌, ◌≤◌, suc, zero, ℕ}
+use Prim.Native.Nat.{◌+◌, ◌<◌, ◌≤◌, ℕ}
 use lib.ListN.{get_or, length, length-map, take}
 use lib.Seq.{get_or-take, length-take-le}
 use mathlib.Core.List.{List, map}
-use mathlib.Core.Path.{◌∙◌, ◌≡◌, refl, sym}
+use mathlib.Core.Path.{◌∙◌, ◌≡◌, ap, refl, sym}
 use native.Mathlib.Omega.{arith}
 use Rattle.blocks.proofs.RoundTrip.Accepting.{none-of-accepted}
 use Rattle.blocks.specs.Entries.{entries_of}
 use Rattle.blocks.specs.declared.Schema.TheVariants.{Description}
 use Rattle.blocks.proofs.Refusing.Readings.{reading-cases}
-use Rattle.blocks.specs.declared.Reading.TheVariants as reading
+use Rattle.std.specs.Prelude.{Ok, Err, None, Some}
+use Rattle.blocks.specs.Refusals.{refusal, refused}
 use Rattle.compare.proofs.AnswerLaws.{first-refused, list_read, list-refused, second-refused}
 use Rattle.compare.proofs.PromiseKept.{refused-unchanged}
 use Rattle.compare.specs.Answer.{compare_of, output_of}
 use Rattle.compare.specs.code.Prepared.{Agreed, Failed, FailedSomehow, Roomy}
-use Rattle.compare.specs.declared.Comparison.TheVariants.{Refused}
 use Rattle.logic.specs.Background.{Background, LawfulBackground}
 use Rattle.meaning.specs.Description.{place_of, row_of}
 use Rattle.meaning.specs.Failing.{failing, normal_of}
@@ -30,20 +30,16 @@ use Rattle.slots.proofs.FailingLaws as slots
 use Rattle.slots.proofs.FailingLaws.{all_hold, one-fails, refused-by}
 use Rattle.slots.proofs.PassLaws.{settled-low}
 use Rattle.slots.proofs.PlacesInTable.{table-stood}
-use Rattle.slots.specs.Holding.{failing_in, holding_of, holding_under}
+use Rattle.slots.proofs.TableSearch.{front-slots}
+use Rattle.slots.specs.Holding.{Holding, failing_in, holding_of, holding_under}
 use Rattle.slots.specs.code.Standing.{Judged, JudgedBy}
 use Rattle.slots.specs.code.TablePlaces.{Stood, all_slots, place_in, used_in}
-use Rattle.slots.specs.code.Tables.{slots_from, slots_of}
-use Rattle.slots.specs.declared.Holding.{Holding}
-use Rattle.slots.specs.declared.Holding.TheVariants as holding
+use Rattle.slots.specs.code.Tables.{slots_of}
+use Rattle.slots.specs.declared.Unheld.{Unheld}
+use Rattle.blocks.specs.declared.Refusal.{Refusal}
+use Rattle.blocks.specs.declared.Cause.{Cause}
 
 -- ---- the front of a table
-
--- it has the slots that end in it
-front-slots : (t : List ℕ) (k i n : ℕ) → i + n ≤ k → slots_from (take k t) i n ≡ slots_from t i n
-unfolding slots_from
-front-slots t k i zero h = refl
-front-slots t k i (suc n) h = rw (get_or-take k t i 0 (omega arith), front-slots t k (suc i) n (omega arith))
 
 -- as far as the last slot
 module _ {b : Background} (law : LawfulBackground b) {c d : List ℕ} {used : ℕ} {t : List ℕ} (j : Judged b c d used t) where
@@ -87,18 +83,16 @@ failing-in b c d = refl
 
 module _ (P c d : List ℕ) where
   -- a refusal is the refusal: there is room in the table
-  pub holding-refused : (t out : List ℕ) {k i p : ℕ} → Roomy c t → holding_of P (length t) c d ≡ holding.Refused k i p
-      → (Refused k i p ≡ compare_of P c d out) × (out ≡ output_of P c d out)
-  holding-refused t out {k} {i} {p} room h =
-      let answered : compare_of P c d out ≡ Refused k i p → (Refused k i p ≡ compare_of P c d out) × (out ≡ output_of P c d out)
+  pub holding-refused : (t out : List ℕ) {x : Refusal} → Roomy c t → holding_of P (length t) c d ≡ Err x
+      → (Err x ≡ compare_of P c d out) × (out ≡ output_of P c d out)
+  holding-refused t out {x} room h =
+      let answered : compare_of P c d out ≡ Err x → (Err x ≡ compare_of P c d out) × (out ≡ output_of P c d out)
       = λ e. (sym e, sym (refused-unchanged P c d out e)) in
       reading-cases (pairs_reading P)
       (λ k' i' p' q.
       let y = slots.list-refused P (length t) c d q in
-      let a : k' ≡ k = cc in
-      let o : i' ≡ i = cc in
-      let z : p' ≡ p = cc in
-      answered (list-refused P c d out q ∙ rw (a, o, z)))
+      let g : refusal k' i' p' ≡ x = cc in
+      answered (list-refused P c d out q ∙ ap Err g))
       (λ n l.
       let under' = sym (slots.list_read P (length t) c d l) ∙ h in
       let read = list_read P c d out l in
@@ -108,13 +102,13 @@ module _ (P c d : List ℕ) where
       (λ r l. absurd (omega (arith, room r.first r.first_read, (none-of-accepted Description 1 c r.first_read).1))))
 
   -- an answer that is no refusal is one under the list's background
-  holding-listed : {X : Type 0} (room : ℕ) → ((k i p : ℕ) → holding_of P room c d ≡ holding.Refused k i p → X)
-      → ((n : ℕ) → pairs_reading P ≡ reading.Accepted n → holding_of P room c d ≡ holding_under (under P) room c d → X) → X
+  holding-listed : {X : Type 0} (room : ℕ) → ((k : Cause) (i p : ℕ) → holding_of P room c d ≡ refused k i p → X)
+      → ((n : ℕ) → pairs_reading P ≡ Ok n → holding_of P room c d ≡ holding_under (under P) room c d → X) → X
   holding-listed room f g =
       reading-cases (pairs_reading P) (λ k i p q. f k i p (slots.list-refused P room c d q)) (λ n l. g n l (slots.list_read P room c d l))
 
   -- all entries hold
-  pub holding-agreed : (room : ℕ) → holding_of P room c d ≡ holding.All → ListRead P × Agreed (under P) c d
+  pub holding-agreed : (room : ℕ) → holding_of P room c d ≡ Ok None → ListRead P × Agreed (under P) c d
   holding-agreed room h =
       holding-listed room
       (λ k i p q. let z : ◌≡◌ {A = ℕ} 0 1 = cc in absurd (omega arith))
@@ -123,19 +117,19 @@ module _ (P c d : List ℕ) where
       (record { count = n; list_read = l }, record { read = r.0; none = sym (failing-in (under P) c d) ∙ r.1 }))
 
   -- one fails, and the slots stand in the table
-  pub holding-room : (t : List ℕ) {n used : ℕ} {r : Holding} → r ≡ holding.Fails n used → JudgedBy P c d t r → used < length t
-  holding-room t {used = used} is by = let j : Judged (under P) c d used t = rw is at by in j.tabled.room
+  pub holding-room : (t : List ℕ) {x : Unheld} {r : Holding} → r ≡ Ok (Some x) → JudgedBy P c d t r → x.used < length t
+  holding-room t {x = x} is by = let j : Judged (under P) c d x.used t = rw is at by in j.tabled.room
 
   -- they are lent as far as the last
-  pub holding-failed : (room : ℕ) (t : List ℕ) (k : ℕ) {n used : ℕ} {r : Holding} → r ≡ holding_of P room c d → r ≡ holding.Fails n used → JudgedBy P c d t r
-      → k ≡ used + 1 → ListRead P × Failed (under P) c d n (take k t)
-  holding-failed room t k {n} {used} e is by size =
-      let answer : holding_of P room c d ≡ holding.Fails n used = sym e ∙ is in
+  pub holding-failed : (room : ℕ) (t : List ℕ) (k : ℕ) {x : Unheld} {r : Holding} → r ≡ holding_of P room c d → r ≡ Ok (Some x) → JudgedBy P c d t r
+      → k ≡ x.used + 1 → ListRead P × Failed (under P) c d x.entry (take k t)
+  holding-failed room t k {x} e is by size =
+      let answer : holding_of P room c d ≡ Ok (Some x) = sym e ∙ is in
       holding-listed room
       (λ k i p q. let z : ◌≡◌ {A = ℕ} 0 1 = cc in absurd (omega arith))
       (λ m l u.
       let f = one-fails (under P) room c d (sym u ∙ answer) in
-      let j : Judged (under P) c d used t = rw is at by in
+      let j : Judged (under P) c d x.used t = rw is at by in
       let law = (ruled-under P l).lawful in (
         record { count = m; list_read = l },
         rw size

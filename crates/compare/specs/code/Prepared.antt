@@ -1,13 +1,12 @@
 -- What is known where an entry fails: two descriptions, the slots of the first, and room. No public promise names these.
 -- Assumes nothing.
-use Rattle.std.specs.Prelude.{◌*◌, ◌+◌, ◌<◌, ◌≤◌, ℕ, drop, get_or, length, List, ◌++◌, ◌≢◌, ◌≡◌}
+use Rattle.std.specs.Prelude.{◌*◌, ◌+◌, ◌<◌, ◌≤◌, ℕ, drop, get_or, length, List, ◌++◌, ◌≢◌, ◌≡◌, Ok}
 use Rattle.blocks.specs.Encoding.{blocks_for, encode}
 use Rattle.blocks.specs.Entries.{Bounded, entries_of, nth}
 use Rattle.blocks.specs.Frame.{plain}
 use Rattle.blocks.specs.Promise.{Legal}
 use Rattle.blocks.specs.Reading.{reading_of}
 use Rattle.blocks.specs.declared.Entry.{Entry}
-use Rattle.blocks.specs.declared.Reading.TheVariants as reading
 use Rattle.blocks.specs.declared.Schema.TheVariants.{Description}
 use Rattle.compare.specs.code.Codes.{up_from}
 use Rattle.logic.specs.Background.{Background, Ruled}
@@ -62,4 +61,4 @@ pub record FailedSomehow (c d : List ℕ) (n : ℕ) (t : List ℕ) : Type 0 wher
 
 -- a table has a number for each entry of a description that is accepted, and one more
 abbrev pub Roomy : List ℕ → List ℕ → Type 0
-Roomy c t = (n : ℕ) → reading_of Description 1 c ≡ reading.Accepted n → n < length t
+Roomy c t = (n : ℕ) → reading_of Description 1 c ≡ Ok n → n < length t

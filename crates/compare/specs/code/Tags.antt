@@ -1,9 +1,8 @@
 -- The names of one place and class in order, as tags: 1,024 times a name, and the number of its slot, 0 where it has none. No public promise
 -- names these.
 -- Assumes nothing.
-use Rattle.std.specs.Prelude.{◌%◌, ◌*◌, ◌+◌, ◌/◌, ◌<◌, ◌≤◌, max, pred, ℕ, eqb, get_or, length, Bool, cond, false, true, Option, ◌≡◌}
+use Rattle.std.specs.Prelude.{◌%◌, ◌*◌, ◌+◌, ◌/◌, ◌<◌, max, pred, ℕ, eqb, get_or, length, Bool, cond, false, true, Option, ◌≡◌}
 use mathlib.Core.List.{List, Memᴰ, [], ◌∷◌, map}
-use Rattle.base.specs.Chain.{Chains}
 use Rattle.compare.specs.code.Asked.{code_asked, least_asked}
 use Rattle.compare.specs.code.Laying.{Joint, joint}
 use Rattle.compare.specs.declared.items.Items.{Items}
@@ -11,20 +10,13 @@ use Rattle.logic.specs.Place.{Kind, has, least}
 use Rattle.logic.specs.SpecimenTree.{Group, group}
 use Rattle.logic.specs.Witness.{names}
 use Rattle.passes.specs.code.Slots.{is_link}
-use Rattle.runs.specs.code.Chained.{run_at}
-use Rattle.slots.specs.code.TablePlaces.{below_in, least_in, place_in, slot_by, used_in}
+use Rattle.slots.specs.code.TablePlaces.{below_in, least_in, place_in, slot_by}
 
 abbrev pub tag_name : ℕ → ℕ
 tag_name x = x / 1024
 
 abbrev pub tag_slot : ℕ → ℕ
 tag_slot x = x % 1024
-
--- the slots of the table stand on the chains of their runs
-pub record Chained (t last before : List ℕ) : Type 0 where
-  pub chains : Chains (run_at t) (λ j. get_or before j 0) (λ r. get_or last r 0) (length last) (used_in t)
-  pub lasts : (j : ℕ) → 1 ≤ j → j ≤ used_in t → run_at t j < length last
-  pub befores : used_in t < length before
 
 -- the tag of a name that is asked for, unless its slot asks for it
 unfoldable pub extra_tag : List ℕ → ℕ → Bool → ℕ → List ℕ

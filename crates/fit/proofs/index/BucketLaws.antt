@@ -7,7 +7,7 @@ use lib.ListN.{get_or, length}
 use mathlib.Core.Bool.{Bool, ◌&&◌, ◌||◌, false, not, true}
 use mathlib.Core.List.{List}
 use mathlib.Core.Logic.{◌≢◌}
-use mathlib.Core.Path.{◌∙◌, ◌≡◌, ap, refl, sym}
+use mathlib.Core.Path.{◌∙◌, ◌≡◌, ap, refl}
 use native.Mathlib.Omega.{arith}
 use Rattle.std.proofs.Math.Bool.{not-not}
 use Rattle.base.proofs.Tests.{and_cases, and_left, and_right, bool_cases, both_ways, eq-eqb, eqb-eq, ne_eqb}
@@ -35,12 +35,6 @@ pub bucket-below : (σ : Schema) (most : ℕ) (es : List Entry) (k : ℕ) → Or
 bucket-below Description most es k O lo hi few = omega (arith, O.earlier k lo hi)
 bucket-below (Named names) most es k O lo hi few = omega (arith, O.earlier k lo hi)
 bucket-below Specimen most es k O lo hi few = hash-below most (owner_of es k) (code_of (nth es k).kind (bare es k)) (nth es k).name (omega arith)
-
--- the owner of the entry that was read is that of entry k, and stands before it
-pub owner-below : (es : List Entry) (k : ℕ) → Ordered es → 1 ≤ k → k ≤ length es → {e : Entry} {o : ℕ} → e ≡ nth es k → o ≡ e.owner → (owner_of es k ≡ o) × (o < k)
-unfolding owner_of
-owner-below es k O lo hi at own =
-    let is : owner_of es k ≡ _ = sym (own ∙ ap (λ (x : Entry). x.owner) at) in (is, omega (arith, O.earlier k lo hi))
 
 -- ---- kinds by which entries are found
 

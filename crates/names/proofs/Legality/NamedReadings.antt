@@ -21,7 +21,9 @@ use Rattle.blocks.specs.Frame.{plain, total_in}
 use Rattle.blocks.specs.Owners.{depth_ok, owner_ok}
 use Rattle.blocks.specs.Reading.{answer, reading_of}
 use Rattle.blocks.specs.declared.Entry.{Entry}
-use Rattle.blocks.specs.declared.Reading.TheVariants.{Accepted, Refused}
+use Rattle.std.specs.Prelude.{Ok}
+use Rattle.blocks.specs.Refusals.{refused}
+use Rattle.blocks.specs.declared.Cause.TheVariants.{Size, Count, Length}
 use Rattle.blocks.specs.declared.Schema.TheVariants.{Named}
 use Rattle.lists.specs.Parts.{parts_of}
 use Rattle.names.proofs.Legality.UnfoldLegal.{named-within}
@@ -30,6 +32,7 @@ use Rattle.names.specs.NamedForm.{named_form_ok}
 use Rattle.names.specs.NamedReading.{dictionary_reading, named_faults, named_reading, parts_reading, too_large}
 use Rattle.names.specs.Promise.{Each, LegalNamed, SmallEnough, Within}
 use Rattle.names.specs.Unfold.{unfolded_by}
+use Rattle.blocks.specs.declared.Cause.{Cause}
 
 -- ---- legal
 
@@ -47,7 +50,7 @@ form-named most e =
     (λ q. rw q)
 
 -- what is accepted but for 14 is legal
-pub accepted-legal : (most i : ℕ) (s : List ℕ) {n : ℕ} → reading_of (Named most) i s ≡ Accepted n → LegalNamed most (entries_of s)
+pub accepted-legal : (most i : ℕ) (s : List ℕ) {n : ℕ} → reading_of (Named most) i s ≡ Ok n → LegalNamed most (entries_of s)
 unfolding owner_ok
 accepted-legal most i s e =
     let h = sound-of-accepted (Named most) i s e in
@@ -89,7 +92,7 @@ module _ (K : List (List Entry)) (each : Each LegalNamed K) (most : ℕ) (es : L
 
 module _ (K : List (List Entry)) (i : ℕ) (s : List ℕ) where
   abbrev last : List Fault
-  last = fault (too_large (unfolded_by K (entries_of s))) 14 0 ∷ []
+  last = fault (too_large (unfolded_by K (entries_of s))) Size 0 ∷ []
 
   -- 14 is looked for last
   parts : named_reading K i s ≡ answer i (total_in plain s) (first (faults (Named (length K)) s ++ last))
@@ -97,29 +100,29 @@ module _ (K : List (List Entry)) (i : ℕ) (s : List ℕ) where
   parts = refl
 
   -- what is refused without it is refused so
-  pub named-refused : {k j p : ℕ} → reading_of (Named (length K)) i s ≡ Refused k j p → named_reading K i s ≡ Refused k j p
+  pub named-refused : {k : Cause} {j p : ℕ} → reading_of (Named (length K)) i s ≡ refused k j p → named_reading K i s ≡ refused k j p
   unfolding reading_of
   named-refused e =
       let r = refused-finding i (total_in plain s) (first (faults (Named (length K)) s)) e in
       parts ∙ rw (first-append (faults (Named (length K)) s) last, r.1, r.0)
 
-  module _ {n : ℕ} (e : reading_of (Named (length K)) i s ≡ Accepted n) where
+  module _ {n : ℕ} (e : reading_of (Named (length K)) i s ≡ Ok n) where
     -- else 14 refuses it
-    pub named-large : too_large (unfolded_by K (entries_of s)) ≡ true → named_reading K i s ≡ Refused 14 i 0
+    pub named-large : too_large (unfolded_by K (entries_of s)) ≡ true → named_reading K i s ≡ refused Size i 0
     unfolding reading_of first
     named-large q =
         let r = accepted-finding i (total_in plain s) (first (faults (Named (length K)) s)) e in
         parts ∙ rw (first-append (faults (Named (length K)) s) last, r.1, q)
 
     -- or nothing does
-    pub named-taken : too_large (unfolded_by K (entries_of s)) ≡ false → named_reading K i s ≡ Accepted n
+    pub named-taken : too_large (unfolded_by K (entries_of s)) ≡ false → named_reading K i s ≡ Ok n
     unfolding reading_of first
     named-taken q =
         let r = accepted-finding i (total_in plain s) (first (faults (Named (length K)) s)) e in
         parts ∙ rw (first-append (faults (Named (length K)) s) last, r.1, q, r.0)
 
   -- what is accepted is neither refused without 14 nor by it
-  pub taken-not-large : {n : ℕ} → named_reading K i s ≡ Accepted n → too_large (unfolded_by K (entries_of s)) ≡ false
+  pub taken-not-large : {n : ℕ} → named_reading K i s ≡ Ok n → too_large (unfolded_by K (entries_of s)) ≡ false
   taken-not-large e =
       reading-cases (reading_of (Named (length K)) i s)
       (λ k j p r. let f = named-refused r in let z : ◌≡◌ {A = ℕ} 0 1 = cc in absurd (omega arith))
@@ -129,31 +132,31 @@ module _ (K : List (List Entry)) (i : ℕ) (s : List ℕ) where
       (λ q. q))
 
   -- so that it is within the limits
-  pub taken-within : Each LegalNamed K → LegalNamed (length K) (entries_of s) → {n : ℕ} → named_reading K i s ≡ Accepted n
+  pub taken-within : Each LegalNamed K → LegalNamed (length K) (entries_of s) → {n : ℕ} → named_reading K i s ≡ Ok n
       → Within (size_named K (entries_of s)) (levels_named K (entries_of s))
   taken-within each N e = (named-within K each (length K) (entries_of s) N).1 (small_of (unfolded_by K (entries_of s)) (taken-not-large e))
 
 -- ---- a dictionary
 
 -- the number that is accepted is that of the descriptions
-pub parts-count : (K : List (List Entry)) (ss : List (List ℕ)) {n : ℕ} → parts_reading K ss ≡ Accepted n → n ≡ length K + length ss
+pub parts-count : (K : List (List Entry)) (ss : List (List ℕ)) {n : ℕ} → parts_reading K ss ≡ Ok n → n ≡ length K + length ss
 unfolding parts_reading
 parts-count K [] {n} e = let a : length K ≡ n = cc in omega arith
 parts-count K (s ∷ ss) {n} e =
     reading-cases (named_reading K (101 + length K) s)
     (λ k j p r.
-    let f : Refused k j p ≡ Accepted n = rw r at e in
+    let f : refused k j p ≡ Ok n = rw r at e in
     let z : ◌≡◌ {A = ℕ} 0 1 = cc in
     absurd (omega arith))
     (λ m r. omega (arith, parts-count (K ++ (entries_of s ∷ [])) ss (rw r at e), length-append K (entries_of s ∷ [])))
 
 -- 1, 8, and else its descriptions decide
 module _ (D : List ℕ) where
-  pub dictionary-broken : length D % 512 ≢ 0 → dictionary_reading D ≡ Refused 1 100 0
+  pub dictionary-broken : length D % 512 ≢ 0 → dictionary_reading D ≡ refused Length 100 0
   unfolding dictionary_reading
   dictionary-broken h = rw (dictionary_reading, ne_eqb h)
 
-  pub dictionary-many : length D % 512 ≡ 0 → 64 < length (parts_of D) → dictionary_reading D ≡ Refused 8 100 0
+  pub dictionary-many : length D % 512 ≡ 0 → 64 < length (parts_of D) → dictionary_reading D ≡ refused Count 100 0
   unfolding dictionary_reading
   dictionary-many h l = rw (dictionary_reading, eq-eqb h, lt-ltb l)
 

@@ -16,26 +16,24 @@ use Rattle.blocks.proofs.Refusing.Readings.{reading-cases}
 use Rattle.blocks.proofs.RoundTrip.Accepting.{sound-of-accepted}
 use Rattle.blocks.proofs.RoundTrip.Faithful.{entries-limit}
 use Rattle.blocks.specs.Entries.{entries_of, entry_of, form_ok, is_named, name_given, nth}
-use Rattle.blocks.specs.Faults.{Fault, block_faults, entry_faults, entry_rows, faults, first, length_wrong, rows_from}
+use Rattle.blocks.specs.Faults.{Fault, block_faults, entry_faults, entry_rows, faults, first, length_wrong, rows_from, Clean, Faulty, Finding}
 use Rattle.blocks.specs.Frame.{blocks_in, check_wrong, frame_wrong, plain, total_in}
 use Rattle.blocks.specs.Owners.{depth_ok, owner_ok}
 use Rattle.blocks.specs.Reading.{answer, reading_of}
 use Rattle.blocks.specs.declared.Entry.{Entry}
-use Rattle.blocks.specs.declared.Finding.TheVariants.{Clean, Faulty}
-use Rattle.blocks.specs.declared.Finding.{Finding}
-use Rattle.blocks.specs.declared.Reading.TheVariants.{Accepted}
+use Rattle.std.specs.Prelude.{Ok}
 use Rattle.blocks.specs.declared.Schema.TheVariants.{Description, Named}
 use Rattle.names.proofs.Entries.UnfoldPlain.{unfold-plain}
 use Rattle.names.proofs.Legality.NamedReadings.{accepted-legal, form-named, named-refused, named-taken, of-small}
 use Rattle.names.proofs.Legality.NoNames.{form-same, unnamed-plain}
 use Rattle.names.specs.NamedForm.{named_form_ok}
-use Rattle.names.specs.NamedReading.{named_reading, number_at, too_large, unnamed}
+use Rattle.names.specs.NamedReading.{named_reading, cause_at, too_large, unnamed}
 use Rattle.names.specs.Unfold.{contents, unfolded_by}
 
 -- what a search finds, then
 abbrev unnamed_at : (ℕ → Entry) → Finding → Finding
 unnamed_at g Clean = Clean
-unnamed_at g (Faulty k p) = Faulty (number_at (g p) k) p
+unnamed_at g (Faulty k p) = Faulty (cause_at (g p) k) p
 
 -- no name is from 1 to 0
 none-to-zero : (x : ℕ) → (ltb 0 x && leb x 0) ≡ false
@@ -46,7 +44,7 @@ module _ (es : List Entry) (g : ℕ → Entry) where
   -- one entry, and what is found after it
   entry-unnamed : (n : ℕ) (xs ys : List Fault) → g n ≡ nth es n → first xs ≡ unnamed_at g (first ys)
       → first (entry_rows (Named 0) es n ++ xs) ≡ unnamed_at g (first (entry_rows Description es n ++ ys))
-  unfolding first owner_ok name_given number_at
+  unfolding first owner_ok name_given cause_at
   entry-unnamed n xs ys q h =
       let e = nth es n in
       let same = form-named 0 e in
@@ -73,7 +71,7 @@ module _ (es : List Entry) (g : ℕ → Entry) where
 
 -- numbers 2 and 3 stay
 blocks-unnamed : (g : ℕ → Entry) (s : List ℕ) (n i left : ℕ) → unnamed_at g (first (block_faults plain s n i left)) ≡ first (block_faults plain s n i left)
-unfolding block_faults first number_at
+unfolding block_faults first cause_at
 blocks-unnamed g s n i zero = refl
 blocks-unnamed g s n i (suc left) =
     bool_cases (check_wrong s i)
@@ -86,7 +84,7 @@ or-else-unnamed g (Faulty k p) y z h q = sym h
 
 faults-unnamed : (g : ℕ → Entry) (s : List ℕ) → ((k : ℕ) → 1 ≤ k → k < 1 + length (entries_of s) → g k ≡ nth (entries_of s) k)
     → first (faults (Named 0) s) ≡ unnamed_at g (first (faults Description s))
-unfolding faults first number_at length_wrong
+unfolding faults first cause_at length_wrong
 faults-unnamed g s h =
     let n = blocks_in s in
     let es = entries_of s in
@@ -116,17 +114,17 @@ reading-unnamed i s =
     ap (answer i (total_in plain s)) (faults-unnamed (λ p. entry_of s p p) s (entry-there s)) ∙ answer-unnamed (λ p. entry_of s p p) i (total_in plain s) (first (faults Description s))
 
 -- an accepted description stands for itself
-pub plain-itself : (i : ℕ) (s : List ℕ) {n : ℕ} → reading_of (Named 0) i s ≡ Accepted n → unfolded_by [] (entries_of s) ≡ entries_of s
+pub plain-itself : (i : ℕ) (s : List ℕ) {n : ℕ} → reading_of (Named 0) i s ≡ Ok n → unfolded_by [] (entries_of s) ≡ entries_of s
 unfolding unfolded_by
 plain-itself i s e = unfold-plain (contents []) (entries_of s) (unnamed-plain (entries_of s) (accepted-legal 0 i s e))
 
-not-large : (i : ℕ) (s : List ℕ) {n : ℕ} → reading_of (Named 0) i s ≡ Accepted n → too_large (unfolded_by [] (entries_of s)) ≡ false
+not-large : (i : ℕ) (s : List ℕ) {n : ℕ} → reading_of (Named 0) i s ≡ Ok n → too_large (unfolded_by [] (entries_of s)) ≡ false
 not-large i s e =
     rw (plain-itself i s e) (of-small (entries_of s)
     (record { size = entries-limit (sound-of-accepted (Named 0) i s e).blocks; depth = (accepted-legal 0 i s e).depth }))
 
 -- so that what no number up to 13 refuses is taken
-pub nameless-taken : (i : ℕ) (s : List ℕ) {n : ℕ} → reading_of (Named 0) i s ≡ Accepted n → named_reading [] i s ≡ Accepted n
+pub nameless-taken : (i : ℕ) (s : List ℕ) {n : ℕ} → reading_of (Named 0) i s ≡ Ok n → named_reading [] i s ≡ Ok n
 nameless-taken i s e = named-taken [] i s e (not-large i s e)
 
 -- with no dictionary: 13 in place of 4 where the entry is a name

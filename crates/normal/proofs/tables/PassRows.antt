@@ -1,6 +1,6 @@
 -- The last passes: what the settled slots give, by the runs of each place.
 -- Assumes nothing.
-use Prim.Native.Nat.{◌+◌, ◌<◌, ◌≤◌, suc, zero, ℕ}
+use Prim.Native.Nat.{◌+◌, ◌≤◌, ℕ}
 use lib.Dec.{eqb}
 use lib.ListN.{get_or, length, length-map, take}
 use lib.Seq.{get_or-take, length-take-le}
@@ -19,37 +19,17 @@ use Rattle.logic.specs.Place.{atom, nothing}
 use Rattle.logic.specs.Tree.{leaf_row}
 use Rattle.meaning.specs.Description.{place_of, row_of}
 use Rattle.normal.proofs.ordering.ClassCells.{runs-normal}
-use Rattle.normal.specs.code.ClassRuns.{Chained, Runnable, place_cells}
-use Rattle.normal.specs.code.Emitted.{Lent, all_rows, keep_in, table_rows}
+use Rattle.normal.specs.code.ClassRuns.{Runnable, place_cells}
+use Rattle.normal.specs.code.Emitted.{all_rows, keep_in, table_rows}
 use Rattle.passes.proofs.Emission.Exact.{normal-exact, normal-length}
 use Rattle.passes.specs.code.Pipeline.{enough_for, keeping, normal_rows, rows_from}
 use Rattle.passes.specs.code.Slots.{inconsistent, nonempty, settled}
-use Rattle.runs.proofs.ChainsMade.{chains-made, length-befores, length-lasts}
-use Rattle.runs.specs.code.Chained.{befores_after, lasts_after, run_at}
 use Rattle.slots.proofs.PassLaws.{settled-low}
+use Rattle.slots.proofs.TableSearch.{front-slots}
 use Rattle.slots.specs.code.TablePlaces.{used_in}
-use Rattle.slots.specs.code.Tables.{Settled, Tabled, slots_from, slots_of}
-
--- ---- the chains of the runs
-
--- from cleared tables one pass makes the chains
-pub slots-chained : {t last before order rows below : List ℕ} {last' before' : List ℕ} {used : ℕ} → Runnable t → Lent (used_in t) last before order rows below → used ≡ used_in t
-    → last' ≡ lasts_after t last used → before' ≡ befores_after t last before used → Chained t last' before'
-slots-chained {t} {last} {before} R L u e f =
-    let small : (j : ℕ) → 1 ≤ j → j ≤ used_in t → run_at t j < length last = λ j lo hi. omega (arith, R.lower j lo hi, R.some', L.lasts, hi) in
-    rw (e, f, u)
-    record {
-      chains = rw (length-lasts t last (used_in t)) (chains-made t last before (length last) (used_in t) L.cleared L.befores small);
-      wide = rw (length-lasts t last (used_in t)) (omega (arith, L.lasts, R.some'));
-      befores = rw (length-befores t last before (used_in t)) (omega (arith, L.befores, R.some'));
-    }
+use Rattle.slots.specs.code.Tables.{Settled, Tabled, slots_of}
 
 -- ---- the front of a table, as far as the last slot
-
-front-slots : (t : List ℕ) (k i n : ℕ) → i + n ≤ k → slots_from (take k t) i n ≡ slots_from t i n
-unfolding slots_from
-front-slots t k i zero h = refl
-front-slots t k i (suc n) h = rw (get_or-take k t i 0 (omega arith), front-slots t k (suc i) n (omega arith))
 
 module _ {b : Background} {d : List ℕ} {used : ℕ} {t : List ℕ} (T : Tabled b d used t) where
   pub front_length : length (take (used + 1) t) ≡ used + 1

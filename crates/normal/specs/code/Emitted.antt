@@ -1,11 +1,10 @@
 -- The rows of a place as plain lists, and the tables of the walk, as the code keeps them. No public promise names these.
 -- Assumes nothing.
-use Rattle.std.specs.Prelude.{◌*◌, ◌+◌, ◌<◌, ◌≤◌, ℕ, eqb, get_or, length, replicate, Bool, ◌&&◌, cond, not, List, [], ◌++◌, ◌∷◌, map, ◌≢◌, ◌≡◌}
+use Rattle.std.specs.Prelude.{◌*◌, ◌+◌, ◌<◌, ◌≤◌, ℕ, eqb, get_or, length, replicate, Bool, ◌&&◌, cond, not, List, [], ◌++◌, ◌∷◌, map, ◌≢◌, ◌≡◌, Ok}
 use Rattle.std.proofs.Math.Option.{Option, none, some}
 use Rattle.std.specs.Prelude as code
 use Rattle.blocks.specs.Entries.{packed}
 use Rattle.blocks.specs.Reading.{reading_of}
-use Rattle.blocks.specs.declared.Reading.TheVariants.{Accepted}
 use Rattle.blocks.specs.declared.Schema.TheVariants.{Description}
 use Rattle.logic.specs.Background.{Background, LawfulBackground}
 use Rattle.logic.specs.Filling.{Filled, Joined}
@@ -150,7 +149,7 @@ pub record Stands (d : List ℕ) (used : ℕ) (t bad full : List ℕ) : Type 0 w
 
 -- All tables have room for an input: where it is accepted, its entries are no more than there are rows.
 pub record Roomy (d t bad full last before order rows below : List ℕ) : Type 0 where
-  pub entries : (n : ℕ) → reading_of Description 1 d ≡ Accepted n → n ≤ length rows
+  pub entries : (n : ℕ) → reading_of Description 1 d ≡ Ok n → n ≤ length rows
   pub slots-room : length t ≡ length rows + 1
   pub bad-room : length bad ≡ length rows + 1
   pub full-room : length full ≡ length rows + 1

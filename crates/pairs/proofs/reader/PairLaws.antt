@@ -14,9 +14,11 @@ use Rattle.base.proofs.Tests.{eq-eqb, ge-ltb, lt-ltb, ne_eqb}
 use Rattle.base.specs.Search.{first_from}
 use Rattle.blocks.proofs.Refusing.SearchedRows.{found_at, rows-searched}
 use Rattle.blocks.specs.Faults.{first}
-use Rattle.blocks.specs.declared.Reading.TheVariants.{Accepted, Refused}
+use Rattle.std.specs.Prelude.{Ok}
+use Rattle.blocks.specs.Refusals.{refused}
 use Rattle.pairs.specs.Pairs.{list_wrong, one_of, other_of, pair_count, pair_faults, pair_wrong, pairs_reading}
 use Rattle.pairs.specs.code.Search.{Finds, pair_right}
+use Rattle.blocks.specs.declared.Cause.TheVariants.{Pairs}
 
 -- ---- one pair
 
@@ -47,16 +49,16 @@ found-first f n (Some i) h =
 -- ---- the list
 
 module _ (P : List ℕ) where
-  list-refused : list_wrong P ≡ true → Refused 11 0 0 ≡ pairs_reading P
+  list-refused : list_wrong P ≡ true → refused Pairs 0 0 ≡ pairs_reading P
   unfolding pairs_reading pair_faults first
   list-refused q = simp (pairs_reading, pair_faults, q)
 
-  pub not-of-fours : length P % 4 ≢ 0 → Refused 11 0 0 ≡ pairs_reading P
+  pub not-of-fours : length P % 4 ≢ 0 → refused Pairs 0 0 ≡ pairs_reading P
   unfolding list_wrong
   not-of-fours h = list-refused (simp (list_wrong, ne_eqb h))
 
   module _ {n : ℕ} (e : n ≡ pair_count P) (m : length P % 4 ≡ 0) where
-    pub too_many : 64 < n → Refused 11 0 0 ≡ pairs_reading P
+    pub too_many : 64 < n → refused Pairs 0 0 ≡ pairs_reading P
     unfolding list_wrong
     too_many h = list-refused (simp (list_wrong, ← e, eq-eqb m, lt-ltb h))
 
@@ -65,14 +67,14 @@ module _ (P : List ℕ) where
       unfolding list_wrong
       list_right = simp (list_wrong, ← e, eq-eqb m, ge-ltb few)
 
-      first-pair : first (pair_faults P) ≡ found_at 11 w
+      first-pair : first (pair_faults P) ≡ found_at Pairs w
       unfolding pair_faults first
-      first-pair = simp (pair_faults, list_right, ← e, rows-searched (pair_wrong P) 11 1 n (omega arith), ← f)
+      first-pair = simp (pair_faults, list_right, ← e, rows-searched (pair_wrong P) Pairs 1 n (omega arith), ← f)
 
-      pub pair-refused : w ≢ 0 → Refused 11 0 w ≡ pairs_reading P
+      pub pair-refused : w ≢ 0 → refused Pairs 0 w ≡ pairs_reading P
       unfolding pairs_reading
       pair-refused h = rw (pairs_reading, first-pair, ne_eqb h)
 
-      pub list-accepted : w ≡ 0 → Accepted n ≡ pairs_reading P
+      pub list-accepted : w ≡ 0 → Ok n ≡ pairs_reading P
       unfolding pairs_reading
       list-accepted z = rw (pairs_reading, first-pair, eq-eqb z, ← e)

@@ -1,6 +1,7 @@
 -- The weights by which the form of an entry is seen at a look.
 use Prim.Native.Nat.{◌*◌, ◌+◌, ◌<◌, ◌≤◌, ℕ}
 use lib.Dec.{eqb}
+use Rattle.std.specs.Prelude.{None}
 use mathlib.Core.Bool.{◌||◌, false, true}
 use mathlib.Core.Logic.{◌≢◌}
 use mathlib.Core.Path.{◌≡◌, refl}
@@ -75,7 +76,7 @@ no_name (Schema.Named most) e h = rw h
 
 -- an entry that a look shows to be right is not refused
 pub look-right : (σ : Schema) (e : Entry) (l : ℕ) {w : ℕ} → Tells σ e.kind w → e.reserved ≡ 0 → e.name ≢ 0 → l ≤ 33 → l ≢ 0
-    → w * (e.number + 1) ≤ 1 → entry_refusal σ e l ≡ 0
+    → w * (e.number + 1) ≤ 1 → entry_refusal σ e l ≡ None
 unfolding entry_refusal form_ok name_ok
 look-right σ e l t reserved name high low light =
     let k = light-kind σ e t light in

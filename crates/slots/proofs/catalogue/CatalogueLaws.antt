@@ -15,9 +15,9 @@ use Rattle.base.specs.Stores.{stored}
 use Rattle.blocks.proofs.Refusing.Readings.{reading-cases}
 use Rattle.blocks.specs.Encoding.{blocks_for}
 use Rattle.blocks.specs.Frame.{plain}
-use Rattle.blocks.specs.Reading.{reading_of}
-use Rattle.blocks.specs.declared.Reading.TheVariants as reading
-use Rattle.blocks.specs.declared.Reading.{Reading}
+use Rattle.blocks.specs.Reading.{reading_of, Reading}
+use Rattle.std.specs.Prelude.{Err, Ok}
+use Rattle.blocks.specs.Refusals.{refusal, refused}
 use Rattle.blocks.specs.declared.Schema.TheVariants.{Named}
 use Rattle.lists.specs.Parts.{parts_of}
 use Rattle.names.proofs.Legality.AcceptedReadings.{both-taken, nameless-sent}
@@ -26,16 +26,16 @@ use Rattle.pairs.specs.Pairs.{pairs_reading, under}
 use Rattle.slots.specs.Catalogue.{answers_after, bits_before, cut_reading, list_bits, list_reading, listed_bits, listed_reading, service_bit, services_reading}
 use Rattle.slots.specs.Holding.{failing_in}
 use Rattle.slots.specs.code.Judging.{Buffered, DictionaryTaken, JudgesAll, JudgesListed, JudgesSupplied, plain_judged, service_judged}
-use Rattle.slots.specs.declared.Judgement.TheVariants as judgement
-use Rattle.slots.specs.declared.Judgement.{Judgement}
+use Rattle.blocks.specs.declared.Refusal.{Refusal}
 use Rattle.unfolding.proofs.BufferLaws.{at-buffer, buffer-plain, sent-itself, sent-plain}
 use Rattle.unfolding.specs.Answer.{unfold_at, unfolded_at}
+use Rattle.blocks.specs.declared.Cause.TheVariants.{Count, Length}
 
 -- ---- a description that is sent
 
 -- it is read, and stands in the buffer unless no name can be given
 abbrev Sent : List ℕ → ℕ → List ℕ → Reading → List ℕ → Type 0
-Sent D i s r buffer = (r ≡ unfolding_of D i s) × ((n : ℕ) → r ≡ reading.Accepted n → Buffered D s n buffer)
+Sent D i s r buffer = (r ≡ unfolding_of D i s) × ((n : ℕ) → r ≡ Ok n → Buffered D s n buffer)
 
 module _ (D : List ℕ) (i : ℕ) (s : List ℕ) where
   pub read-nameless : (buffer : List ℕ) {r : Reading} → length D ≡ 0 → r ≡ reading_of (Named 0) i s → Sent D i s r buffer
@@ -58,7 +58,7 @@ module _ (D d : List ℕ) where
 
 -- ---- a dictionary that is accepted
 
-pub taken-by : (D : List ℕ) (i : ℕ) (s : List ℕ) {n : ℕ} → unfolding_of D i s ≡ reading.Accepted n → DictionaryTaken D
+pub taken-by : (D : List ℕ) (i : ℕ) (s : List ℕ) {n : ℕ} → unfolding_of D i s ≡ Ok n → DictionaryTaken D
 taken-by D i s e = both-taken D i s e (λ m k q w. record { count = m; taken = q })
 
 pub taken-goes : {D : List ℕ} → DictionaryTaken D → (i : ℕ) (s : List ℕ) → unfolding_of D i s ≡ named_unfolding (dictionary_of D) i s
@@ -71,11 +71,11 @@ module _ (P : List ℕ) {D : List ℕ} (T : DictionaryTaken D) (s : List ℕ) (i
   read_as : named_unfolding (dictionary_of D) i d ≡ r
   read_as = sym (e ∙ taken-goes T i d)
 
-  pub service-refused : {k j p : ℕ} → r ≡ reading.Refused k j p → judgement.Refused k j p ≡ service_judged P D s i d
+  pub service-refused : {x : Refusal} → r ≡ Err x → Err x ≡ service_judged P D s i d
   unfolding service_judged
   service-refused q = let w = read_as ∙ q in rw w
 
-  pub service-judged : {m x b : ℕ} → r ≡ reading.Accepted m → x ≡ failing_in (under P) s (sent_of D d) → b ≡ bit (eqb x 0) → judgement.Bit b ≡ service_judged P D s i d
+  pub service-judged : {m x b : ℕ} → r ≡ Ok m → x ≡ failing_in (under P) s (sent_of D d) → b ≡ bit (eqb x 0) → Ok b ≡ service_judged P D s i d
   unfolding service_judged service_bit
   service-judged q f g = let w = read_as ∙ q in rw (w, g, f)
 
@@ -89,20 +89,20 @@ service-plain P {D} T s i d z =
 
 -- what came of it says how it was read
 module _ (P D s : List ℕ) (i : ℕ) (d : List ℕ) where
-  refused_as : {k j p : ℕ} → judgement.Refused k j p ≡ service_judged P D s i d → named_unfolding (dictionary_of D) i d ≡ reading.Refused k j p
+  refused_as : {x : Refusal} → Err x ≡ service_judged P D s i d → named_unfolding (dictionary_of D) i d ≡ Err x
   unfolding service_judged
-  refused_as {k} {j} {p} q =
+  refused_as {x} q =
       reading-cases (named_unfolding (dictionary_of D) i d)
-      (λ k' j' p' e. let z : judgement.Refused k j p ≡ judgement.Refused k' j' p' = q ∙ rw e in
-      let a : k' ≡ k = cc in let o : j' ≡ j = cc in let w : p' ≡ p = cc in e ∙ rw (a, o, w))
-      (λ n e. let z : judgement.Refused k j p ≡ judgement.Bit (service_bit P D s d) = q ∙ rw e in let y : ◌≡◌ {A = ℕ} 0 1 = cc in absurd (omega arith))
+      (λ k j p e. let z : ◌≡◌ {A = Reading} (Err x) (refused k j p) = q ∙ rw e in
+      let g : refusal k j p ≡ x = cc in e ∙ ap Err g)
+      (λ n e. let z : ◌≡◌ {A = Reading} (Err x) (Ok (service_bit P D s d)) = q ∙ rw e in let y : ◌≡◌ {A = ℕ} 0 1 = cc in absurd (omega arith))
 
-  judged-as : {X : Type 0} {b : ℕ} → judgement.Bit b ≡ service_judged P D s i d → ((m : ℕ) → named_unfolding (dictionary_of D) i d ≡ reading.Accepted m → b ≡ service_bit P D s d → X) → X
+  judged-as : {X : Type 0} {b : ℕ} → Ok b ≡ service_judged P D s i d → ((m : ℕ) → named_unfolding (dictionary_of D) i d ≡ Ok m → b ≡ service_bit P D s d → X) → X
   unfolding service_judged
   judged-as {b = b} q f =
       reading-cases (named_unfolding (dictionary_of D) i d)
-      (λ k j p e. let z : judgement.Bit b ≡ judgement.Refused k j p = q ∙ rw e in let y : ◌≡◌ {A = ℕ} 0 1 = cc in absurd (omega arith))
-      (λ m e. let z : judgement.Bit b ≡ judgement.Bit (service_bit P D s d) = q ∙ rw e in let y : b ≡ service_bit P D s d = cc in f m e y)
+      (λ k j p e. let z : Ok b ≡ refused k j p = q ∙ rw e in let y : ◌≡◌ {A = ℕ} 0 1 = cc in absurd (omega arith))
+      (λ m e. let z : Ok b ≡ Ok (service_bit P D s d) = q ∙ rw e in let y : b ≡ service_bit P D s d = cc in f m e y)
 
 -- ---- the services in turn
 
@@ -118,9 +118,9 @@ pub passing-start : (P D s list old : List ℕ) {left : List (List ℕ)} → lef
 passing-start P D s list old e = rw e (record { done = []; count = refl; filled = stored-none old 0; same = refl; bits = refl })
 
 module _ {P D s list old : List ℕ} {left : List (List ℕ)} {n : ℕ} {answers : List ℕ} (A : Passing P D s list old left n answers) where
-  module _ {next : List ℕ} {rest : List (List ℕ)} (e : left ≡ next ∷ rest) {r : Judgement} (w : r ≡ service_judged P D s (2 + n) next) where
+  module _ {next : List ℕ} {rest : List (List ℕ)} (e : left ≡ next ∷ rest) {r : Reading} (w : r ≡ service_judged P D s (2 + n) next) where
     -- refused, it is the answer, and the bytes are those before it
-    pub passing-refused : {k j p : ℕ} → r ≡ judgement.Refused k j p → JudgesAll P D s list old (reading.Refused k j p) answers
+    pub passing-refused : {x : Refusal} → r ≡ Err x → JudgesAll P D s list old (Err x) answers
     unfolding services_reading bits_before
     passing-refused q =
         let R = refused_as P D s (2 + n) next (sym q ∙ w) in (
@@ -129,7 +129,7 @@ module _ {P D s list old : List ℕ} {left : List (List ℕ)} {n : ℕ} {answers
         )
 
     -- judged, it is one of those that are passed
-    pub passing-more : {b : ℕ} → r ≡ judgement.Bit b → Passing P D s list old rest (n + 1) (set answers n b)
+    pub passing-more : {b : ℕ} → r ≡ Ok b → Passing P D s list old rest (n + 1) (set answers n b)
     unfolding services_reading bits_before
     passing-more {b} q =
         judged-as P D s (2 + n) next (sym q ∙ w) (λ m M is.
@@ -145,7 +145,7 @@ module _ {P D s list old : List ℕ} {left : List (List ℕ)} {n : ℕ} {answers
         })
 
   -- at the end all are judged
-  pub passing-all : left ≡ [] → n ≡ length (parts_of list) → JudgesAll P D s list old (reading.Accepted n) answers
+  pub passing-all : left ≡ [] → n ≡ length (parts_of list) → JudgesAll P D s list old (Ok n) answers
   unfolding services_reading bits_before
   passing-all z all = (
     sym (rw (A.same, z, all)),
@@ -155,17 +155,17 @@ module _ {P D s list old : List ℕ} {left : List (List ℕ)} {n : ℕ} {answers
 -- ---- the list
 
 module _ (P D s list old : List ℕ) where
-  pub list-empty : length list ≡ 0 → JudgesListed P D s list old (reading.Refused 1 2 0) old
+  pub list-empty : length list ≡ 0 → JudgesListed P D s list old (refused Length 2 0) old
   unfolding listed_reading listed_bits cut_reading
   list-empty z = (rw (eq-eqb z), rw (eq-eqb z) (stored-none old 0))
 
   module _ (some : length list ≢ 0) where
-    pub list-broken : length list % 512 ≢ 0 → JudgesListed P D s list old (reading.Refused 1 2 0) old
+    pub list-broken : length list % 512 ≢ 0 → JudgesListed P D s list old (refused Length 2 0) old
     unfolding listed_reading listed_bits cut_reading
     list-broken z = (rw (ne_eqb some, ne_eqb z), rw (ne_eqb some, ne_eqb z) (stored-none old 0))
 
     module _ (whole : length list % 512 ≡ 0) {k : ℕ} (q : k ≡ length (parts_of list)) where
-      pub list-many : 64 < k → JudgesListed P D s list old (reading.Refused 8 2 0) old
+      pub list-many : 64 < k → JudgesListed P D s list old (refused Count 2 0) old
       unfolding listed_reading listed_bits cut_reading
       list-many z =
           let l : 64 < length (parts_of list) = omega arith in
@@ -180,19 +180,19 @@ module _ (P D s list old : List ℕ) where
 -- ---- the supplier
 
 module _ (P D c list old : List ℕ) {r : Reading} (e : r ≡ unfolding_of D 1 c) where
-  pub supplier-refused : {k j p : ℕ} → r ≡ reading.Refused k j p → JudgesSupplied P D c list old (reading.Refused k j p) old
+  pub supplier-refused : {x : Refusal} → r ≡ Err x → JudgesSupplied P D c list old (Err x) old
   supplier-refused q = let w = sym e ∙ q in (rw w, rw w (stored-none old 0))
 
-  pub supplier-read : {n : ℕ} → r ≡ reading.Accepted n → {s : List ℕ} → s ≡ sent_of D c → {a : Reading} {new : List ℕ} → JudgesListed P D s list old a new → JudgesSupplied P D c list old a new
+  pub supplier-read : {n : ℕ} → r ≡ Ok n → {s : List ℕ} → s ≡ sent_of D c → {a : Reading} {new : List ℕ} → JudgesListed P D s list old a new → JudgesSupplied P D c list old a new
   supplier-read q is j = let w = sym e ∙ q in (rw w j.0, rw (w, ← is) j.1)
 
 -- ---- the list of pairs
 
 module _ (P D c list old : List ℕ) where
-  pub pairs-refused : {k j p : ℕ} → pairs_reading P ≡ reading.Refused k j p → (reading.Refused k j p ≡ list_reading P D c list) × (old ≡ answers_after P D c list old)
+  pub pairs-refused : {x : Refusal} → pairs_reading P ≡ Err x → (Err x ≡ list_reading P D c list) × (old ≡ answers_after P D c list old)
   unfolding list_reading answers_after list_bits
   pairs-refused e = (rw e, rw e (stored-none old 0))
 
-  pub pairs-taken : {n : ℕ} → pairs_reading P ≡ reading.Accepted n → {a : Reading} {new : List ℕ} → JudgesSupplied P D c list old a new → (a ≡ list_reading P D c list) × (new ≡ answers_after P D c list old)
+  pub pairs-taken : {n : ℕ} → pairs_reading P ≡ Ok n → {a : Reading} {new : List ℕ} → JudgesSupplied P D c list old a new → (a ≡ list_reading P D c list) × (new ≡ answers_after P D c list old)
   unfolding list_reading answers_after list_bits
   pairs-taken e j = (rw e j.0, rw e j.1)

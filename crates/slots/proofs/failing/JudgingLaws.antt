@@ -12,7 +12,9 @@ use Rattle.base.specs.Search.{first_from}
 use Rattle.blocks.proofs.RoundTrip.Accepting.{sound-of-accepted}
 use Rattle.blocks.specs.Entries.{entries_of}
 use Rattle.blocks.specs.Reading.{reading_of}
-use Rattle.blocks.specs.declared.Reading.TheVariants as reading
+use Rattle.std.specs.Prelude.{Err, Ok, Option}
+use Rattle.blocks.specs.Refusals.{refused}
+use Rattle.blocks.specs.declared.Refusal.{Refusal}
 use Rattle.blocks.specs.declared.Schema.TheVariants.{Description}
 use Rattle.logic.specs.Background.{Background, LawfulBackground}
 use Rattle.pairs.specs.Pairs.{pairs_reading, under}
@@ -20,26 +22,26 @@ use Rattle.passes.specs.code.Slots.{Slot, inconsistent}
 use Rattle.slots.proofs.FailingLaws.{accepted-few, first-refused, judged-read, list_read, list-refused, no_room, second-refused}
 use Rattle.slots.proofs.HoldingLaws.{bottom-first, slots-first}
 use Rattle.slots.proofs.filling.FillingLaws.{table-exact}
-use Rattle.slots.specs.Holding.{failing_in, holding_by, holding_of}
+use Rattle.slots.specs.Holding.{Holding, failing_in, holding_by, holding_of}
 use Rattle.slots.specs.code.Standing.{JudgedBy, Judges, judged_under, table_judged}
 use Rattle.slots.specs.code.States.{Indexed, holds_by_slots}
 use Rattle.slots.specs.code.Tables.{Chained, Held, slots_of}
-use Rattle.slots.specs.declared.Holding.{Holding}
-use Rattle.slots.specs.declared.Holding.TheVariants.{Refused}
+use Rattle.slots.specs.declared.Unheld.{Unheld}
+use Rattle.blocks.specs.declared.Cause.TheVariants.{Room}
 
 -- ---- an input is refused, or the table is too short: it stays
 
 module _ (b : Background) (c d t : List ℕ) where
-  pub judging-first : {k i p : ℕ} → reading_of Description 1 c ≡ reading.Refused k i p → Judges b c d t (Refused k i p) t
+  pub judging-first : {x : Refusal} → reading_of Description 1 c ≡ Err x → Judges b c d t (Err x) t
   unfolding judged_under
   judging-first e = (sym (first-refused b (length t) c d e), rw (judged_under, e), tt)
 
-  module _ {n : ℕ} (e : reading_of Description 1 c ≡ reading.Accepted n) where
-    pub judging-second : {k i p : ℕ} → reading_of Description 2 d ≡ reading.Refused k i p → Judges b c d t (Refused k i p) t
+  module _ {n : ℕ} (e : reading_of Description 1 c ≡ Ok n) where
+    pub judging-second : {x : Refusal} → reading_of Description 2 d ≡ Err x → Judges b c d t (Err x) t
     unfolding judged_under
     judging-second f = (sym (second-refused b (length t) c d e f), rw (judged_under, e, f), tt)
 
-    pub judging-short : {m : ℕ} → reading_of Description 2 d ≡ reading.Accepted m → length t ≤ n → Judges b c d t (Refused 7 0 0) t
+    pub judging-short : {m : ℕ} → reading_of Description 2 d ≡ Ok m → length t ≤ n → Judges b c d t (refused Room 0 0) t
     unfolding judged_under
     judging-short f h =
         let l : length t ≤ length (entries_of c) = omega (arith, (accepted-few 1 c e).0) in
@@ -54,7 +56,7 @@ module _ {b : Background} (law : LawfulBackground b) (c d : List ℕ) {t next he
   failing-bottom z = sym (bottom-first law (entries_of c) (entries_of d) (sym H.top ∙ z))
 
   -- what is found by them is the first that is not held
-  pub failing-found : {r m : ℕ} → reading_of Description 2 d ≡ reading.Accepted m → impossible ≡ false
+  pub failing-found : {r m : ℕ} → reading_of Description 2 d ≡ Ok m → impossible ≡ false
       → ((ss : List Slot) → Indexed ss t next head used → r ≡ first_from (holds_by_slots b ss (entries_of d)) 1 m) → r ≡ failing_in b c d
   unfolding failing_in
   failing-found f z g =
@@ -70,17 +72,17 @@ unfolding failing_in
 fails-possible {b} law c d z =
     bool_cases (inconsistent 1 (slots_of b c) 0) (λ q. absurd (z (bottom-first law (entries_of c) (entries_of d) q))) (λ q. q)
 
-module _ {b : Background} (law : LawfulBackground b) {c t t' next head bad full : List ℕ} {n m used : ℕ} (d : List ℕ) (e : reading_of Description 1 c ≡ reading.Accepted n) (f : reading_of Description 2 d ≡ reading.Accepted m)
+module _ {b : Background} (law : LawfulBackground b) {c t t' next head bad full : List ℕ} {n m used : ℕ} (d : List ℕ) (e : reading_of Description 1 c ≡ Ok n) (f : reading_of Description 2 d ≡ Ok m)
     (h : n < length t) (s : Chained b c used t t' next head bad full) where
   room : length (entries_of c) < length t
   room = omega (arith, (accepted-few 1 c e).0)
 
   -- what is answered, and that the slots stand in the table
-  pub judging-found : {r : ℕ} {a : Holding} → r ≡ failing_in b c d → a ≡ holding_by used r → Judges b c d t a t'
+  pub judging-found : {r : ℕ} {a : Option Unheld} → r ≡ failing_in b c d → a ≡ holding_by used r → Judges b c d t (Ok a) t'
   unfolding judged_under
   judging-found {r} is k =
       let T = s.settled'.tabled in (
-        k ∙ rw (is, T.counted) (sym (judged-read b (length t) c d e f room)),
+        rw (k, is, T.counted) (sym (judged-read b (length t) c d e f room)),
         rw (judged_under, e, f, lt-ltb room) (table-exact s.exact T),
         rw k (eq-cases r 0
             (λ y. rw (eq-eqb y) tt)
@@ -94,11 +96,11 @@ module _ (P c d : List ℕ) where
   JudgesListed t r t' = (r ≡ holding_of P (length t) c d) × (t' ≡ table_judged P c d t) × JudgedBy P c d t' r
 
   -- it is refused: the table stays
-  pub judging-list : (t : List ℕ) {k i p : ℕ} → pairs_reading P ≡ reading.Refused k i p → JudgesListed t (Refused k i p) t
+  pub judging-list : (t : List ℕ) {x : Refusal} → pairs_reading P ≡ Err x → JudgesListed t (Err x) t
   unfolding table_judged
   judging-list t e = (sym (list-refused P (length t) c d e), rw (table_judged, e), tt)
 
   -- it is accepted
-  pub judging-listed : (t t' : List ℕ) {r : Holding} {n : ℕ} → pairs_reading P ≡ reading.Accepted n → Judges (under P) c d t r t' → JudgesListed t r t'
+  pub judging-listed : (t t' : List ℕ) {r : Holding} {n : ℕ} → pairs_reading P ≡ Ok n → Judges (under P) c d t r t' → JudgesListed t r t'
   unfolding table_judged
   judging-listed t t' e j = (j.0 ∙ sym (list_read P (length t) c d e), j.1 ∙ rw (table_judged, e), j.2)

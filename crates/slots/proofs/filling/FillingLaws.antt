@@ -16,8 +16,10 @@ use Rattle.base.proofs.Tests.{eq-cases, ge-ltb, lt-cases, lt-ltb}
 use Rattle.base.specs.Range.{bit}
 use Rattle.base.specs.Stores.{stored}
 use Rattle.blocks.specs.Entries.{entries_of}
-use Rattle.blocks.specs.Reading.{reading_of}
-use Rattle.blocks.specs.declared.Reading.TheVariants as reading
+use Rattle.blocks.specs.Reading.{reading_of, Reading}
+use Rattle.std.specs.Prelude.{Ok, Err}
+use Rattle.blocks.specs.Refusals.{refused}
+use Rattle.blocks.specs.declared.Refusal.{Refusal}
 use Rattle.blocks.specs.declared.Schema.TheVariants.{Description}
 use Rattle.logic.specs.Background.{Background}
 use Rattle.pairs.specs.Pairs.{pairs_reading, under}
@@ -27,8 +29,7 @@ use Rattle.slots.proofs.FailingLaws.{accepted-few}
 use Rattle.slots.proofs.PassLaws.{blank-zeros}
 use Rattle.slots.specs.code.Standing.{FilledBy, FilledUnder, Fills, bad_after, bad_under, full_after, full_under, room_in, slots_stored, slotting_of, slotting_under, table_after, table_under}
 use Rattle.slots.specs.code.Tables.{Exact, Settled, Tabled, Workspace, high_in, high_number, high_part, key_in, low_part, marks_from, no_bound, slot_in, slot_number, slot_word, slots_from, slots_of}
-use Rattle.slots.specs.declared.Slotting.{Slotting}
-use Rattle.slots.specs.declared.Slotting.TheVariants.{Filled, Refused}
+use Rattle.blocks.specs.declared.Cause.TheVariants.{Room}
 
 -- ---- cleared tables
 
@@ -102,13 +103,13 @@ marks-exact {m} f n e h = sym (marks-listed f 0 n ∙ rw (← e) (listed-eq (λ 
 -- ---- the ways through filling
 
 -- refused: nothing changes
-pub filling-refused : (b : Background) (d : List ℕ) {k i p : ℕ} → reading_of Description 1 d ≡ reading.Refused k i p → (t bad full : List ℕ) → Fills b d t bad full (Refused k i p) t bad full
+pub filling-refused : (b : Background) (d : List ℕ) {x : Refusal} → reading_of Description 1 d ≡ Err x → (t bad full : List ℕ) → Fills b d t bad full (Err x) t bad full
 unfolding slotting_under table_under bad_under full_under
 filling-refused b d e t bad full = (rw (slotting_under, e), rw (table_under, e), rw (bad_under, e), rw (full_under, e), λ room. e)
 
-module _ (b : Background) (d : List ℕ) {n : ℕ} (e : reading_of Description 1 d ≡ reading.Accepted n) (t bad full : List ℕ) where
+module _ (b : Background) (d : List ℕ) {n : ℕ} (e : reading_of Description 1 d ≡ Ok n) (t bad full : List ℕ) where
   -- a table is too short: nothing changes
-  pub filling-short : room_in t bad full ≤ n → Fills b d t bad full (Refused 7 0 0) t bad full
+  pub filling-short : room_in t bad full ≤ n → Fills b d t bad full (refused Room 0 0) t bad full
   unfolding slotting_under table_under bad_under full_under
   filling-short h =
       let few = accepted-few 1 d e in
@@ -117,11 +118,11 @@ module _ (b : Background) (d : List ℕ) {n : ℕ} (e : reading_of Description 1
 
   -- filled: the marks are those of the slots, whatever they were
   pub filling-accepted : {t' bad' full' : List ℕ} {used : ℕ} → n < room_in t bad full → Settled b d used t' bad' full' → Exact t t' used → length bad' ≡ length bad → length full' ≡ length full
-      → Fills b d t bad full (Filled used) t' bad' full'
+      → Fills b d t bad full (Ok used) t' bad' full'
   unfolding slotting_under table_under bad_under full_under
   filling-accepted h s x m f =
       let there : ltb (length (entries_of d)) (room_in t bad full) ≡ true = rw (← (accepted-few 1 d e).0) (lt-ltb h) in (
-        rw (slotting_under, e, there) (ap Filled s.tabled.counted),
+        rw (slotting_under, e, there) (ap Ok s.tabled.counted),
         rw (table_under, e, there) (table-exact x s.tabled),
         rw (bad_under, e, there) (marks-exact (inconsistent 1 (slots_of b d)) (length bad) m s.bads),
         rw (full_under, e, there) (marks-exact (nonempty 1 (settled 1 (slots_of b d))) (length full) f s.fulls),
@@ -131,23 +132,23 @@ module _ (b : Background) (d : List ℕ) {n : ℕ} (e : reading_of Description 1
 -- ---- under a list of pairs
 
 module _ (P d : List ℕ) where
-  abbrev FillsListed : List ℕ → List ℕ → List ℕ → Slotting → List ℕ → List ℕ → List ℕ → Type 0
+  abbrev FillsListed : List ℕ → List ℕ → List ℕ → Reading → List ℕ → List ℕ → List ℕ → Type 0
   FillsListed t bad full r t' bad' full' =
       (r ≡ slotting_of P (room_in t bad full) d) × (t' ≡ table_after P (room_in t bad full) d t) × (bad' ≡ bad_after P (room_in t bad full) d bad)
       × (full' ≡ full_after P (room_in t bad full) d full) × FilledBy P (room_in t bad full) d t' bad' full' r
 
   -- it is refused: nothing changes
-  pub filling-list : (t bad full : List ℕ) {k i p : ℕ} → pairs_reading P ≡ reading.Refused k i p → FillsListed t bad full (Refused k i p) t bad full
+  pub filling-list : (t bad full : List ℕ) {x : Refusal} → pairs_reading P ≡ Err x → FillsListed t bad full (Err x) t bad full
   unfolding slotting_of table_after bad_after full_after
   filling-list t bad full e = (rw (slotting_of, e), rw (table_after, e), rw (bad_after, e), rw (full_after, e), λ room. rw e)
 
   -- it is accepted
-  module _ {n : ℕ} (e : pairs_reading P ≡ reading.Accepted n) where
-    filled-listed : (room : ℕ) (t bad full : List ℕ) (r : Slotting) → FilledUnder (under P) room d t bad full r → FilledBy P room d t bad full r
-    filled-listed room t bad full (Filled used) f = (record { count = n; list_read = e }, f)
-    filled-listed room t bad full (Refused k i p) f = λ more. rw e (f more)
+  module _ {n : ℕ} (e : pairs_reading P ≡ Ok n) where
+    filled-listed : (room : ℕ) (t bad full : List ℕ) (r : Reading) → FilledUnder (under P) room d t bad full r → FilledBy P room d t bad full r
+    filled-listed room t bad full (Ok used) f = (record { count = n; list_read = e }, f)
+    filled-listed room t bad full (Err x) f = λ more. rw e (f more)
 
-    pub filling-listed : (t bad full t' bad' full' : List ℕ) {r : Slotting} → Fills (under P) d t bad full r t' bad' full' → FillsListed t bad full r t' bad' full'
+    pub filling-listed : (t bad full t' bad' full' : List ℕ) {r : Reading} → Fills (under P) d t bad full r t' bad' full' → FillsListed t bad full r t' bad' full'
     unfolding slotting_of table_after bad_after full_after
     filling-listed t bad full t' bad' full' {r} f =
         (f.0 ∙ rw (slotting_of, e), f.1 ∙ rw (table_after, e), f.2 ∙ rw (bad_after, e), f.3 ∙ rw (full_after, e), filled-listed (room_in t bad full) t' bad' full' r f.4)

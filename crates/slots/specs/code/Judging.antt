@@ -1,46 +1,43 @@
 -- What judging a list of descriptions by the slots of one is told, and what each step of it does.
 -- Assumes nothing.
-use Rattle.std.specs.Prelude.{◌*◌, ◌<◌, ℕ, eqb, length, take, List, [], ◌≡◌}
+use Rattle.std.specs.Prelude.{◌*◌, ◌<◌, ℕ, eqb, length, take, List, [], ◌≡◌, Ok, Err}
 use Rattle.base.specs.Range.{bit}
 use Rattle.base.specs.Stores.{stored}
 use Rattle.blocks.specs.Encoding.{blocks_for}
 use Rattle.blocks.specs.Frame.{plain}
-use Rattle.blocks.specs.Reading.{reading_of, unless_refused}
-use Rattle.blocks.specs.declared.Reading.TheVariants as reading
-use Rattle.blocks.specs.declared.Reading.{Reading}
+use Rattle.blocks.specs.Reading.{reading_of, Reading}
+use Rattle.blocks.specs.Refusals.{unless_refused}
 use Rattle.blocks.specs.declared.Schema.TheVariants.{Named}
 use Rattle.lists.specs.Parts.{parts_of}
 use Rattle.names.specs.NamedReading.{dictionary_of, dictionary_reading, named_unfolding, sent_of, unfolding_of}
 use Rattle.pairs.specs.Pairs.{under}
 use Rattle.slots.specs.Catalogue.{bits_before, listed_bits, listed_reading, service_bit, services_reading}
 use Rattle.slots.specs.Holding.{failing_in}
-use Rattle.slots.specs.declared.Judgement.TheVariants.{Bit, Refused}
-use Rattle.slots.specs.declared.Judgement.{Judgement}
 
 -- a dictionary is accepted
 pub record DictionaryTaken (D : List ℕ) : Type 0 where
   pub count : ℕ
-  pub taken : dictionary_reading D ≡ reading.Accepted count
+  pub taken : dictionary_reading D ≡ Ok count
 
 -- where a dictionary is not of length 0, the plain description that d stands for is at the front of a buffer, in the blocks of n entries
 abbrev pub Buffered : List ℕ → List ℕ → ℕ → List ℕ → Type 0
 Buffered D d n buffer = 0 < length D → take (512 * blocks_for plain n) buffer ≡ sent_of D d
 
 -- what judging one service with no names answers, as input i: its byte, unless it is refused
-abbrev pub bit_unless : Reading → ℕ → Judgement
-bit_unless r x = unless_refused Refused r (Bit x)
+abbrev pub bit_unless : Reading → ℕ → Reading
+bit_unless r x = unless_refused Err r (Ok x)
 
-unfoldable pub plain_judged : List ℕ → List ℕ → ℕ → List ℕ → Judgement
+unfoldable pub plain_judged : List ℕ → List ℕ → ℕ → List ℕ → Reading
 plain_judged P s i d = bit_unless (reading_of (Named 0) i d) (bit (eqb (failing_in (under P) s d) 0))
 
 -- what judging one service answers, as input i, by the bytes that a call goes on with for the supplier
-unfoldable pub service_judged : List ℕ → List ℕ → List ℕ → ℕ → List ℕ → Judgement
-service_judged P D s i d = unless_refused Refused (named_unfolding (dictionary_of D) i d) (Bit (service_bit P D s d))
+unfoldable pub service_judged : List ℕ → List ℕ → List ℕ → ℕ → List ℕ → Reading
+service_judged P D s i d = unless_refused Err (named_unfolding (dictionary_of D) i d) (Ok (service_bit P D s d))
 
 -- what judging all of a list does with a table, where the list is cut into at most 64
 abbrev pub JudgesAll : List ℕ → List ℕ → List ℕ → List ℕ → List ℕ → Reading → List ℕ → Type 0
 JudgesAll P D s list old r new =
-    (r ≡ unless_refused reading.Refused (services_reading (dictionary_of D) 2 (parts_of list)) (reading.Accepted (length (parts_of list))))
+    (r ≡ unless_refused Err (services_reading (dictionary_of D) 2 (parts_of list)) (Ok (length (parts_of list))))
     × (new ≡ stored old 0 (bits_before P D s 2 (parts_of list)))
 
 -- and where it is any
@@ -50,5 +47,5 @@ JudgesListed P D s list old r new = (r ≡ listed_reading D list) × (new ≡ st
 -- and after the supplier
 abbrev pub JudgesSupplied : List ℕ → List ℕ → List ℕ → List ℕ → List ℕ → Reading → List ℕ → Type 0
 JudgesSupplied P D c list old r new =
-    (r ≡ unless_refused reading.Refused (unfolding_of D 1 c) (listed_reading D list))
-    × (new ≡ stored old 0 (unless_refused (λ k j p. []) (unfolding_of D 1 c) (listed_bits P D (sent_of D c) list)))
+    (r ≡ unless_refused Err (unfolding_of D 1 c) (listed_reading D list))
+    × (new ≡ stored old 0 (unless_refused (λ e. []) (unfolding_of D 1 c) (listed_bits P D (sent_of D c) list)))

@@ -1,12 +1,12 @@
 -- Slots that are lent, and a supplier: what stands in their tables. No public promise names these.
 -- Assumes nothing.
-use Rattle.std.specs.Prelude.{ℕ, List}
+use Rattle.std.specs.Prelude.{ℕ, List, Option, Result}
+use Rattle.blocks.specs.declared.Refusal.{Refusal}
 use Rattle.logic.specs.Background.{Background}
 use Rattle.passes.specs.code.Slots.{Slot}
 use Rattle.slots.specs.code.Pass.{PassedAll}
 use Rattle.slots.specs.code.States.{Indexed}
 use Rattle.slots.specs.code.Tables.{Held}
-use Rattle.slots.specs.declared.Pass.{Pass}
 use Rattle.slots.specs.declared.failing.Supplier.{Supplier}
 use Rattle.slots.specs.declared.slots.Slots.{Slots}
 
@@ -19,5 +19,5 @@ abbrev pub HeldIn : {m : ℕ} → Background → List ℕ → Supplier m → Typ
 HeldIn b d s = Held b d s.slots.used s.slots.table.now s.slots.next.now s.slots.head.now s.impossible
 
 -- what going over all entries of a service answers
-abbrev pub AllPassedIn : {m : ℕ} → Background → List ℕ → Slots m → ℕ → Pass → Type 0
-AllPassedIn b d s total r = PassedAll b d s.table.now s.next.now s.head.now s.used total r
+abbrev pub AllPassedIn : {m : ℕ} → Background → List ℕ → Slots m → ℕ → ℕ → Result (Option ℕ) Refusal → Type 0
+AllPassedIn b d s total i r = PassedAll b d s.table.now s.next.now s.head.now s.used total i r

@@ -1,18 +1,17 @@
 -- What is known of a dictionary that is read: what is kept of each description, of which 64 have a place.
 -- Assumes nothing.
-use Rattle.std.specs.Prelude.{◌+◌, ◌<◌, ◌≤◌, suc, ℕ, get_or, length, List, [], ◌∷◌, ◌≡◌}
+use Rattle.std.specs.Prelude.{◌+◌, ◌<◌, ◌≤◌, suc, ℕ, get_or, length, List, [], ◌∷◌, ◌≡◌, Result, Ok, Err}
 use Rattle.blocks.proofs.RoundTrip.Unbroken.{Unbroken}
 use Rattle.blocks.specs.Entries.{entries_of}
 use Rattle.blocks.specs.Frame.{plain}
 use Rattle.blocks.specs.declared.Entry.{Entry}
-use Rattle.blocks.specs.declared.Reading.TheVariants as reading
+use Rattle.blocks.specs.declared.Refusal.{Refusal}
 use Rattle.blocks.specs.declared.Schema.TheVariants.{Named}
 use Rattle.lists.specs.Parts.{parts_of, start_of}
 use Rattle.names.specs.Measures.{levels_named, levels_nth, size_named, size_nth}
 use Rattle.names.specs.NamedReading.{dictionary_of, named_reading}
 use Rattle.names.specs.Promise.{Each, EachAfter, LegalNamed, Within}
 use Rattle.unfolding.specs.declared.tables.Described.{Described}
-use Rattle.unfolding.specs.declared.Measured.TheVariants.{Refused, Taken}
 use Rattle.unfolding.specs.declared.Measured.{Measured}
 use Rattle.unfolding.specs.declared.tables.Tables.{Tables}
 use Rattle.std.proofs.Props.{props}
@@ -61,9 +60,9 @@ each-prop k (d ∷ K) = Prim.hlevel (props, each-prop (suc k) K)
 pub Ready-prop : (D : List ℕ) (t : Tables) → IsProp (Ready D t)
 Ready-prop D t = Prim.hlevel (props, each-prop)
 
--- what reading a description answers: a refusal, or that it is taken, with its entries, its size and its levels
-abbrev pub MeasuredBy : List (List Entry) → ℕ → List ℕ → Measured → Type 0
-MeasuredBy K i s (Refused k j p) = named_reading K i s ≡ reading.Refused k j p
-MeasuredBy K i s (Taken n z l) =
-    (named_reading K i s ≡ reading.Accepted n) × (n ≡ length (entries_of s)) × (n ≤ 1008) × (z ≡ size_named K (entries_of s)) × (l ≡ levels_named K (entries_of s))
+-- what reading a description answers: a refusal, or its entries, its size and its levels
+abbrev pub MeasuredBy : List (List Entry) → ℕ → List ℕ → Result Measured Refusal → Type 0
+MeasuredBy K i s (Err e) = named_reading K i s ≡ Err e
+MeasuredBy K i s (Ok m) =
+    (named_reading K i s ≡ Ok m.total) × (m.total ≡ length (entries_of s)) × (m.total ≤ 1008) × (m.size ≡ size_named K (entries_of s)) × (m.levels ≡ levels_named K (entries_of s))
     × LegalNamed (length K) (entries_of s) × Unbroken plain (Named (length K)) s

@@ -4,9 +4,9 @@ use Rattle.base.proofs.Tests.{ne_eqb}
 use Rattle.clashes.proofs.Completing.{completes-by, completes-other}
 use Rattle.clashes.proofs.clash.completes_pair.Goals as goal
 
-pub returns-then-e-eq1 : goal.returns-then-e-eq1
-returns-then-e-eq1 g c =
-    completes-by _ _ c.args.given.now.n c.requires c.if-e-eq1.true c.partner_before.ensures
+pub returns-then-e-eq-HAS : goal.returns-then-e-eq-HAS
+returns-then-e-eq-HAS g c =
+    completes-by _ _ c.args.given.now.n c.requires c.if-e-eq-HAS.true c.partner_before.ensures
 
-pub returns-else-e-eq1 : goal.returns-else-e-eq1
-returns-else-e-eq1 g c = ne_eqb c.if-e-eq1.false ∙ completes-other _ _ c.args.given.now.n c.requires c.if-e-eq1.false
+pub returns-else-e-eq-HAS : goal.returns-else-e-eq-HAS
+returns-else-e-eq-HAS g c = ne_eqb c.if-e-eq-HAS.false ∙ completes-other _ _ c.args.given.now.n c.requires c.if-e-eq-HAS.false

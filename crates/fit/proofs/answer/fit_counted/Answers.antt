@@ -1,15 +1,13 @@
 -- `fit_counted` meets its contract.
-use mathlib.Core.Path.{◌∙◌, sym}
+use Rattle.std.proofs.Common.{◌∙◌, sym}
 use Rattle.fit.proofs.AnswerLaws.{counted-first, counted-first-refused}
 use Rattle.fit.proofs.answer.fit_counted.Goals as goal
 
 pub fit_accepted-requires : goal.fit_accepted-requires
-fit_accepted-requires c = rw c.from.ensures (sym c.read-first.ensures ∙ c.in-Accepted.is)
+fit_accepted-requires c = rw c.from.ensures (sym c.read.ensures ∙ c.in-Ok.is)
 
-pub returns-in-Refused : goal.returns-in-Refused
-returns-in-Refused c =
-    counted-first-refused _ _ c.read-first.ensures c.in-Refused.is c.refused.ensures
+pub returns-in-Err : goal.returns-in-Err
+returns-in-Err c = counted-first-refused _ _ c.read.ensures c.in-Err.is c.refused.ensures
 
-pub returns-in-Accepted : goal.returns-in-Accepted
-returns-in-Accepted c =
-    counted-first _ _ c.read-first.ensures c.in-Accepted.is c.fit_accepted.ensures
+pub returns-in-Ok : goal.returns-in-Ok
+returns-in-Ok c = counted-first _ _ c.read.ensures c.in-Ok.is c.fit_accepted.ensures

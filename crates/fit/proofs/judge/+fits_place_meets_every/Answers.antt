@@ -17,24 +17,24 @@ use Rattle.fit.proofs.judge.+fits_place_meets_every.Goals as goal
 pub fits_place-loop-e-init : goal.fits_place-loop-e-init
 fits_place-loop-e-init t c =
     let b = c.entries-rest.ensures in
-    (record { place = c.args.o; walk = pass-first c.args.places.now.ready _ _ refl c.requires.1 b.0 b.1 b.2 }, refl, omega arith, c.requires.0)
+    (record { place = c.args.o; walk = pass-first c.args.known.now.places.ready _ _ refl c.requires.1 b.0 b.1 b.2 }, refl, omega arith, c.requires.0)
 
 pub fits_place-loop-e-preserved-in-Met : goal.fits_place-loop-e-preserved-in-Met
 fits_place-loop-e-preserved-in-Met t c =
     let i = c.loop-e.invariant in
     let m = c.in-Met.ensures in
-    (record { place = i.0.place; walk = pass-on c.args.places.now.ready _ _ i.0.walk c.in-Some.ensures.steps m.0 }, m.1 ∙ i.1, i.2, i.3)
+    (record { place = i.0.place; walk = pass-on c.args.known.now.places.ready _ _ i.0.walk c.in-Some.ensures.steps m.0 }, m.1 ∙ i.1, i.2, i.3)
 
 pub fits_place-returns-in-Unmet : goal.fits_place-returns-in-Unmet
 fits_place-returns-in-Unmet t c =
     let i = c.loop-e.invariant in
     let m = c.in-Unmet.ensures in
-    (sym (pass-no c.args.places.now.ready _ _ i.0.walk c.in-Some.ensures.steps m.0), m.1 ∙ i.1)
+    (sym (pass-no c.args.known.now.places.ready _ _ i.0.walk c.in-Some.ensures.steps m.0), m.1 ∙ i.1)
 
 pub fits_place-loop-e-preserved-then-is_first : goal.fits_place-loop-e-preserved-then-is_first
 fits_place-loop-e-preserved-then-is_first t c =
     let i = c.loop-e.invariant in
-    let P = c.args.places.now.ready in
+    let P = c.args.known.now.places.ready in
     let K = c.args.known.now.items in
     let s = c.in-Some.ensures.steps in
     let m = c.in-RestsOn.ensures in
@@ -43,7 +43,7 @@ fits_place-loop-e-preserved-then-is_first t c =
     let h = c.in-RestsOn.h in
     let g = c.loop-e.g in
     let es = entries_of K.bytes.now in
-    let ds = entries_of c.args.places.now.bytes.now in
+    let ds = entries_of c.args.known.now.places.bytes.now in
     let left = c.loop-e.left in
     let b = c.entries-rest-then-is_first.ensures in
     let here = eqb-eq (sym c.is_done.ensures ∙ c.if-is_done.true) in
@@ -66,7 +66,7 @@ fits_place-loop-e-preserved t c =
     let i = c.loop-e.invariant in
     let m = c.in-RestsOn.ensures in
     let f = c.meets_every.ensures in (
-      record { place = i.0.place; walk = pass-on c.args.places.now.ready _ _ i.0.walk c.in-Some.ensures.steps (m.0.1.tells ∙ confirmed f.0 (ap not c.if-not-meets_every.false)) },
+      record { place = i.0.place; walk = pass-on c.args.known.now.places.ready _ _ i.0.walk c.in-Some.ensures.steps (m.0.1.tells ∙ confirmed f.0 (ap not c.if-not-meets_every.false)) },
       f.1 ∙ m.1 ∙ i.1,
       i.2,
       i.3,
@@ -77,12 +77,12 @@ fits_place-returns-then-not-meets_every t c =
     let i = c.loop-e.invariant in
     let m = c.in-RestsOn.ensures in
     let f = c.meets_every.ensures in
-    (sym (pass-no c.args.places.now.ready _ _ i.0.walk c.in-Some.ensures.steps (m.0.1.tells ∙ refuted f.0 (ap not c.if-not-meets_every.true))), f.1 ∙ m.1 ∙ i.1)
+    (sym (pass-no c.args.known.now.places.ready _ _ i.0.walk c.in-Some.ensures.steps (m.0.1.tells ∙ refuted f.0 (ap not c.if-not-meets_every.true))), f.1 ∙ m.1 ∙ i.1)
 
 pub fits_place-returns : goal.fits_place-returns
 fits_place-returns t c =
     let i = c.loop-e.invariant in
-    (sym (pass-ends c.args.places.now.ready _ _ i.0.walk c.in_default.ensures.steps.0), i.1)
+    (sym (pass-ends c.args.known.now.places.ready _ _ i.0.walk c.in_default.ensures.steps.0), i.1)
 
 -- ---- the groups of an entry
 

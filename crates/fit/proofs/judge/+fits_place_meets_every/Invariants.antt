@@ -20,7 +20,7 @@ decreases-meets_every l = 2 * l.left
 abbrev pub invariant-fits_place-loop-e : goal.invariant-fits_place-loop-e
 invariant-fits_place-loop-e l =
     let es = entries_of l.known.items.bytes.now in
-    let d = l.places in
+    let d = l.known.places in
     Left es d.most d.bytes.now (fits_place l.left-2 es (entries_of d.bytes.now) l.g-2 l.o) l.left l.g d.index.now l.rest.table.now l.rest.most l.rest.next
     × (l.adds ≡ l.initial.adds) × (l.left ≤ l.left-2) × (l.g < 2048)
 
@@ -32,7 +32,7 @@ abbrev pub invariant-meets_every-loop-h : goal.invariant-meets_every-loop-h
 invariant-meets_every-loop-h l =
     let s = l.known.items in
     let es = entries_of s.bytes.now in
-    let ds = entries_of l.places.bytes.now in
+    let ds = entries_of l.known.places.bytes.now in
     let name = (nth ds l.e).name in
     Passing Specimen s.most s.bytes.now (own_fits (l.left - 1) es ds l.e l.g name) (hash_of s.most l.g 7 name) (groups_fit s.most l.left es ds l.g l.e name l.h)
     s.index.now l.h-iterator.table.now l.h-iterator.most l.h-iterator.next × (l.adds ≡ l.initial.adds)

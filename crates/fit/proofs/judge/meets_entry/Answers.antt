@@ -17,7 +17,7 @@ returns-then-left-eq0 c = (sym (meets-bottom _ _ _ _ _ c.if-left-eq0.true), refl
 
 pub entry_at-entry-requires : goal.entry_at-entry-requires
 entry_at-entry-requires c =
-    has-entry c.args.places.now.ready c.requires.2 (λ z. omega (arith, c.requires.1))
+    has-entry c.args.known.now.places.ready c.requires.2 (λ z. omega (arith, c.requires.1))
 
 pub returns-then-meets_atom : goal.returns-then-meets_atom
 returns-then-meets_atom c =
@@ -40,7 +40,7 @@ pub loop-h-init : goal.loop-h-init
 loop-h-init c =
     let R = c.args.known.now.items.ready in
     let es = entries_of c.args.known.now.items.bytes.now in
-    let ds = entries_of c.args.places.now.bytes.now in
+    let ds = entries_of c.args.known.now.places.bytes.now in
     let b = c.groups_by-h-items.ensures in
     let asked : (bare_fits ds c.args.e || not (has_bare es c.args.g c.link-link.result.0)) ≡ true =
     elim c.else-demands.branch [

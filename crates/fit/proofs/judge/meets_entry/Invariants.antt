@@ -12,6 +12,6 @@ abbrev pub invariant-loop-h : goal.invariant-loop-h
 invariant-loop-h l =
     let s = l.known.items in
     let es = entries_of s.bytes.now in
-    let ds = entries_of l.places.bytes.now in
+    let ds = entries_of l.known.places.bytes.now in
     Passing Specimen s.most s.bytes.now (own_fits (l.left - 1) es ds l.e l.g l.link.0) (hash_of s.most l.g 7 l.link.0) (meets_entry l.left es ds l.g l.e)
     s.index.now l.h-iterator.table.now l.h-iterator.most l.h-iterator.next

@@ -5,18 +5,20 @@ use mathlib.Core.Path.{◌∙◌, ap₂, sym}
 use native.Mathlib.Omega.{arith}
 use Rattle.compare.specs.Answer.{compare_of, output_of}
 use Rattle.named.proofs.UnfoldedLaws.{both-buffers, both-unfolded, comparison-goes, comparison-refused, first_part_lem, second-part}
+use Rattle.std.proofs.lemmas.Result.{err_from_is_err_and}
 use Rattle.named.proofs.comparing.compare_unfolded.Goals as goal
 
-pub returns-in-Refused : goal.returns-in-Refused
-returns-in-Refused c =
+pub returns-in_err-n : goal.returns-in_err-n
+returns-in_err-n c =
     let D = c.args.dictionary.now in
     let c₀ = c.args.c.now in
     let d₀ = c.args.d.now in
     let b₁ = c.args.a.now in
     let b₂ = c.args.b.now in
-    let u = c.unfold_both-unfolded.ensures in
-    let e = sym (both-buffers D c₀ d₀ b₁ b₂ c.requires.2 c.requires.3) ∙ sym u.0 ∙ c.in-Refused.is in
-    comparison-refused c.args.pairs.now D c.requires.0 c.requires.1 c₀ d₀ c.args.out.now e
+    let u = c.unfold_both.ensures in
+    let e = sym (both-buffers D c₀ d₀ b₁ b₂ c.requires.2 c.requires.3) ∙ sym u.0 ∙ c.in_err-n.was in
+    let p = err_from_is_err_and c.from_residual.result c.from_residual.ensures.1 in
+    rw (p.1, p.2) (comparison-refused c.args.pairs.now D c.requires.0 c.requires.1 c₀ d₀ c.args.out.now e)
 
 pub slice_bounds-compare-end : goal.slice_bounds-compare-end
 slice_bounds-compare-end c =
@@ -25,21 +27,21 @@ slice_bounds-compare-end c =
     let d₀ = c.args.d.now in
     let b₁ = c.args.a.now in
     let b₂ = c.args.b.now in
-    let u = c.unfold_both-unfolded.ensures in
-    (first_part_lem D c₀ d₀ b₁ b₂ c.requires.2 c.requires.3 u.0 u.1 u.2 c.in-Both.is c.bytes_for-first.ensures.0).1
+    let u = c.unfold_both.ensures in
+    (first_part_lem D c₀ d₀ b₁ b₂ c.requires.2 c.requires.3 u.0 u.1 u.2 c.in_ok-n.was c.bytes_for-first.ensures.0).1
 
-pub slice_bounds-compare-end-in-Both : goal.slice_bounds-compare-end-in-Both
-slice_bounds-compare-end-in-Both c =
+pub slice_bounds-compare-end-2 : goal.slice_bounds-compare-end-2
+slice_bounds-compare-end-2 c =
     let D = c.args.dictionary.now in
     let c₀ = c.args.c.now in
     let d₀ = c.args.d.now in
     let b₁ = c.args.a.now in
     let b₂ = c.args.b.now in
-    let u = c.unfold_both-unfolded.ensures in
-    (second-part D c₀ d₀ b₁ b₂ c.requires.2 c.requires.3 u.0 u.1 u.2 c.in-Both.is c.bytes_for-second.ensures.0).1
+    let u = c.unfold_both.ensures in
+    (second-part D c₀ d₀ b₁ b₂ c.requires.2 c.requires.3 u.0 u.1 u.2 c.in_ok-n.was c.bytes_for-second.ensures.0).1
 
-pub returns-in-Both : goal.returns-in-Both
-returns-in-Both c =
+pub returns : goal.returns
+returns c =
     let D = c.args.dictionary.now in
     let c₀ = c.args.c.now in
     let d₀ = c.args.d.now in
@@ -47,8 +49,8 @@ returns-in-Both c =
     let b₂ = c.args.b.now in
     let P = c.args.pairs.now in
     let o = c.args.out.now in
-    let u = c.unfold_both-unfolded.ensures in
-    let t = c.in-Both.is in
+    let u = c.unfold_both.ensures in
+    let t = c.in_ok-n.was in
     let e = both-unfolded D c₀ d₀ b₁ b₂ c.requires.2 c.requires.3 u.0 u.1 u.2 t in
     let f = (first_part_lem D c₀ d₀ b₁ b₂ c.requires.2 c.requires.3 u.0 u.1 u.2 t c.bytes_for-first.ensures.0).0 in
     let s = (second-part D c₀ d₀ b₁ b₂ c.requires.2 c.requires.3 u.0 u.1 u.2 t c.bytes_for-second.ensures.0).0 in
@@ -59,5 +61,5 @@ returns-in-Both c =
 pub slice_bounds-compare-start : goal.slice_bounds-compare-start
 slice_bounds-compare-start c = omega arith
 
-pub slice_bounds-compare-start-in-Both : goal.slice_bounds-compare-start-in-Both
-slice_bounds-compare-start-in-Both c = omega arith
+pub slice_bounds-compare-start-2 : goal.slice_bounds-compare-start-2
+slice_bounds-compare-start-2 c = omega arith

@@ -5,11 +5,11 @@ use Rattle.pairs.specs.Pairs.{pair_count}
 use Rattle.pairs.proofs.reader.read_pairs.Goals as goal
 
 pub returns-then-pairs-ne0 : goal.returns-then-pairs-ne0
-returns-then-pairs-ne0 c = not-of-fours _ c.if-pairs-ne0.true
+returns-then-pairs-ne0 c = rw c.wrong_at.ensures (not-of-fours _ c.if-pairs-ne0.true)
 
 pub returns-then-n-gt64 : goal.returns-then-n-gt64
 unfolding pair_count
-returns-then-n-gt64 c = too_many _ refl c.if-pairs-ne0.false c.if-n-gt64.true
+returns-then-n-gt64 c = rw c.wrong_at-then-n-gt64.ensures (too_many _ refl c.if-pairs-ne0.false c.if-n-gt64.true)
 
 pub first_wrong-requires : goal.first_wrong-requires
 unfolding pair_count
@@ -19,7 +19,7 @@ pub returns-in-Some : goal.returns-in-Some
 unfolding pair_count
 returns-in-Some c =
     let found = c.in-Some.ensures in
-    pair-refused _ refl c.if-pairs-ne0.false c.if-n-gt64.false found.0 (λ z. omega (arith, found.1))
+    rw c.wrong_at-in-Some.ensures (pair-refused _ refl c.if-pairs-ne0.false c.if-n-gt64.false found.0 (λ z. omega (arith, found.1)))
 
 pub returns-in-None : goal.returns-in-None
 unfolding pair_count

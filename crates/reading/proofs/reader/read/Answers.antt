@@ -1,13 +1,17 @@
 -- `read` meets its contract: the blocks, then the entries.
 use Rattle.std.proofs.Common.{◌∙◌, sym}
+use Rattle.std.proofs.lemmas.Result.{err_from_is_err_and}
 use Rattle.reading.proofs.BlocksRead.{blocks-accepted, blocks-refused, blocks-whole}
 use Rattle.reading.proofs.reader.read.Goals as goal
 
 pub read_entries-requires : goal.read_entries-requires
-read_entries-requires c = let w = blocks-whole _ _ _ c.read_blocks.ensures c.in-Accepted.is in (w.0, w.3, w.2)
+read_entries-requires c = let w = blocks-whole _ _ _ c.read_blocks.ensures c.in_ok-total.was in (w.0, w.3, w.2)
 
-pub returns-in-Accepted : goal.returns-in-Accepted
-returns-in-Accepted c = c.read_entries.ensures ∙ sym (blocks-accepted _ _ _ c.read_blocks.ensures c.in-Accepted.is)
+pub returns-in_err-total : goal.returns-in_err-total
+returns-in_err-total c =
+    let p = err_from_is_err_and c.from_residual.result c.from_residual.ensures.1 in
+    let r = c.in_err-total.field-0.0 in
+    rw (p.1, p.2) (sym (blocks-refused _ _ _ c.read_blocks.ensures {k = r.cause} {j = r.input} {p = r.place} c.in_err-total.was))
 
-pub returns-in-Refused : goal.returns-in-Refused
-returns-in-Refused c = sym (blocks-refused _ _ _ c.read_blocks.ensures c.in-Refused.is)
+pub returns : goal.returns
+returns c = c.read_entries.ensures ∙ sym (blocks-accepted _ _ _ c.read_blocks.ensures c.in_ok-total.was)

@@ -1,21 +1,26 @@
 -- `read_blocks` meets its contract: length, then blocks.
-use Rattle.std.proofs.Common.{◌∙◌, sym, arith}
+use Rattle.std.proofs.Common.{arith}
+use Rattle.std.proofs.lemmas.Result.{err_from_is_err_and}
 use Rattle.blocks.proofs.Refusing.BlockLaws.{last-used}
-use Rattle.reading.proofs.reader.ReadingLaws.{blocks-are, read-block, read_length, read-sound}
+use Rattle.reading.proofs.reader.ReadingLaws.{blocks-clean, read-block, read_length, read-sound}
 use Rattle.reading.proofs.reader.read_blocks.Goals as goal
 
-pub returns-then-n-eq0 : goal.returns-then-n-eq0
-returns-then-n-eq0 c = read_length _ _ _ c.blocks_read-n.ensures.0 c.if-n-eq0.true
+pub returns-in_default : goal.returns-in_default
+returns-in_default c = read_length _ _ _ c.in_default.ensures
 
 pub entries_in-requires : goal.entries_in-requires
 entries_in-requires c =
-    let e = c.blocks_read-n.ensures in
-    let z = c.if-n-eq0.false in
-    let clean = sym c.first_block_fault.ensures ∙ c.in-Clean.is in
-    (omega arith, e.1, blocks-are _ _ e.0 z, last-used _ _ (omega arith) clean)
+    let e = c.in-Some.ensures in
+    let clean = blocks-clean c.args.schema _ _ e.0 e.1 c.check_frames.ensures c.in_ok-check_frames.was in
+    (e.2, e.3, e.1, last-used _ _ (omega arith) clean)
 
-pub returns-in-Faulty : goal.returns-in-Faulty
-returns-in-Faulty c = read-block _ _ _ c.blocks_read-n.ensures.0 c.if-n-eq0.false c.first_block_fault.ensures c.in-Faulty.is
+pub returns-in_err-check_frames : goal.returns-in_err-check_frames
+returns-in_err-check_frames c =
+    let p = err_from_is_err_and c.from_residual.result c.from_residual.ensures.1 in
+    let e = c.in-Some.ensures in
+    rw (p.1, p.2) (read-block _ _ _ e.0 e.1 c.check_frames.ensures c.in_err-check_frames.was)
 
-pub returns-in-Clean : goal.returns-in-Clean
-returns-in-Clean c = read-sound _ _ _ c.blocks_read-n.ensures.0 c.if-n-eq0.false c.first_block_fault.ensures c.in-Clean.is c.entries_in.ensures.0
+pub returns : goal.returns
+returns c =
+    let e = c.in-Some.ensures in
+    read-sound _ _ _ e.0 e.1 c.check_frames.ensures c.in_ok-check_frames.was c.entries_in.ensures.0

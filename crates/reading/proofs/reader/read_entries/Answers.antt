@@ -1,8 +1,16 @@
 -- `read_entries` meets its contract.
+use Rattle.std.proofs.Common.{◌∙◌, ap, sym}
+use Rattle.std.proofs.lemmas.Result.{err_from_is_err_and}
+use Rattle.blocks.proofs.Refusing.Readings.{accepted-finding, refused-alike}
+use Rattle.blocks.specs.Reading.{answer}
 use Rattle.reading.proofs.reader.read_entries.Goals as goal
 
-pub returns-in-Faulty : goal.returns-in-Faulty
-returns-in-Faulty c = rw (← c.first_entry_fault-found.ensures, c.in-Faulty.is)
+pub returns-in_err-check_entries : goal.returns-in_err-check_entries
+returns-in_err-check_entries c =
+    let p = err_from_is_err_and c.from_residual.result c.from_residual.ensures.1 in
+    rw (p.1, p.2) (refused-alike c.args.input tt c.args.total _ (sym c.check_entries.ensures ∙ c.in_err-check_entries.was))
 
-pub returns-in-Clean : goal.returns-in-Clean
-returns-in-Clean c = rw (← c.first_entry_fault-found.ensures, c.in-Clean.is)
+pub returns : goal.returns
+returns c =
+    let f = accepted-finding c.args.input tt _ (sym c.check_entries.ensures ∙ c.in_ok-check_entries.was) in
+    sym (ap (answer c.args.input c.args.total) f.1)

@@ -2,7 +2,10 @@ use Rattle.std.proofs.Common.{◌≡◌, ◌+◌, ◌-◌, sym, ◌++◌, ◌∷
 use Rattle.std.proofs.lemmas.List.{length_push}
 use Rattle.blocks.proofs.Refusing.InOrder.{Turn, may-number, over-numbered, turn-numbered, turned-all-numbered}
 use Rattle.blocks.proofs.Refusing.LevelLaws.{entries-end, entries-found, entries-more, level-small, levels-more, levels-start, level-passed}
-use Rattle.blocks.specs.Entries.{entry_from}
+use Rattle.blocks.specs.Entries.{entries_of, entry_from}
+use Rattle.blocks.specs.Faults.{Faulty, first}
+use Rattle.blocks.specs.code.ReadingSteps.{rule_faults}
+use Rattle.blocks.specs.Reading.{answer}
 use Rattle.reading.proofs.rules.fault_by_levels.Goals as goal
 use Rattle.reading.proofs.rules.fault_by_levels.Goals.{In-Some}
 
@@ -28,11 +31,13 @@ loop-before-init c =
 pub overflow_cast-result : goal.overflow_cast-result
 overflow_cast-result c = let h = here (goal.at.overflow_cast-result c).In-Some in omega (arith, c.requires.1, h.1.before)
 
-pub returns-then-number-ne0 : goal.returns-then-number-ne0
-returns-then-number-ne0 c =
-    let h = here (goal.at.returns-then-number-ne0 c).In-Some in
+pub returns-in-Some-entry_refusal : goal.returns-in-Some-entry_refusal
+returns-in-Some-entry_refusal c =
+    let h = here (goal.at.returns-in-Some-entry_refusal c).In-Some in
     let i = c.loop-before.invariant in
-    sym (i.rest ∙ (rw (← h.0) (entries-found _ _ _ _ (rw (← h.0) at i.levels) (omega arith) (c.from-e.ensures ∙ h.1.entry) (c.owner_level-l.ensures ∙ level-passed _ _ _) c.entry_refusal-number.ensures c.args.total (omega (arith, h.1.before)) c.if-number-ne0.true)))
+    let found : first (rule_faults c.args.schema (entries_of c.args.s.now) 1 c.args.total) ≡ Faulty c.in-Some-entry_refusal.cause (c.in-Some.before + 1) =
+    i.rest ∙ (rw (← h.0) (entries-found _ _ _ _ (rw (← h.0) at i.levels) (omega arith) (c.from-e.ensures ∙ h.1.entry) (c.owner_level-l.ensures ∙ level-passed _ _ _) c.entry_refusal.ensures c.args.total (omega (arith, h.1.before)) c.in-Some-entry_refusal.is)) in
+    ap (answer c.args.input tt) (sym found)
 
 pub slice_bounds-owner_level-end : goal.slice_bounds-owner_level-end
 slice_bounds-owner_level-end c =
@@ -54,18 +59,18 @@ loop-before-preserved c =
     let h = here (goal.at.loop-before-preserved c).In-Some in
     let i = c.loop-before.invariant in
     let t = rw (← h.0) at i.levels in
-    let small = level-small _ _ _ _ t (omega arith) (c.from-e.ensures ∙ h.1.entry) (c.owner_level-l.ensures ∙ level-passed _ _ _) c.entry_refusal-number.ensures c.if-number-ne0.false in
+    let small = level-small _ _ _ _ t (omega arith) (c.from-e.ensures ∙ h.1.entry) (c.owner_level-l.ensures ∙ level-passed _ _ _) c.entry_refusal.ensures c.in_default.is in
     let n : length (c.loop-before.yielded ++ (c.in-Some.before, c.in-Some.bytes) ∷ []) ≡ c.in-Some.before + 1 = length_push c.loop-before.yielded (c.in-Some.before, c.in-Some.bytes) ∙ ap (λ k. k + 1) (sym h.0) in
     record {
       goes = c.in-Some.ensures.goes.keeps;
       ends = tt;
       over = i.over;
-      levels = rw n (levels-more _ _ _ _ t (omega arith) (c.from-e.ensures ∙ h.1.entry) (c.owner_level-l.ensures ∙ level-passed _ _ _) c.entry_refusal-number.ensures c.if-number-ne0.false (omega (arith, h.1.before, c.requires.0)) (c.level_under.ensures (omega (arith, small))));
-      rest = rw n (i.rest ∙ rw (← h.0) (entries-more _ _ _ _ t (omega arith) (c.from-e.ensures ∙ h.1.entry) (c.owner_level-l.ensures ∙ level-passed _ _ _) c.entry_refusal-number.ensures c.args.total (omega (arith, h.1.before)) c.if-number-ne0.false));
+      levels = rw n (levels-more _ _ _ _ t (omega arith) (c.from-e.ensures ∙ h.1.entry) (c.owner_level-l.ensures ∙ level-passed _ _ _) c.entry_refusal.ensures c.in_default.is (omega (arith, h.1.before, c.requires.0)) (c.level_under.ensures (omega (arith, small))));
+      rest = rw n (i.rest ∙ rw (← h.0) (entries-more _ _ _ _ t (omega arith) (c.from-e.ensures ∙ h.1.entry) (c.owner_level-l.ensures ∙ level-passed _ _ _) c.entry_refusal.ensures c.args.total (omega (arith, h.1.before)) c.in_default.is));
     }
 
 pub returns : goal.returns
 returns c =
     let l = c.loop-before in
     let n = turned-all-numbered l.invariant.over l.yielded l.before-iterator l.yielded_by c.next.result c.next.new.self c.in-None.is c.next.ensures.steps in
-    sym (l.invariant.rest ∙ entries-end _ _ _ _ (omega (arith, n)))
+    ap (answer c.args.input tt) (sym (l.invariant.rest ∙ entries-end _ _ _ _ (omega (arith, n))))

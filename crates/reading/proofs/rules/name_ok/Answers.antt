@@ -14,12 +14,12 @@ returns-then-name-gt0 c =
     let z : eqb a.name 0 ≡ false = omega (tests, c.if-name-gt0.true) in
     rw (name_ok, z, lt-ltb c.if-name-gt0.true) (bool_cases (eqb a.kind 6) (λ y. rw y) (λ y. rw y))
 
-pub returns-then-kind-eq6 : goal.returns-then-kind-eq6
+pub returns-then-kind-eq-NOTHING : goal.returns-then-kind-eq-NOTHING
 unfolding name_ok
-returns-then-kind-eq6 c =
+returns-then-kind-eq-NOTHING c =
     let z : c.args.name ≡ 0 = omega (arith, c.if-name-gt0.false) in
-    rw (name_ok, eq-eqb c.if-kind-eq6.true, z)
+    rw (name_ok, eq-eqb c.if-kind-eq-NOTHING.true, z)
 
-pub returns-else-kind-eq6 : goal.returns-else-kind-eq6
+pub returns-else-kind-eq-NOTHING : goal.returns-else-kind-eq-NOTHING
 unfolding name_ok
-returns-else-kind-eq6 c = rw (name_ok, ne_eqb c.if-kind-eq6.false, ge-ltb c.if-name-gt0.false)
+returns-else-kind-eq-NOTHING c = rw (name_ok, ne_eqb c.if-kind-eq-NOTHING.false, ge-ltb c.if-name-gt0.false)

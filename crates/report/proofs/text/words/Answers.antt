@@ -6,7 +6,7 @@ use Rattle.report.proofs.text.words.Goals as goal
 pub returns-in-Refused-clause-bytes : goal.returns-in-Refused-clause-bytes
 returns-in-Refused-clause-bytes c =
     rw c.in-Refused.is
-    (refused-words _ _ _ (search rules) (search rules) (search rules) (search rules) c.put_field-in-Refused-2.ensures.bytes c.put_field-in-Refused-3.ensures.bytes)
+    (refused-words _ c.number.ensures (search rules) (search rules) (search rules) (search rules) c.put_field-in-Refused-2.ensures.bytes c.put_field-in-Refused-3.ensures.bytes)
 
 pub returns-in-Has-clause-bytes : goal.returns-in-Has-clause-bytes
 returns-in-Has-clause-bytes c =

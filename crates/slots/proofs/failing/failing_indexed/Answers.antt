@@ -2,7 +2,10 @@
 use mathlib.Core.Path.{◌∙◌, sym}
 use Rattle.pairs.specs.Pairs.{under}
 use Rattle.slots.proofs.failing.JudgingLaws.{judging-first}
+use Rattle.std.proofs.lemmas.Result.{err_from_is_err_and}
 use Rattle.slots.proofs.failing.failing_indexed.Goals as goal
 
-pub returns-in-Refused : goal.returns-in-Refused
-returns-in-Refused c = judging-first (under _) _ _ _ (sym c.read-reading.ensures ∙ c.in-Refused.is)
+pub returns-in_err-n : goal.returns-in_err-n
+returns-in_err-n c =
+    let p = err_from_is_err_and c.from_residual.result c.from_residual.ensures.1 in
+    rw (p.1, p.2) (judging-first (under _) _ _ _ (sym c.read.ensures ∙ c.in_err-n.was))

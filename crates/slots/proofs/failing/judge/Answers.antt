@@ -24,5 +24,5 @@ pub returns : goal.returns
 returns g c =
     let a = c.requires in
     let s = c.chained_slots-used.ensures in
-    let held = c.new-supplier.ensures _ _ s.settled'.tabled (s.settled'.bads 0) in
-    judging-found a.0.lawful _ a.1 a.2 a.3 s (c.judge-e.ensures.2 _ held.1) c.answer_of.ensures
+    let held = c.new-supplier.ensures.held _ _ s.settled'.tabled (s.settled'.bads 0) in
+    judging-found a.0.lawful _ a.1 a.2 a.3 s ((rw c.new-supplier.ensures.list at c.judge-e.ensures.2) _ held.1) c.answer_of.ensures

@@ -2,7 +2,10 @@
 use mathlib.Core.Path.{◌∙◌, sym}
 use Rattle.pairs.specs.Pairs.{under}
 use Rattle.slots.proofs.failing.JudgingLaws.{judging-second}
+use Rattle.std.proofs.lemmas.Result.{err_from_is_err_and}
 use Rattle.slots.proofs.failing.second_failing.Goals as goal
 
-pub returns-in-Refused : goal.returns-in-Refused
-returns-in-Refused c = judging-second (under _) _ _ _ c.requires.1 (sym c.read-reading.ensures ∙ c.in-Refused.is)
+pub returns-in_err-m : goal.returns-in_err-m
+returns-in_err-m c =
+    let p = err_from_is_err_and c.from_residual.result c.from_residual.ensures.1 in
+    rw (p.1, p.2) (judging-second (under _) _ _ _ c.requires.1 (sym c.read.ensures ∙ c.in_err-m.was))

@@ -1,171 +1,116 @@
-use Rattle.std.proofs.Common.{◌≡◌, ◌+◌, ◌-◌, ◌<◌, ◌≤◌, ℕ, suc, sym, ◌++◌, ◌∷◌, [], ap, get_or, length, length-take, ◌∙◌, arith, set, not}
-use Rattle.std.proofs.lemmas.List.{length_push}
-use Rattle.blocks.proofs.Refusing.InOrder.{Turn, may-number, over-numbered, turn-numbered, turned-all-numbered}
-use Rattle.blocks.proofs.Refusing.LevelLaws.{entries-end, entries-found, entries-more, level-passed, level-small, levels-more, levels-start}
-use Rattle.blocks.specs.Entries.{entries_of, entry_from, nth}
-use Rattle.blocks.specs.code.ReadingSteps.{Levels, rule_faults}
-use Rattle.blocks.specs.Faults.{first}
-use Rattle.blocks.specs.declared.Schema.TheVariants.{Named}
-use Rattle.slots.proofs.service.ServiceLaws.{none-failed, one-failed, judged-all, judged-along, judged-fails, judged-more, judged-start, judged-state, owner-early}
-use Rattle.slots.proofs.service.pass_entries.Goals.{After-from, After-level_under, In-Some}
+use Rattle.std.proofs.Common.{◌≡◌, ◌∙◌, ◌+◌, ◌<◌, ◌≤◌, ℕ, List, ap, arith, get_or, suc}
+use Rattle.std.proofs.lemmas.Result.{err_from_is_err_and}
+use Rattle.std.specs.Iterator.Adapters.{enumerate_count}
+use Rattle.blocks.proofs.Refusing.LevelLaws.{levels-start}
+use Rattle.blocks.specs.Entries.{entries_of, nth}
+use Rattle.blocks.specs.declared.Entry.{Entry}
+use Rattle.slots.proofs.service.LeftLaws.{Resting, all-faults, left-end, left-may, left-next, left-start, resting-all, resting-more, resting-refused, resting-start}
+use Rattle.slots.proofs.service.ServiceLaws.{judged-all, judged-fails, judged-more, judged-start, judged-state, owner-early}
+use Rattle.slots.specs.code.Pass.{Left}
+use Rattle.slots.proofs.service.pass_entries.Goals.{After-enumerate-rest, After-from, In_ok-check_entry}
 use Rattle.slots.proofs.service.pass_entries.Goals as goal
 
--- the turn: which entry it has
-here : (c : In-Some) → (c.in-Some.before ≡ length c.loop-before.yielded) × Turn c.args.d.now c.args.total c.in-Some.before (entry_from c.in-Some.bytes.now 0)
-here c =
-    let l = c.loop-before in
-    turn-numbered l.invariant.over l.yielded l.before-iterator l.yielded_by c.next.result c.next.new.self c.in-Some.before c.in-Some.bytes c.in-Some.is c.next.ensures.steps
+-- all are left
+begins : (c : After-enumerate-rest) → Left c.args.d.now c.args.total c.enumerate-rest.result
+begins c =
+    let p = c.requires in
+    let n = c.enumerate-rest.ensures in
+    left-start p.2 (omega (arith, p.0)) c.entries_in_order.ensures.items n.source n.count
+
+pub loop-before-init-derived : goal.loop-before-init-derived
+loop-before-init-derived c = ((tt, tt, left-may _ (begins c) (omega (arith, c.requires.1))), tt)
 
 pub loop-before-init : goal.loop-before-init
 loop-before-init c =
     let p = c.requires in
-    let a = c.args in
-    let n = c.enumerate-before-items.ensures in
-    let o = over-numbered p.2 (omega (arith, p.0)) c.entries_in_order.ensures.items n.source n.count c.into_iter-before-iterator.ensures.into_iter_gives in
-    let e : a.total + 1 - 1 ≡ a.total = omega arith in
+    let z = c.enumerate-rest.ensures.count in
     record {
-      goes = (tt, tt, may-number o (omega arith));
-      ends = tt;
-      over = o;
-      levels = levels-start _ _ a.level.now (omega (arith, p.0, p.4));
-      rest = rw e;
-      judged = judged-start a.states.now (omega (arith, p.0, p.3));
-      some = tt;
+      resting = resting-start (begins c) z (levels-start _ _ c.args.level.now (omega (arith, p.0, p.4)));
+      judged = rw z (judged-start c.args.states.now (omega (arith, p.0, p.3)));
     }
 
-pub overflow_cast-result : goal.overflow_cast-result
-overflow_cast-result c = let h = here (goal.at.overflow_cast-result c).In-Some in omega (arith, c.requires.1, h.1.before)
+pub returns-in_err-check_entry : goal.returns-in_err-check_entry
+returns-in_err-check_entry c =
+    let p = err_from_is_err_and c.from_residual.result c.from_residual.ensures.1 in
+    let r = resting-refused c.loop-before.invariant.resting c.next.new.self c.in-Some.before c.in-Some.bytes c.in-Some.ensures.steps
+    c.from-e.ensures _ _ _ c.check_entry.ensures c.in_err-check_entry.was in
+    rw (p.1, p.2) (all-faults _ _ ∙ r.0, r.1)
 
-pub slice_bounds-owner_level-end : goal.slice_bounds-owner_level-end
-slice_bounds-owner_level-end c =
-    let h = here (goal.at.slice_bounds-owner_level-end c).In-Some in
-    omega (arith, c.requires.0, h.1.before, c.loop-before.invariant.levels.room)
+-- it is checked
+checked : (c : In_ok-check_entry) → Resting c.args.d.now c.args.total 0 c.next.new.self c.check_entry.new.level
+checked c =
+    resting-more c.loop-before.invariant.resting c.next.new.self c.in-Some.before c.in-Some.bytes c.in-Some.ensures.steps
+    c.from-e.ensures _ _ _ c.check_entry.ensures c.in_ok-check_entry.was
 
-pub slice_bounds-owner_level-end-in-loop-before : goal.slice_bounds-owner_level-end-in-loop-before
-slice_bounds-owner_level-end-in-loop-before c =
-    let h = here (goal.at.slice_bounds-owner_level-end-in-loop-before c).In-Some in
-    omega (arith, length-take (c.in-Some.before + 1) c.loop-before.level, c.requires.0, h.1.before, c.loop-before.invariant.levels.room)
+-- it is the entry after those passed, and its owner stands earlier
+record This (es : List Entry) (total n k m : ℕ) (e : Entry) : Type 0 where
+  now : k ≡ n
+  next : m ≡ k + 1
+  there : n < total
+  entry : e ≡ nth es (suc n)
+  owner : e.owner ≤ n
 
-pub bounds-level-n : goal.bounds-level-n
-bounds-level-n c =
-    let h = here (goal.at.bounds-level-n c).In-Some in
-    omega (arith, c.requires.0, h.0, h.1.before, c.loop-before.invariant.levels.room)
-
-pub returns-then-number-ne0 : goal.returns-then-number-ne0
-returns-then-number-ne0 c =
-    let h = here (goal.at.returns-then-number-ne0 c).In-Some in
-    let i = c.loop-before.invariant in
-    i.rest ∙ rw (← h.0) (entries-found _ _ _ _ (rw (← h.0) at i.levels) (omega arith) (c.from-e.ensures ∙ h.1.entry) (c.owner_level-l.ensures ∙ level-passed _ _ _) c.entry_refusal-number.ensures c.args.total (omega (arith, h.1.before)) c.if-number-ne0.true)
-
--- the entry is right: its level goes into the table
-levelled : (c : After-level_under) → Levels (Named 0) (entries_of c.args.d.now) (set c.loop-before.level (c.in-Some.before + 1) c.level_under.result) (c.in-Some.before + 1 + 1)
-levelled c =
-    let h = here (goal.at.After-level_under c).In-Some in
-    let t = rw (← h.0) at c.loop-before.invariant.levels in
-    let owner = c.owner_level-l.ensures ∙ level-passed _ _ _ in
-    let is = c.from-e.ensures ∙ h.1.entry in
-    let small = level-small _ _ _ _ t (omega arith) is owner c.entry_refusal-number.ensures c.if-number-ne0.false in
-    levels-more _ _ _ _ t (omega arith) is owner c.entry_refusal-number.ensures c.if-number-ne0.false (omega (arith, h.1.before, c.requires.0)) (c.level_under.ensures (omega (arith, small)))
-
--- its owner stands earlier
-owner-before : (c : After-level_under) → c.from-e.result.owner ≤ c.in-Some.before
-owner-before c =
-    let h = here (goal.at.After-level_under c).In-Some in
-    omega (arith, owner-early (entries_of c.args.d.now) (levelled c) (omega arith) (c.from-e.ensures ∙ h.1.entry))
-
-pub bounds-states-from : goal.bounds-states-from
-bounds-states-from c =
-    let h = here (goal.at.bounds-states-from c).In-Some in
-    omega (arith, c.from.ensures, owner-before (goal.at.bounds-states-from c).After-level_under, h.1.before, c.requires.0, c.loop-before.invariant.judged.room)
-
--- what the search of those left then finds
-faults-left : (c : After-level_under) → first (rule_faults (Named 0) (entries_of c.args.d.now) 1 c.args.total)
-    ≡ first (rule_faults (Named 0) (entries_of c.args.d.now) (c.in-Some.before + 1 + 1) (c.args.total + 1 - (c.in-Some.before + 1 + 1)))
-faults-left c =
-    let h = here (goal.at.After-level_under c).In-Some in
-    let i = c.loop-before.invariant in
-    i.rest ∙ rw (← h.0) (entries-more _ _ _ _ (rw (← h.0) at i.levels) (omega arith) (c.from-e.ensures ∙ h.1.entry) (c.owner_level-l.ensures ∙ level-passed _ _ _) c.entry_refusal-number.ensures c.args.total (omega (arith, h.1.before)) c.if-number-ne0.false)
-
--- the entry is one of the list's, and those passed are one more
-this-one : (c : After-level_under) → (c.from-e.result ≡ nth (entries_of c.args.d.now) (suc c.in-Some.before))
-    × (length (c.loop-before.yielded ++ (c.in-Some.before, c.in-Some.bytes) ∷ []) ≡ c.in-Some.before + 1) × (c.in-Some.before < length (entries_of c.args.d.now))
-this-one c =
-    let h = here (goal.at.After-level_under c).In-Some in (
-      c.from-e.ensures ∙ h.1.entry ∙ ap (nth _) (omega arith),
-      length_push c.loop-before.yielded (c.in-Some.before, c.in-Some.bytes) ∙ ap (λ k. k + 1) (sym h.0),
-      omega (arith, h.1.before, c.requires.0),
-    )
+this : (c : In_ok-check_entry)
+    → This (entries_of c.args.d.now) c.args.total (enumerate_count c.loop-before.rest) c.in-Some.before (enumerate_count c.next.new.self) c.from-e.result
+this c =
+    let x =
+    left-next c.loop-before.rest c.next.new.self c.in-Some.before c.in-Some.bytes c.loop-before.invariant.resting.left c.in-Some.ensures.steps in
+    let is' : c.from-e.result ≡ nth (entries_of c.args.d.now) (c.in-Some.before + 1) = c.from-e.ensures ∙ x.2 in
+    record {
+      now = x.0;
+      next = x.4;
+      there = omega (arith, x.0, x.1);
+      entry = is' ∙ ap (nth _) (omega (arith, x.0));
+      owner = omega (arith, x.0, owner-early _ (rw x.4 at (checked c).levels) (omega arith) is');
+    }
 
 -- the state of its owner is read
 state-read : (c : After-from) → get_or c.loop-before.states c.from.result 0 ≡ get_or c.loop-before.states c.from-e.result.owner 0
 state-read c = ap (λ (o : ℕ). get_or c.loop-before.states o 0) c.from.ensures
 
+pub bounds-states-from : goal.bounds-states-from
+bounds-states-from c =
+    let w = this (goal.at.bounds-states-from c).In_ok-check_entry in
+    omega (arith, c.from.ensures, w.owner, w.there, c.requires.0, c.loop-before.invariant.judged.room)
+
 pub look-requires : goal.look-requires
 look-requires c =
     let at = goal.at.look-requires c in
-    let h = here at.In-Some in
-    let w = this-one at.After-level_under in
-    (omega arith, judged-state (rw (← h.0) at c.loop-before.invariant.judged) (none-failed _ (c.is_none.ensures ∙ ap not c.if-is_none.true)) w.2 w.0 (state-read at.After-from) (owner-before at.After-level_under))
-
-pub offset_bounds-states-n : goal.offset_bounds-states-n
-offset_bounds-states-n c = let h = here (goal.at.offset_bounds-states-n c).In-Some in omega (arith, h.1.before, c.requires.1)
-
-pub bounds-states-n : goal.bounds-states-n
-bounds-states-n c = let h = here (goal.at.bounds-states-n c).In-Some in omega (arith, h.1.before, c.requires.0, c.loop-before.invariant.judged.room)
+    let w = this at.In_ok-check_entry in
+    (omega arith, judged-state c.loop-before.invariant.judged (omega (arith, w.there, c.requires.0)) w.entry (state-read at.After-from) w.owner)
 
 pub loop-before-preserved : goal.loop-before-preserved
 loop-before-preserved c =
     let at = goal.at.loop-before-preserved c in
-    let h = here at.In-Some in
-    let w = this-one at.After-level_under in
-    let i = c.loop-before.invariant in
-    record {
-      goes = c.in-Some.ensures.goes.keeps;
-      ends = tt;
-      over = i.over;
-      levels = rw w.1 (levelled at.After-level_under);
-      rest = rw w.1 (faults-left at.After-level_under);
-      judged = rw w.1 (judged-along (rw (← h.0) at i.judged) (one-failed _ (c.is_none.ensures ∙ ap not c.if-is_none.false) i.some) 1);
-      some = i.some;
-    }
-
-pub loop-before-preserved-in-Some-look : goal.loop-before-preserved-in-Some-look
-loop-before-preserved-in-Some-look c =
-    let at = goal.at.loop-before-preserved-in-Some-look c in
-    let h = here at.In-Some in
-    let w = this-one at.After-level_under in
-    let i = c.loop-before.invariant in
-    let none = none-failed _ (c.is_none.ensures ∙ ap not c.if-is_none.true) in
+    let w = this at.In_ok-check_entry in
     let k = c.in-Some-look.ensures in
     record {
-      goes = c.in-Some.ensures.goes.keeps;
-      ends = tt;
-      over = i.over;
-      levels = rw w.1 (levelled at.After-level_under);
-      rest = rw w.1 (faults-left at.After-level_under);
-      judged = rw (w.1, none) (judged-more (rw (← h.0) at i.judged) none w.2 w.0 (state-read at.After-from) (omega arith) k.0 k.2 k.1);
-      some = i.some;
+      resting = checked at.In_ok-check_entry;
+      judged = rw w.next (judged-more c.loop-before.invariant.judged (omega (arith, w.there, c.requires.0)) w.entry (state-read at.After-from)
+          (omega (arith, w.now)) k.0 k.2 k.1);
     }
 
-pub loop-before-preserved-in-None-look : goal.loop-before-preserved-in-None-look
-loop-before-preserved-in-None-look c =
-    let at = goal.at.loop-before-preserved-in-None-look c in
-    let h = here at.In-Some in
-    let w = this-one at.After-level_under in
-    let i = c.loop-before.invariant in
-    let none = none-failed _ (c.is_none.ensures ∙ ap not c.if-is_none.true) in
-    record {
-      goes = c.in-Some.ensures.goes.keeps;
-      ends = tt;
-      over = i.over;
-      levels = rw w.1 (levelled at.After-level_under);
-      rest = rw w.1 (faults-left at.After-level_under);
-      judged = rw w.1 (judged-fails (rw (← h.0) at i.judged) none w.2 w.0 (state-read at.After-from) (omega arith) c.in-None-look.ensures.1);
-      some = omega arith;
-    }
+pub returns-in_err-check_rest-in-None : goal.returns-in_err-check_rest-in-None
+returns-in_err-check_rest-in-None c =
+    let R = checked (goal.at.returns-in_err-check_rest-in-None c).In_ok-check_entry in
+    let p = err_from_is_err_and c.from_residual-in_err-check_rest-in-None.result c.from_residual-in_err-check_rest-in-None.ensures.1 in
+    let r = c.in_err-check_rest-in-None.ensures c.args.d.now c.args.total R.left R.levels in
+    rw (p.1, p.2) (all-faults _ _ ∙ R.rest ∙ r.0, r.1)
+
+pub returns-in-None : goal.returns-in-None
+returns-in-None c =
+    let at = goal.at.returns-in-None c in
+    let R = checked at.In_ok-check_entry in
+    let w = this at.In_ok-check_entry in
+    let number : c.in-Some.before + 1 ≡ suc (enumerate_count c.loop-before.rest) = omega (arith, w.now) in (
+      all-faults _ _ ∙ R.rest ∙ c.in_ok-check_rest-in-None.ensures c.args.d.now c.args.total R.left R.levels,
+      λ O ss x. number ∙ judged-fails c.loop-before.invariant.judged (omega (arith, w.there, c.requires.0)) w.entry
+          (state-read at.After-from) w.there c.in-None.ensures.1 O ss x,
+      omega arith,
+    )
 
 pub returns : goal.returns
 returns c =
-    let l = c.loop-before in
-    let n = turned-all-numbered l.invariant.over l.yielded l.before-iterator l.yielded_by c.next.result c.next.new.self c.in-None.is c.next.ensures.steps in
-    (l.invariant.rest ∙ entries-end _ _ _ _ (omega (arith, n)), judged-all l.invariant.judged n, l.invariant.some)
+    let i = c.loop-before.invariant in
+    let n = left-end _ c.next.new.self i.resting.left c.in_default.ensures.steps in
+    (all-faults _ _ ∙ resting-all i.resting n, judged-all i.judged n, tt)

@@ -10,28 +10,28 @@ use Rattle.blocks.specs.declared.Entry.{Entry}
 use Rattle.names.specs.NamedReading.{dictionary_of, plain_of}
 use Rattle.unfolding.proofs.CallLaws.{unfolds-many, writes-all, writes_short}
 use Rattle.unfolding.specs.Answer.{over}
-use Rattle.unfolding.proofs.calls.write_unfolded.Goals.{In-Accepted}
+use Rattle.unfolding.proofs.calls.write_unfolded.Goals.{In_ok-n}
 use Rattle.unfolding.proofs.calls.write_unfolded.Goals as goal
 
 -- the table has as many entries as is answered
-many : (c : In-Accepted) → 512 * blocks_for plain (length c.unfold_read-reading.new.rows) ≡ 512 * blocks_for plain c.in-Accepted.n
+many : (c : In_ok-n) → 512 * blocks_for plain (length c.unfold_read.new.rows) ≡ 512 * blocks_for plain c.in_ok-n.n
 many c =
-    let u = c.unfold_read-reading.ensures in
-    let n = unfolds-many (dictionary_of c.args.dictionary.bytes.now) c.args.input c.args.d.now u.0 c.in-Accepted.is in
-    ap (λ (k : ℕ). 512 * blocks_for plain k) (ap length (u.1 _ c.in-Accepted.is) ∙ sym n)
+    let u = c.unfold_read.ensures in
+    let n = unfolds-many (dictionary_of c.args.dictionary.bytes.now) c.args.input c.args.d.now u.0 c.in_ok-n.was in
+    ap (λ (k : ℕ). 512 * blocks_for plain k) (ap length (u.1 _ c.in_ok-n.was) ∙ sym n)
 
 pub returns-then-not-write_rows : goal.returns-then-not-write_rows
 returns-then-not-write_rows c =
     let s = c.write_rows.ensures.short c.if-not-write_rows.true in
-    let m = many (goal.at.returns-then-not-write_rows c).In-Accepted in
-    (writes_short (dictionary_of c.args.dictionary.bytes.now) _ _ c.args.out.now c.unfold_read-reading.ensures.0 c.in-Accepted.is (omega (arith, s.0, m)), s.1)
+    let m = many (goal.at.returns-then-not-write_rows c).In_ok-n in
+    (writes_short (dictionary_of c.args.dictionary.bytes.now) _ _ c.args.out.now c.unfold_read.ensures.0 c.in_ok-n.was (omega (arith, s.0, m)), s.1)
 
-pub returns-else-not-write_rows : goal.returns-else-not-write_rows
+pub returns : goal.returns
 unfolding plain_of
-returns-else-not-write_rows c =
-    let u = c.unfold_read-reading.ensures in
+returns c =
+    let u = c.unfold_read.ensures in
     let s = c.write_rows.ensures.long c.if-not-write_rows.false in
-    let m = many (goal.at.returns-else-not-write_rows c).In-Accepted in (
-      writes-all (dictionary_of c.args.dictionary.bytes.now) _ _ c.args.out.now u.0 c.in-Accepted.is (omega (arith, s.0, m)),
-      s.1 ∙ ap (λ (es : List Entry). over (encode es) c.args.out.now) (u.1 _ c.in-Accepted.is),
+    let m = many (goal.at.returns c).In_ok-n in (
+      writes-all (dictionary_of c.args.dictionary.bytes.now) _ _ c.args.out.now u.0 c.in_ok-n.was (omega (arith, s.0, m)),
+      s.1 ∙ ap (λ (es : List Entry). over (encode es) c.args.out.now) (u.1 _ c.in_ok-n.was),
     )

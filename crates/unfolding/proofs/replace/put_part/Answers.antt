@@ -57,7 +57,7 @@ keep_name-requires c =
     let h = here i in
     let es : List Entry = entries_of c.args.s.now in
     let e = c.from-e.ensures ∙ h.1.entry in
-    let named = eq-eqb c.if-e-eq9.true in
+    let named = eq-eqb c.if-e-eq-NAME.true in
     let fits = room-name (rw (← h.0) at c.loop-before.invariant.passing) (entry_next es _ (there i) e) named in (
       named,
       entry-form es _ (there i) e c.requires.3,
@@ -70,7 +70,7 @@ push-requires c =
     let i = (goal.at.push-requires c).In-Some in
     let h = here i in
     let e = c.from-e.ensures ∙ h.1.entry in
-    let fits = room-entry (rw (← h.0) at c.loop-before.invariant.passing) (entry_next (entries_of c.args.s.now) _ (there i) e) (ne_eqb c.if-e-eq9.false) in
+    let fits = room-entry (rw (← h.0) at c.loop-before.invariant.passing) (entry_next (entries_of c.args.s.now) _ (there i) e) (ne_eqb c.if-e-eq-NAME.false) in
     omega (arith, fits, room i)
 
 pub bounds-number-before : goal.bounds-number-before
@@ -79,9 +79,9 @@ bounds-number-before c = omega (arith, (here (goal.at.bounds-number-before c).In
 pub offset_bounds-number-before : goal.offset_bounds-number-before
 offset_bounds-number-before c = omega (arith, (here (goal.at.offset_bounds-number-before c).In-Some).1.before, c.requires.2)
 
-pub loop-before-preserved-then-e-eq9 : goal.loop-before-preserved-then-e-eq9
-loop-before-preserved-then-e-eq9 c =
-    let i = (goal.at.loop-before-preserved-then-e-eq9 c).In-Some in
+pub loop-before-preserved-then-e-eq-NAME : goal.loop-before-preserved-then-e-eq-NAME
+loop-before-preserved-then-e-eq-NAME c =
+    let i = (goal.at.loop-before-preserved-then-e-eq-NAME c).In-Some in
     let h = here i in
     let l = c.loop-before in
     let next = entry_next (entries_of c.args.s.now) _ (there i) (c.from-e.ensures ∙ h.1.entry) in
@@ -92,7 +92,7 @@ loop-before-preserved-then-e-eq9 c =
       ends = tt;
       over = l.invariant.over;
       passing = rw (longer i)
-          (pass-name (rw (← h.0) at l.invariant.passing) next (eq-eqb c.if-e-eq9.true) (ap (λ k. map (relocate (length l.out) k) (T c.from-e.result.name)) o) c.keep_name.ensures);
+          (pass-name (rw (← h.0) at l.invariant.passing) next (eq-eqb c.if-e-eq-NAME.true) (ap (λ k. map (relocate (length l.out) k) (T c.from-e.result.name)) o) c.keep_name.ensures);
     }
 
 pub loop-before-preserved : goal.loop-before-preserved
@@ -107,7 +107,7 @@ loop-before-preserved c =
       ends = tt;
       over = l.invariant.over;
       passing = rw (longer i)
-          (pass-entry (rw (← h.0) at l.invariant.passing) next (ne_eqb c.if-e-eq9.false) (omega (arith, c.told-number, h.1.before, c.requires.2)) o c.push.ensures c.len.ensures.0);
+          (pass-entry (rw (← h.0) at l.invariant.passing) next (ne_eqb c.if-e-eq-NAME.false) (omega (arith, c.told-number, h.1.before, c.requires.2)) o c.push.ensures c.len.ensures.0);
     }
 
 pub returns : goal.returns
