@@ -6,6 +6,8 @@ pub mod EntryLaws
 pub mod Blockwise
 -- Passes over the entries of an input in order.
 pub mod InOrder
+-- The same by number: how a pass begins, which entry a turn has, and how it ends.
+pub mod PassLaws
 -- The first fault of a list: what finding it means, and how a search goes on.
 pub mod FirstFault
 -- Laws of the rows that blocks break.

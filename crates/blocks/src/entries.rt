@@ -23,6 +23,7 @@ impl Entry {
 }
 
 // The index of the first byte of entry n, counted from 1, which lies in the block of that entry.
+#[tactic(auto, unfolding(crate::specs::Frame::entry_pos))]
 fn entry_pos(n: usize) -> usize
     requires { (1 ≤ n) × (n ≤ 2 ^ 60 + 1) }
     ensures { (result ≡ entry_pos plain n) × (result + 12 ≤ 512 * ((n + 62) / 63)) }
@@ -66,7 +67,8 @@ pub fn nth_entry(s: &[u8], total: usize, n: usize) -> Entry
     }
 }
 
-// An entry as one number: its 8 bytes, low byte first.
+// An entry as one number: its 8 bytes, low byte first. No `From`: it is public, and what it promises is its name in contracts.
+#[tactic(auto, unfolding(crate::specs::Entries::packed))]
 pub fn pack(e: Entry) -> u64
     ensures { result ≡ packed e }
 {

@@ -9,6 +9,7 @@ use crate::Entry;
 impl<'a> From<&'a [u8; 8]> for Entry {
     ghost from_gives = { λ bytes e. e ≡ entry_from bytes.now 0 };
 
+    #[tactic(auto, unfolding(crate::specs::Entries::entry_from, crate::specs::Words::word_at))]
     fn from(bytes: &'a [u8; 8]) -> Entry {
         let [kind, reserved, o0, o1, n0, n1, m0, m1] = bytes;
         Entry {
@@ -30,7 +31,9 @@ pub struct InOrder<'a> {
     left: usize,
 }
 
-// The first `total` entries of an input, in order. Those of a block that is not there whole are left out.
+// The first `total` entries of an input, in order. Those of a block that is not there whole are left out. Input and total are no struct that says
+// what is known of both: that differs from caller to caller, all its entries, those before the one refused, or those of an input whose frames
+// alone are read.
 pub fn entries_in_order<'a>(s: &'a [u8], total: usize) -> InOrder<'a>
     ensures items { entries_left result.here.now result.later.now result.left ≡ entries_there s.now total }
     ensures none { length result.here.now ≡ 0 → entries_there s.now total ≡ [] }

@@ -1,6 +1,8 @@
 // Blocks: the laboratory's own format. Words and entries are read by number, straight from the lent blocks. Nothing here
 // knows what an entry says of an item.
 //
+// Where a number is narrowed with `as`, here and in the crates above, a goal shows that it fits: `try_from` would add a branch that is never taken.
+//
 // The contracts cite specs/: Words, Frame, Entries, Owners, Faults, Reading and Encoding. What those definitions mean together,
 // as that reading undoes writing, is proved in proofs/.
 #![tactic(auto)]
@@ -16,11 +18,11 @@ pub use in_order::{InOrder, entries_in_order};
 pub use words::{block_check, block_second, byte, word, word_of_bytes};
 
 // A property's number. Properties and links are numbered apart, so each has a type of its own.
-#[derive(Clone, Copy)]
+#[derive(Clone, Copy, PartialEq, Eq)]
 pub struct Property(pub u16);
 
 // A link's number: a role of the description logic.
-#[derive(Clone, Copy)]
+#[derive(Clone, Copy, PartialEq, Eq)]
 pub struct Link(pub u16);
 
 // An entry as it stands in a block; `reserved` is the byte that is always zero in an accepted input.

@@ -12,6 +12,7 @@ pub fn byte(s: &[u8], at: usize) -> u8
 }
 
 // The word of two bytes at an index, low byte first; bytes past the end read 0.
+#[tactic(auto, unfolding(crate::specs::Words::word_at))]
 pub fn word(s: &[u8], at: usize) -> u16
     ensures { result ≡ word_at s.now at }
 {
@@ -21,7 +22,7 @@ pub fn word(s: &[u8], at: usize) -> u16
     word_of_bytes(byte(s, at), byte(s, at + 1))
 }
 
-// The word of two bytes, low byte first.
+// The word of two bytes, low byte first. One line of std, which is public and so stays: pairs reads its numbers by it.
 pub fn word_of_bytes(low: u8, high: u8) -> u16
     ensures { result ≡ low + 256 * high }
 {
@@ -38,6 +39,7 @@ fn part(s: &[u8], at: usize, most: usize) -> &[u8]
 }
 
 // Words added: "this sum wraps at 65,536".
+#[tactic(auto, unfolding(base::specs::Range::sum))]
 fn sum_words(words: &[[u8; 2]]) -> u16
     ensures { result ≡ sum (pair words.now) (length words.now) % 65536 }
 {
@@ -71,6 +73,7 @@ pub fn block_check(s: &[u8], i: u16) -> u16
 }
 
 // Words, each times its number, counted from 1, and added.
+#[tactic(auto, unfolding(base::specs::Range::sum))]
 fn weigh_words(words: &[[u8; 2]]) -> u16
     requires { length words.now ≤ 254 }
     ensures { result ≡ sum (weighted_pair words.now) (length words.now) % 65536 }

@@ -3,6 +3,7 @@
 // was given, by a table of the properties given so far.
 ghost use Rattle.std.specs.Prelude.{◌≡◌, ◌+◌, ◌≤◌, ◌<◌, length};
 ghost use Rattle.blocks.specs.Entries.{entries_of, nth};
+ghost use Rattle.blocks.specs.code.Blockwise.{Whole};
 ghost use Rattle.clashes.specs.Clash.{completes, partner_before};
 ghost use Rattle.clashes.specs.Promise.{apart_ok};
 ghost use Rattle.clashes.specs.code.Given.{given_before};
@@ -10,7 +11,7 @@ ghost use Rattle.pairs.specs.Pairs.{pair_count};
 ghost use Rattle.pairs.specs.code.Search.{Finds};
 
 use crate::given::Given;
-use blocks::{Entry, Property, kinds, nth_entry};
+use blocks::{Entry, Property, entries_in_order, kinds};
 use pairs::Exclusions;
 
 // Whether one of the entries before gives the owner of entry e a property that excludes that of e.
@@ -46,7 +47,7 @@ fn clash_within<const MOST: usize, const CELLS: usize>(
     s: &[u8],
     n: usize,
 ) -> Option<usize>
-    requires { (n < MOST) × (MOST ≤ 2017) × (CELLS ≡ MOST + MOST) × (n ≤ length (entries_of s.now)) }
+    requires { (n < MOST) × (MOST ≤ 2017) × (CELLS ≡ MOST + MOST) × (n ≤ length (entries_of s.now)) × Whole s.now n }
     ensures { Finds (apart_ok exclusions.entry.pairs.now (entries_of s.now)) n result }
 {
     let mut given = Given::<MOST, CELLS> {
@@ -54,10 +55,10 @@ fn clash_within<const MOST: usize, const CELLS: usize>(
         n: 0,
         table: [0; CELLS],
     };
-    for k in 0..n {
-        let e = nth_entry(s, n, k + 1);
+    for (before, bytes) in entries_in_order(s, n).enumerate() {
+        let e = Entry::from(bytes);
         if completes_pair(exclusions, &given, e) {
-            return Some(k + 1);
+            return Some(before + 1);
         }
         given.add(e);
     }
@@ -66,7 +67,7 @@ fn clash_within<const MOST: usize, const CELLS: usize>(
 
 // The lowest of n entries that completes a pair of a list.
 pub(crate) fn first_clash(pairs: &[u8], s: &[u8], n: usize) -> Option<usize>
-    requires { (pair_count pairs.now ≤ 64) × (n ≤ 2016) × (n ≤ length (entries_of s.now)) }
+    requires { (pair_count pairs.now ≤ 64) × (n ≤ 2016) × (n ≤ length (entries_of s.now)) × Whole s.now n }
     ensures { Finds (apart_ok pairs.now (entries_of s.now)) n result }
 {
     let mut index = [0u8; 512];

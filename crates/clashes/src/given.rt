@@ -48,7 +48,8 @@ impl<const MOST: usize, const CELLS: usize> Given<'_, MOST, CELLS> {
         false
     }
 
-    // The entry at a place of the table, if there is one.
+    // The entry at a place of the table, if there is one. As `link` of the exclusions of pairs, whose numbers are bytes: one function of both would
+    // need a trait of numbers that tells the 0 from the others.
     fn link(&self, i: usize) -> Option<usize>
         requires { i < MOST + MOST }
         ensures number { unwrap_or result 0 ≡ get_or self.now.table i 0 }

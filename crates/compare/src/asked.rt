@@ -1,10 +1,11 @@
 // What a place of the specimen is asked for beyond what the first description says there: on the path to the entry that fails, an item by
-// the next link; at its end, what the entry denies. A target is a number: 0 asks nothing, i + 1 stands i links down the path.
+// the next link; at its end, what the entry denies. A target is a number: 0 asks nothing, i + 1 stands i links down the path. It is
+// no Option, since `below` holds it in the codes of places, 1,024 times: there 0 adds nothing.
 ghost use Rattle.std.specs.Prelude.{◌≡◌, List, ℕ, ◌+◌, ◌*◌, ◌≤◌};
 ghost use Rattle.meaning.specs.Description.{atom_of};
 ghost use Rattle.logic.specs.Witness.{target_links, target_properties, want};
 ghost use Rattle.compare.specs.code.Codes.{target_at, target_below, up_from};
-ghost use Rattle.compare.specs.code.Asked.{One, code_asked, least_asked, link_in, names_in, property_in};
+ghost use Rattle.compare.specs.code.Asked.{One, code_asked, least_asked, link_in, names_in, of_link, property_in};
 
 use crate::items::Items;
 use crate::path::Path;
@@ -18,6 +19,7 @@ impl Path {
         ensures { One (property_in result) × (target_properties (target_at (up_from self.now.links self.now.depth) (atom_of self.now.entry) target) ≡ property_in result) }
     {
         let e = self.entry;
+        // `then` says the same; the `if` has no closure to prove.
         if target == self.depth() + 1 && e.kind == kinds::LACKS {
             Some(e.property())
         } else {
@@ -69,22 +71,23 @@ pub(crate) fn link_name(asked: Option<Items>) -> Option<u16>
     asked.map(|items| items.link.0)
 }
 
+// The items that are asked for, if they are of this link.
+fn of_link(asked: Option<Items>, l: Link) -> Option<Items>
+    ensures { result ≡ of_link asked l.0 }
+{
+    asked.filter(|items| l == items.link)
+}
+
 // How many items of a link are asked for.
 pub(crate) fn least_asked(asked: Option<Items>, l: Link) -> u64
     ensures { result ≡ least_asked asked l.0 }
 {
-    match asked {
-        Some(items) if l.0 == items.link.0 => items.count,
-        _ => 0,
-    }
+    of_link(asked, l).map_or(0, |items| items.count)
 }
 
-// The code of the target that they lead to. Alike but for the field, whose type is another: a function of the field would say no less.
+// The code of the target that they lead to: as `least_asked`, of a field of another type.
 pub(crate) fn code_asked(asked: Option<Items>, l: Link) -> u16
     ensures { result ≡ code_asked asked l.0 }
 {
-    match asked {
-        Some(items) if l.0 == items.link.0 => items.code,
-        _ => 0,
-    }
+    of_link(asked, l).map_or(0, |items| items.code)
 }

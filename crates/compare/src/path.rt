@@ -4,7 +4,7 @@ ghost use Rattle.std.specs.Prelude.{◌≡◌, ℕ, ◌≤◌, ◌<◌, get_or, 
 use blocks::{Entry, Link};
 
 // The links are of the owners of the entry, nearest first. The array holds link numbers and nothing else: `link` and `keep_link` alone read
-// and store them.
+// and store them. They are no ArrayVec of the kit: the contracts speak of the array and of `depth` apart, as `up_from` does.
 #[derive(Clone, Copy)]
 pub(crate) struct Path {
     links: [u16; 32],

@@ -17,6 +17,8 @@ use runs::{gather, slot_named};
 
 impl<'a> Slots<'a> {
     // Adds the tag of a name of a run, where no slot asks for it, to the n tags in `order`, in which all are then put in order.
+    // Beside push_tag of crate runs: that has the number of a slot that says enough, this a name whose slot says nothing, or that has no slot.
+    // `order` and n are no struct, here as there: nothing is needed of them afterwards but the number that is returned.
     fn add_name(&self, run: usize, name: u16, order: &mut [u64], n: usize) -> usize
         requires { n < length order.old }
         ensures { (v : ℕ) (b : Bool) → run ≡ 2 * v + bit b → Filled (length order.old) order.old n (extra_tag self.now.table.now v b name) order.new result }

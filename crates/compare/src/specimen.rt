@@ -8,7 +8,8 @@ use crate::path::Path;
 use crate::places::push_place;
 use crate::settled::Slots;
 
-// Pushes the rows of the place below row i, where row i leads to one. Its tables stay parameters for the reason in rows.rt.
+// Pushes the rows of the place below row i, where row i leads to one. A code of 0 is no place: no row leads to
+// the top, and `below` is cleared so; with an Option for each row it would be twice as long. Its tables stay parameters for the reason in rows.rt.
 fn push_below(
     i: usize,
     slots: &Slots,
@@ -30,7 +31,9 @@ fn push_below(
     push_place(i as u16, code, slots, path, order, rows, below, count)
 }
 
-// Writes the rows of the specimen that the slots give for the entry at the end of the path, and returns their number.
+// Writes the rows of the specimen that the slots give for the entry at the end of the path, and returns their number. The loop is of the shape of
+// that in walk.rt of crate normal: what it pushes, what it is lent and what it promises are others, and a closure over lent tables would share less
+// than it takes.
 fn walk_rows(
     slots: &Slots,
     path: &Path,

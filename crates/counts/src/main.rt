@@ -2,7 +2,7 @@
 // table of totals adds each group once, and the walk over entries none.
 #![tactic(auto)]
 
-use blocks::Entry;
+use blocks::{Entry, kinds};
 use std::io;
 
 // The groups of a specimen: what each of them stands below, and by which link.
@@ -32,10 +32,10 @@ fn row(kind: u8, owner: u16, name: u16) -> u64 {
 // The group after the first n.
 fn group(groups: Groups, n: u16) -> u64 {
     match groups {
-        Groups::Alike => row(7, 0, 1),
-        Groups::ByOwnLinks => row(7, 0, n % 2016 + 1),
-        Groups::InChains => row(7, if n % 33 == 0 { 0 } else { n }, 1),
-        Groups::ToOneItem => row(7, 0, 40000),
+        Groups::Alike => row(kinds::GROUP, 0, 1),
+        Groups::ByOwnLinks => row(kinds::GROUP, 0, n % 2016 + 1),
+        Groups::InChains => row(kinds::GROUP, if n % 33 == 0 { 0 } else { n }, 1),
+        Groups::ToOneItem => row(kinds::GROUP, 0, 40000),
     }
 }
 
@@ -43,13 +43,17 @@ fn group(groups: Groups, n: u16) -> u64 {
 #[tactic(auto, unfolding(blocks::specs::Encoding::bytes_written))]
 fn show(rt: &impl Print, groups: Groups, count: usize) -> io::Result<()> {
     let mut rows = [0u64; 2016];
-    for n in 0..2016u16 {
-        rows[usize::from(n)] = group(groups, n);
+    for (n, row) in (0..2016).zip(rows.iter_mut()) {
+        *row = group(groups, n);
     }
     let mut specimen = [0u8; 16384];
     let n = writing::write_entries(&mut specimen, &rows, count);
     let mut description = [0u8; 512];
-    let m = writing::write_entries(&mut description, &[row(5, 0, 1), row(4, 1, 1)], 2);
+    let m = writing::write_entries(
+        &mut description,
+        &[row(kinds::EVERY, 0, 1), row(kinds::AT_MOST, 1, 1)],
+        2,
+    );
     let counted = fit::fit_counted(&specimen[..n], &description[..m]);
     match counted.answer {
         Ok(_) => println!(rt;

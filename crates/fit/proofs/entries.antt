@@ -2,5 +2,5 @@
 
 -- Entries by number, at the indices of their bytes.
 pub mod EntryLaws
--- Passes over all entries of an input by number: how one begins, which entry a turn has, and how it ends.
+-- Passes over all entries of an input: how one begins, and where the owner of a turn's entry stands.
 pub mod PassLaws

@@ -40,6 +40,9 @@ pub(crate) struct Items<'a> {
 }
 
 impl<'a> Items<'a> {
+    // That g < 2048 stands in each contract that takes a group's number: a type of such numbers would be put on and taken off at every step along a
+    // chain.
+
     // The entries of the bucket of an owner, a kind and a name, from the last back.
     #[inline(always)]
     #[tactic(auto, using(crate::proofs::index::BucketWalk::falls_bucket))]

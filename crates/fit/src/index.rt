@@ -38,6 +38,7 @@ fn code(kind: u8, owning: bool) -> u8
 }
 
 // Puts number n in front of the chain of bucket b. That n fits two bytes is known: `try_from` would test it.
+// `clashes` and `pairs` make the same two stores, each in a table of its own layout.
 #[tactic(auto, unfolding(crate::specs::code::Index::chained))]
 pub(crate) fn put(index: &mut [u16], most: usize, n: usize, b: usize)
     requires { (most ≤ 2048) × (length index.old ≡ most + most) × (n < most) × (b < most) }

@@ -11,7 +11,8 @@ use crate::judge::fits_place;
 use crate::places::Places;
 use crate::totals::Filling;
 
-// Whether the top item fits, and how many additions the table of totals and the walk over entries took.
+// Whether the top item fits, and how many additions the table of totals and the walk over entries took. No `Counted`, whose answer may be a
+// refusal: both inputs are accepted.
 #[derive(Clone, Copy)]
 pub(crate) struct Judged {
     pub fits: bool,

@@ -73,6 +73,7 @@ impl<'a> Totals<'a> {
         requires { owner < 65536 }
         ensures { (es : List Entry) → (n : ℕ) → TotalsOf es n self.now.rows.now self.now.used → result ≡ items_up_to es owner l.0 n }
     {
+        // `map_or` says the same; its proof did not close with a bare closure, and a contract on it would be longer than the match.
         match self.row_of(owner, l) {
             Some(r) => items_in(self.rows[r]),
             None => 0,

@@ -20,10 +20,7 @@ pub struct Entries<'a> {
 pub fn total_read(s: &[u8], schema: Schema) -> usize
     ensures { result ≡ total_read schema s.now }
 {
-    match read(s, schema, 1) {
-        Ok(total) => total as usize,
-        Err(_) => 0,
-    }
+    read(s, schema, 1).map_or(0, usize::from)
 }
 
 // The entries of an input, read as a description or a specimen: the input itself, and its total where it is accepted. A refused

@@ -1,16 +1,14 @@
--- Laws of the loops, one for each way through them.
+-- Laws of the search for a part's end, and of the walk from part to part.
 -- Assumes nothing.
-use Rattle.std.proofs.Common.{Bor, Some}
+use Rattle.std.proofs.Common.{Bor, Some, zero, suc, sym, ap, add-zero, zero-add, add-suc, suc-add}
 use Rattle.std.specs.Iterator.{MakesProgress, item_count}
-use Prim.Native.Nat.{◌*◌, ◌+◌, ◌-◌, ◌<◌, ◌≤◌, ℕ}
+use Prim.Native.Nat.{◌*◌, ◌/◌, ◌+◌, ◌-◌, ◌<◌, ◌≤◌, ℕ}
 use lib.ListN.{length, take}
 use mathlib.Core.List.{List, ◌∷◌}
 use mathlib.Core.Logic.{◌≢◌}
 use mathlib.Core.Path.{◌∙◌, ◌≡◌, refl}
-use native.Mathlib.Numerals.{add-one}
 use native.Mathlib.Omega.{arith}
 use Rattle.base.proofs.Parts.{high_is, high_of}
-use Rattle.base.proofs.RangeLaws.{none_left, one_left}
 use Rattle.base.proofs.Tests.{eq-eqb, ne_eqb}
 use Rattle.blocks.specs.Frame.{blocks_in}
 use Rattle.blocks.specs.Words.{word_at}
@@ -20,23 +18,28 @@ use Rattle.lists.specs.Parts.{division_from, first_length, parts_of}
 -- ---- the search for the end of the first part
 
 module _ (s : List ℕ) where
-  pub search-start : first_length s ≡ division_from s 1 (blocks_in s - 1)
-  unfolding first_length
-  search-start = refl
+  -- blocks that have another number are passed
+  passed : (m left i : ℕ) → ((k : ℕ) → i ≤ k → k < i + m → word_at s (512 * k) ≢ 1) → division_from s i (m + left) ≡ division_from s (i + m) left
+  unfolding division_from
+  passed zero left i h = rw (zero-add left, add-zero i) refl
+  passed (suc m) left i h =
+      rw (suc-add m left, add-suc i m, ← suc-add i m, ne_eqb (h i (omega arith) (omega arith))) (passed m left (suc i) (λ k lo hi. h k (omega arith) (omega arith)))
 
-  module _ (n i : ℕ) where
-    pub search-end : n ≤ i → division_from s i (n - i) ≡ length s
-    unfolding division_from
-    search-end h = rw (none_left i n h)
+  pub search-none : ((k : ℕ) → 1 ≤ k → k < length s / 512 → word_at s (512 * k) ≢ 1) → length s ≡ first_length s
+  unfolding first_length division_from blocks_in
+  search-none h =
+      let n = length s / 512 - 1 in
+      sym (ap (division_from s 1) (sym (add-zero n)) ∙ passed n 0 1 (λ k lo hi. h k lo (omega arith)))
 
-    module _ {w : ℕ} (l : i < n) (e : w ≡ word_at s (512 * i)) where
-      pub search-more : w ≢ 1 → division_from s i (n - i) ≡ division_from s (i + 1) (n - (i + 1))
-      unfolding division_from
-      search-more h = rw (one_left i n l, division_from, ← e, ne_eqb h, add-one i)
-
-      pub search-found : w ≡ 1 → division_from s i (n - i) ≡ 512 * i
-      unfolding division_from
-      search-found h = rw (one_left i n l, division_from, ← e, eq-eqb h)
+  module _ {i : ℕ} (low : 1 ≤ i) (high : i < length s / 512) where
+    pub search-found : word_at s (512 * i) ≡ 1 → ((k : ℕ) → 1 ≤ k → k < i → word_at s (512 * k) ≢ 1) → 512 * i ≡ first_length s
+    unfolding first_length division_from blocks_in
+    search-found e h =
+        let m = length s / 512 - suc i in
+        let all : length s / 512 - 1 ≡ (i - 1) + suc m = omega arith in
+        let at : 1 + (i - 1) ≡ i = omega arith in
+        let stop : division_from s i (suc m) ≡ 512 * i = rw (eq-eqb e) refl in
+        sym (ap (division_from s 1) all ∙ passed (i - 1) (suc m) 1 (λ k lo hi. h k lo (omega arith)) ∙ ap (λ j. division_from s j (suc m)) at ∙ stop)
 
 -- ---- from part to part
 

@@ -11,12 +11,9 @@ pub fn part_length(s: &[u8]) -> usize
     ensures { (result ≡ first_length s.now) × (result ≤ length s.now) }
 {
     let n = s.len() / 512;
-    for i in 1..n {
-        if blocks::word(s, 512 * i) == 1 {
-            return 512 * i;
-        }
-    }
-    s.len()
+    (1..n)
+        .find(|i| blocks::word(s, 512 * *i) == 1)
+        .map_or(s.len(), |i| 512 * i)
 }
 
 // The descriptions of a list that are left, each as its bytes.

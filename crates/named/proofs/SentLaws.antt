@@ -16,7 +16,9 @@ use Rattle.blocks.specs.Faults.{first}
 use Rattle.blocks.specs.Frame.{plain, total_in}
 use Rattle.blocks.specs.Reading.{answer, reading_of, Reading}
 use Rattle.blocks.specs.declared.Entry.{Entry}
-use Rattle.std.specs.Prelude.{Err, Ok}
+use Rattle.std.proofs.lemmas.Result.{err_from_is_err_and}
+use Rattle.std.specs.Prelude.{Err, IsErrAnd, MatchResult, Ok, Result}
+use Rattle.blocks.specs.declared.Refusal.{Refusal}
 use Rattle.blocks.specs.Refusals.{number_of, refused}
 use Rattle.blocks.specs.declared.Schema.TheVariants.{Description}
 use Rattle.clashes.specs.Clash.{specimen_faults, specimen_reading}
@@ -41,6 +43,16 @@ use Rattle.pairs.specs.Pairs.{pair_count, pair_faults, pairs_reading, under}
 use Rattle.unfolding.proofs.BufferLaws.{sent-itself}
 use Rattle.blocks.specs.declared.Cause.{Cause}
 use Rattle.blocks.specs.declared.Cause.TheVariants.{Length, Check, Framing, Form, Owner, Depth, Room, Count, Double, Pairs, Clash, Name, Size}
+
+-- ---- what `map_err` gives
+
+-- a result that `map_err` gives: what its closure ensures of a refusal is that it is sent so
+pub sent-mapped : {A : Type 0} (s : List ℕ) (i : ℕ) (r : Result A Refusal) {t : Result A Refusal} {Q : Refusal → Refusal → Type 0}
+    → ((e x : Refusal) → Q e x → x ≡ sent_as s i e)
+    → MatchResult r (λ a. t ≡ Ok a) (λ e. IsErrAnd t (Q e))
+    → t ≡ sent_by s i r
+sent-mapped s i (Ok a) f h = h
+sent-mapped s i (Err e) {t} f h = let p = err_from_is_err_and t h in p.1 ∙ ap Err (f e p.0 p.2)
 
 -- ---- why something is refused
 
@@ -125,7 +137,8 @@ module _ (P d out : List ℕ) where
   unfolding sent_as
   room-stays = bool_cases (ltb (length out) (length d)) (λ q. rw q) (λ q. rw q)
 
-  pub normal-sent : (normalise_named P [] d out ≡ sent_by d 1 (normal.normalise_of P d out)) × (normalised_named P [] d out ≡ normal.normalised_of P d out)
+  pub normal-sent : (normalise_named P [] d out ≡ sent_by d 1 (normal.normalise_of P d out))
+      × (normalised_named P [] d out ≡ normal.normalised_of P d out)
   unfolding normalise_named normalised_named normal.normalise_of normal.normalised_of normal.normalise_under sent_as
   normal-sent =
       reading-cases (pairs_reading P)
@@ -152,7 +165,8 @@ module _ (P c d out : List ℕ) where
       (λ q. rw q)
       (λ q. bool_cases (eqb (failing (under P) (entries_of c) (entries_of d)) 0) (λ z. rw (q, z)) (λ z. rw (q, z)))
 
-  pub comparison-sent : (compare_named P [] c d out ≡ comparison_by c d (compared.compare_of P c d out)) × (output_named P [] c d out ≡ compared.output_of P c d out)
+  pub comparison-sent : (compare_named P [] c d out ≡ comparison_by c d (compared.compare_of P c d out))
+      × (output_named P [] c d out ≡ compared.output_of P c d out)
   unfolding compare_named output_named compared.compare_of compared.output_of compared.compare_under sent_as
   comparison-sent =
       reading-cases (pairs_reading P)
@@ -170,8 +184,10 @@ module _ (P c d out : List ℕ) where
       let v = sent-refused 2 d g in
       (rw (e, u, v, f, g, two), rw (e, u, v, f, g)))
       (λ l g.
-      let v = sent-accepted 2 d g in
-      (rw (e, u, v, sent-itself [] c refl, sent-itself [] d refl, f, g) (sym verdict-stays), rw (e, u, v, sent-itself [] c refl, sent-itself [] d refl, f, g)))))
+      let v = sent-accepted 2 d g in (
+        rw (e, u, v, sent-itself [] c refl, sent-itself [] d refl, f, g) (sym verdict-stays),
+        rw (e, u, v, sent-itself [] c refl, sent-itself [] d refl, f, g),
+      ))))
 
 -- with no pairs either: what is answered that is no refusal, and a refusal by another number than 4, are as for plain descriptions
 by-not : (c d : List ℕ) (r : Comparison) {j k : ℕ} → comparison_by c d r ≡ not_contained j k → r ≡ not_contained j k
@@ -179,7 +195,8 @@ by-not c d (Err x) e = let y : ◌≡◌ {A = ℕ} 0 1 = cc in absurd (omega ari
 by-not c d (Ok v) e = e
 
 module _ (c d out : List ℕ) where
-  by-plain : (compare_named [] [] c d out ≡ comparison_by c d (compare_under standing c d out)) × (output_named [] [] c d out ≡ output_under standing c d out)
+  by-plain : (compare_named [] [] c d out ≡ comparison_by c d (compare_under standing c d out))
+      × (output_named [] [] c d out ≡ output_under standing c d out)
   by-plain =
       let s = comparison-sent [] c d out in
       let e = empty-list c d out in
@@ -193,7 +210,8 @@ module _ (c d out : List ℕ) where
       → (compare_named [] [] c d out ≡ not_contained j k) × (output_named [] [] c d out ≡ output_under standing c d out)
   plain-answered e = (by-plain.0 ∙ ap (comparison_by c d) e, by-plain.1)
 
-  pub plain-refused : {k : Cause} {i p : ℕ} → number_of k ≢ 4 → compare_under standing c d out ≡ refused k i p → compare_named [] [] c d out ≡ refused k i p
+  pub plain-refused : {k : Cause} {i p : ℕ} → number_of k ≢ 4 → compare_under standing c d out ≡ refused k i p
+      → compare_named [] [] c d out ≡ refused k i p
   unfolding sent_as
   plain-refused {k} {i} {p} z e =
       let a : sent_at c p k ≡ k = sym (number-else (entry_of c p p) z) in
@@ -228,5 +246,7 @@ module _ (P s d : List ℕ) where
 pub counted-sent : (s d : List ℕ) {r : FitAnswer} {c : Counted} → c ≡ counted_of s d → r ≡ sent_by d 2 c.answer
     → record { answer = r; table = c.table; walk = c.walk } ≡ counted_named s d
 counted-sent s d {r} {c} e f =
-    let a : r ≡ fit_named [] [] s d = f ∙ ap (λ (x : Counted). sent_by d 2 x.answer) e ∙ ap (sent_by d 2) (sym (judged.empty-list s d)) ∙ sym (fit-sent [] s d) in
+    let a : r ≡ fit_named [] [] s d =
+    f ∙ ap (λ (x : Counted). sent_by d 2 x.answer) e
+    ∙ ap (sent_by d 2) (sym (judged.empty-list s d)) ∙ sym (fit-sent [] s d) in
     rw (a, e)

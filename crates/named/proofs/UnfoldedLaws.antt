@@ -1,13 +1,13 @@
 -- With a dictionary that is not of length 0: the answers for what is unfolded, from the buffers that it stands in.
 -- Assumes nothing.
-use Prim.Native.Nat.{◌%◌, ◌*◌, ◌+◌, ◌-◌, ◌<◌, ◌≤◌, ℕ}
+use Prim.Native.Nat.{◌%◌, ◌*◌, ◌+◌, ◌<◌, ◌≤◌, ℕ}
 use lib.Dec.{eqb, ltb}
 use lib.ListN.{length, take}
+use mathlib.Core.Bool.{Bool, false}
 use mathlib.Core.List.{List, [], ◌++◌, ◌∷◌}
 use mathlib.Core.Path.{◌∙◌, ◌≡◌, ap, sym}
-use native.Mathlib.Nat.{sub-zero}
 use native.Mathlib.Omega.{arith}
-use Rattle.base.proofs.Tests.{bool_cases}
+use Rattle.base.proofs.Tests.{bool_cases, eqb-ne}
 use Rattle.blocks.proofs.Refusing.Readings.{reading-cases, refused-finding}
 use Rattle.blocks.specs.Encoding.{blocks_for}
 use Rattle.blocks.specs.Entries.{entries_of}
@@ -33,13 +33,20 @@ use Rattle.unfolding.specs.Answer.{Unfolded, both_by, both_of, second_after, unf
 use Rattle.blocks.specs.declared.Cause.{Cause}
 use Rattle.blocks.specs.declared.Cause.TheVariants.{Count, Length}
 
+-- ---- a list that is accepted, and a dictionary
+
+-- a dictionary that is not of length 0, under a list that is accepted: what the calls go on with
+pub goes-on : (P D : List ℕ) {b : Bool} {r : Reading} {n : ℕ}
+    → b ≡ eqb (length D) 0 → b ≡ false → r ≡ pairs_reading P → r ≡ Ok n → (0 < length D) × ListTaken P
+goes-on P D e f p t = (omega (arith, eqb-ne (sym e ∙ f)), record { count = _; taken = sym p ∙ t })
+
 -- ---- what stands in a buffer
 
-module _ (D : List ℕ) (i : ℕ) (s : List ℕ) {n : ℕ} (e : unfolding_of D i s ≡ Ok n) (buffer : List ℕ) (h : 8192 ≤ length buffer) {after : List ℕ} {k : ℕ}
-    (q : after ≡ unfolded_at D i s buffer) (g : k ≡ 512 * blocks_for plain n) where
+module _ (D : List ℕ) (i : ℕ) (s : List ℕ) {n : ℕ} (e : unfolding_of D i s ≡ Ok n) (buffer : List ℕ) (h : 8192 ≤ length buffer)
+    {after : List ℕ} {k : ℕ} (q : after ≡ unfolded_at D i s buffer) (g : k ≡ 512 * blocks_for plain n) where
   -- the bytes of so many entries are the plain description
-  pub part-plain : take (k - 0) after ≡ plain_of D s
-  part-plain = rw (g, sub-zero (512 * blocks_for plain n)) (buffer-plain D i s e buffer h q)
+  pub part-plain : take k after ≡ plain_of D s
+  part-plain = rw g (buffer-plain D i s e buffer h q)
 
   -- and they end within the buffer
   pub part-ends : k ≤ length after
@@ -58,14 +65,16 @@ module _ (P D : List ℕ) (some : 0 < length D) (T : ListTaken P) (d out : List 
   normal-goes e = let t = T.taken in let x = sent-plain D d some in (rw (t, e, x), rw (t, e, x))
 
 -- where the list is refused
-pub normal-list : (P D d out : List ℕ) {x : Refusal} → pairs_reading P ≡ Err x → (Err x ≡ normalise_named P D d out) × (out ≡ normalised_named P D d out)
+pub normal-list : (P D d out : List ℕ) {x : Refusal} → pairs_reading P ≡ Err x
+    → (Err x ≡ normalise_named P D d out) × (out ≡ normalised_named P D d out)
 unfolding normalise_named normalised_named
 normal-list P D d out e = (rw e, rw e)
 
 -- ---- the comparison
 
 module _ (P D : List ℕ) (some : 0 < length D) (T : ListTaken P) (c d out : List ℕ) where
-  pub comparison-refused : {x : Refusal} → both_by (unfolding_of D 1 c) (unfolding_of D 2 d) ≡ Err x → (Err x ≡ compare_named P D c d out) × (out ≡ output_named P D c d out)
+  pub comparison-refused : {x : Refusal} → both_by (unfolding_of D 1 c) (unfolding_of D 2 d) ≡ Err x
+      → (Err x ≡ compare_named P D c d out) × (out ≡ output_named P D c d out)
   unfolding compare_named output_named
   comparison-refused {x} e =
       let t = T.taken in
@@ -78,7 +87,8 @@ module _ (P D : List ℕ) (some : 0 < length D) (T : ListTaken P) (c d out : Lis
       (λ m h. let z : ◌≡◌ {A = Unfolded} (Ok (n, m)) (Err x) = rw (f, h) at e in let y : ◌≡◌ {A = ℕ} 0 1 = cc in absurd (omega arith)))
 
   pub comparison-goes : {n m : ℕ} → unfolding_of D 1 c ≡ Ok n → unfolding_of D 2 d ≡ Ok m
-      → (compare_of P (plain_of D c) (plain_of D d) out ≡ compare_named P D c d out) × (output_of P (plain_of D c) (plain_of D d) out ≡ output_named P D c d out)
+      → (compare_of P (plain_of D c) (plain_of D d) out ≡ compare_named P D c d out)
+      × (output_of P (plain_of D c) (plain_of D d) out ≡ output_named P D c d out)
   unfolding compare_named output_named
   comparison-goes e f = let t = T.taken in let x = sent-plain D c some in let y = sent-plain D d some in (rw (t, e, f, x, y), rw (t, e, f, x, y))
 
@@ -105,15 +115,16 @@ module _ (D c d : List ℕ) where
     unfolding second_after
     second_is e = rw (at-buffer D 1 c a ha, e)
 
-    module _ {r : Unfolded} {a' b' : List ℕ} (q : r ≡ both_of D c d a b) (qa : a' ≡ unfolded_at D 1 c a) (qb : b' ≡ second_after D c d a b) {n m : ℕ} (t : r ≡ Ok (n, m)) where
+    module _ {r : Unfolded} {a' b' : List ℕ} (q : r ≡ both_of D c d a b) (qa : a' ≡ unfolded_at D 1 c a) (qb : b' ≡ second_after D c d a b)
+        {n m : ℕ} (t : r ≡ Ok (n, m)) where
       pub both-unfolded : (unfolding_of D 1 c ≡ Ok n) × (unfolding_of D 2 d ≡ Ok m)
       both-unfolded = both-taken (sym both-buffers ∙ sym q ∙ t)
 
       -- they hold the plain descriptions, which end within them
-      pub first_part_lem : {k : ℕ} → k ≡ 512 * blocks_for plain n → (take (k - 0) a' ≡ plain_of D c) × (k ≤ length a')
+      pub first_part_lem : {k : ℕ} → k ≡ 512 * blocks_for plain n → (take k a' ≡ plain_of D c) × (k ≤ length a')
       first_part_lem g = let e = both-unfolded.0 in (part-plain D 1 c e a ha qa g, part-ends D 1 c e a ha qa g)
 
-      pub second-part : {k : ℕ} → k ≡ 512 * blocks_for plain m → (take (k - 0) b' ≡ plain_of D d) × (k ≤ length b')
+      pub second-part : {k : ℕ} → k ≡ 512 * blocks_for plain m → (take k b' ≡ plain_of D d) × (k ≤ length b')
       second-part g =
           let e = both-unfolded in
           let y = qb ∙ second_is e.0 in
@@ -148,9 +159,15 @@ unfolding dictionary_reading
 dictionary-input D {k} {j} {p} e =
     bool_cases (eqb (length D % 512) 0)
     (λ q. bool_cases (ltb 64 (length (parts_of D)))
-    (λ w. let z : ◌≡◌ {A = Reading} (refused Count 100 0) (refused k j p) = rw (q, w) at e in let g : refusal k j p ≡ refusal Count 100 0 = cc in let a : j ≡ 100 = ap (λ (r : Refusal). r.input) g in omega arith)
+    (λ w. let z : ◌≡◌ {A = Reading} (refused Count 100 0) (refused k j p) = rw (q, w) at e in
+    let g : refusal k j p ≡ refusal Count 100 0 = cc in
+    let a : j ≡ 100 = ap (λ (r : Refusal). r.input) g in
+    omega arith)
     (λ w. parts-input [] (parts_of D) (rw (q, w) at e)))
-    (λ q. let z : ◌≡◌ {A = Reading} (refused Length 100 0) (refused k j p) = rw q at e in let g : refusal k j p ≡ refusal Length 100 0 = cc in let a : j ≡ 100 = ap (λ (r : Refusal). r.input) g in omega arith)
+    (λ q. let z : ◌≡◌ {A = Reading} (refused Length 100 0) (refused k j p) = rw q at e in
+    let g : refusal k j p ≡ refusal Length 100 0 = cc in
+    let a : j ≡ 100 = ap (λ (r : Refusal). r.input) g in
+    omega arith)
 
 module _ (P D : List ℕ) (some : 0 < length D) (T : ListTaken P) (s d : List ℕ) where
   -- the dictionary is refused, or the description is
@@ -165,7 +182,9 @@ module _ (P D : List ℕ) (some : 0 < length D) (T : ListTaken P) (s d : List �
       let g : x ≡ refusal k i p = cc in
       let b : x.input ≡ i = ap (λ (r : Refusal). r.input) g in
       absurd (omega (arith, named-input (dictionary_of D) 2 d w)))
-      (λ n w. let z : ◌≡◌ {A = Reading} (Ok (length (unfolded_by (dictionary_of D) (entries_of d)))) (Err x) = rw (f, w) at e in let y : ◌≡◌ {A = ℕ} 0 1 = cc in absurd (omega arith)))
+      (λ n w. let z : ◌≡◌ {A = Reading} (Ok (length (unfolded_by (dictionary_of D) (entries_of d)))) (Err x) = rw (f, w) at e in
+      let y : ◌≡◌ {A = ℕ} 0 1 = cc in
+      absurd (omega arith)))
 
   pub fit-late : {x : Refusal} → unfolding_of D 2 d ≡ Err x → x.input < 100 → unless_refused Err (specimen_reading P s) (Err x) ≡ fit_named P D s d
   unfolding fit_named unfolding_of

@@ -20,10 +20,9 @@ pub fn compare_sent(
         × (out.new ≡ output_named pairs.now [] c.now d.now out.old) }
 {
     let answer = compare::compare(pairs, c, d, out);
-    match answer {
-        Err(e) => Err(sent_as(d, 2, sent_as(c, 1, e))),
-        Ok(verdict) => Ok(verdict),
-    }
+    answer
+        .map_err(|e| sent_as(c, 1, e))
+        .map_err(|e| sent_as(d, 2, e))
 }
 
 // Under a list that is accepted and a dictionary that is not of length 0, with two buffers that have room for every description. Seven slices: four
@@ -44,7 +43,7 @@ fn compare_unfolded(
     let (n, m) = unfold_both(dictionary, c, d, a, b)?;
     let first = bytes_for(n);
     let second = bytes_for(m);
-    compare::compare(pairs, &a[0..first], &b[0..second], out)
+    compare::compare(pairs, &a[..first], &b[..second], out)
 }
 
 // The same with buffers of its own.
@@ -76,7 +75,7 @@ pub fn compare(
     ensures { (result ≡ compare_named pairs.now dictionary.now c.now d.now out.old)
         × (out.new ≡ output_named pairs.now dictionary.now c.now d.now out.old) }
 {
-    if dictionary.len() == 0 {
+    if dictionary.is_empty() {
         return compare_sent(pairs, c, d, out);
     }
     pairs::read_pairs(pairs)?;

@@ -15,10 +15,7 @@ use writing::bytes_for;
 fn answer_sent(d: &[u8], answer: Result<bool, Refusal>) -> Result<bool, Refusal>
     ensures { result ≡ sent_by d.now 2 answer }
 {
-    match answer {
-        Err(e) => Err(sent_as(d, 2, e)),
-        Ok(fits) => Ok(fits),
-    }
+    answer.map_err(|e| sent_as(d, 2, e))
 }
 
 // With a dictionary of length 0: as it is sent.
@@ -72,7 +69,7 @@ fn fit_unfolded(
         }
         Ok(n) => {
             let end = bytes_for(n);
-            fit::fit(pairs, s, &buffer[0..end])
+            fit::fit(pairs, s, &buffer[..end])
         }
     }
 }
@@ -95,7 +92,7 @@ pub fn fit(
 ) -> Result<bool, Refusal>
     ensures { result ≡ fit_named pairs.now dictionary.now specimen.now description.now }
 {
-    if dictionary.len() == 0 {
+    if dictionary.is_empty() {
         return fit_sent(pairs, specimen, description);
     }
     pairs::read_pairs(pairs)?;

@@ -12,11 +12,7 @@ use writing::bytes_for;
 pub fn normalise_sent(pairs: &[u8], d: &[u8], out: &mut [u8]) -> Result<u16, Refusal>
     ensures { (result ≡ normalise_named pairs.now [] d.now out.old) × (out.new ≡ normalised_named pairs.now [] d.now out.old) }
 {
-    let answer = normal::normalise(pairs, d, out);
-    match answer {
-        Err(e) => Err(sent_as(d, 1, e)),
-        Ok(count) => Ok(count),
-    }
+    normal::normalise(pairs, d, out).map_err(|e| sent_as(d, 1, e))
 }
 
 // Under a list that is accepted and a dictionary that is not of length 0, with a buffer that has room for every description.
@@ -33,7 +29,7 @@ fn normalise_unfolded(
 {
     let n = unfold_into(dictionary, d, 1, buffer)?;
     let end = bytes_for(n);
-    normal::normalise(pairs, &buffer[0..end], out)
+    normal::normalise(pairs, &buffer[..end], out)
 }
 
 // The same with a buffer of its own.
@@ -53,8 +49,7 @@ fn normalise_named(
 
 // Writes the normal form of a description, under a list of pairs and a dictionary, in blocks from the start of the output, which is at least
 // as long as the unfolded description, and returns its number of entries; later bytes stay. Where anything is refused, or the output is
-// shorter, the refusal is returned and no byte changes. It begins as `compare` and `fit` do: a function that is handed what comes after, as closures,
-// would be longer than these lines.
+// shorter, the refusal is returned and no byte changes.
 pub fn normalise(
     pairs: &[u8],
     dictionary: &[u8],
@@ -64,7 +59,7 @@ pub fn normalise(
     ensures { (result ≡ normalise_named pairs.now dictionary.now description.now out.old)
         × (out.new ≡ normalised_named pairs.now dictionary.now description.now out.old) }
 {
-    if dictionary.len() == 0 {
+    if dictionary.is_empty() {
         return normalise_sent(pairs, description, out);
     }
     pairs::read_pairs(pairs)?;

@@ -3,6 +3,7 @@
 //
 // `order`, `rows`, `below` and `count` stay parameters: `order` is lent while rows are written, and with the others in a struct of `&mut` slices
 // each function would have to promise that it keeps each slice, and those that write rows alone that they leave `below`, which is no plainer.
+// For the same reason two clauses stand in several contracts: `order` has room for the slots in use, and `below` is longer than `rows`.
 ghost use Rattle.std.specs.Prelude.{◌≡◌, true, [], ◌++◌, ◌∷◌, ◌+◌, ◌*◌, ◌/◌, ◌%◌, ◌≤◌, ◌<◌, length, get_or, map};
 ghost use Rattle.logic.specs.Normal.{rank};
 ghost use Rattle.passes.specs.code.Slots.{is_link, value};
@@ -16,7 +17,8 @@ use blocks::{Entry, kinds};
 use runs::{tag_name, tag_slot};
 use slots::{high_in, low_in};
 
-// A kind of entry that a slot lists with a number: those of a property, and those of a link.
+// A kind of entry that a slot lists with a number: those of a property, and those of a link. An enum beside the numbers of `blocks::kinds`: of
+// these four alone `value_of` knows what is listed, and its match has no arm for others.
 #[derive(Clone, Copy)]
 enum AtomKind {
     Has = 1,
@@ -48,6 +50,7 @@ fn value_of(kind: AtomKind, lo: u64, hi: u64) -> Option<u16>
 }
 
 // A packed entry.
+#[tactic(auto, unfolding(crate::specs::code::Emitted::packed_of))]
 fn pack_row(kind: u8, owner: u16, name: u16, number: u16) -> u64
     ensures { result ≡ packed_of kind owner name number }
 {

@@ -10,7 +10,8 @@ use crate::tables::normal_rows;
 use blocks::{Cause, Refusal};
 
 // The answer for a description whose slots stand in the tables: 7 where the output is shorter, else its normal form is written. `used` stays
-// beside `table`, whose slots end with it: that there is room for the rows is known of the whole table.
+// beside `table`, whose slots end with it: that there is room for the rows is known of the whole table. The marks `bad` and
+// `full` are bytes of 0 and 1, as `slots::fill` writes them.
 fn write_normal(
     d: &[u8],
     used: usize,

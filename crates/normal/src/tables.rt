@@ -6,9 +6,7 @@ ghost use Rattle.normal.specs.code.Emitted.{Lent, Pushed, all_rows, keep_in, tab
 
 use crate::settled::Slots;
 use crate::walk::write_rows;
-
-// The entry of kind 6, 'nothing fits', of the top.
-const NOTHING: u64 = 6;
+use blocks::kinds;
 
 // Puts settled slots on the chains of their runs and writes the rows of all places; returns their number. The tables stay parameters: fields
 // that are lent at once through a `&mut Workspace`, some to be read and some to be written, get no proof.
@@ -35,8 +33,8 @@ fn chained_rows(
     write_rows(&slots, order, rows, below)
 }
 
-// Writes the packed entries that settled slots give; returns their number. One of kind 6 stands alone where the top is impossible. The tables
-// stay parameters, as above.
+// Writes the packed entries that settled slots give; returns their number. One, 'nothing fits', of the top, stands alone where the top
+// is impossible; of its fields the kind alone is not 0. The tables stay parameters, as above.
 pub(crate) fn normal_rows(
     table: &[u64],
     bad: &[u8],
@@ -52,7 +50,7 @@ pub(crate) fn normal_rows(
     ensures { Pushed (length rows.old) [] 0 (table_rows table.now bad.now full.now) rows.new result }
 {
     if bad[0] != 0 {
-        rows[0] = NOTHING;
+        rows[0] = u64::from(kinds::NOTHING);
         return 1;
     }
     chained_rows(table, full, last, before, order, rows, below)

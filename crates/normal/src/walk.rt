@@ -7,7 +7,8 @@ ghost use Rattle.normal.specs.code.Emitted.{Stepped, all_rows, cells_of, kept_by
 use crate::emit::push_place;
 use crate::settled::Slots;
 
-// Pushes the rows of the place below row k, where row k leads to one. Its tables stay parameters for the reason in emit.rt.
+// Pushes the rows of the place below row k, where row k leads to one. A slot of 0 is no place: no row leads to the top, and `below`
+// is cleared so; with an Option for each row it would be twice as long. Its tables stay parameters for the reason in emit.rt.
 fn push_below(
     k: usize,
     slots: &Slots,
@@ -28,7 +29,7 @@ fn push_below(
     push_place(k as u16, s, slots, order, rows, below, count)
 }
 
-// Writes the rows of all places, and returns their number.
+// Writes the rows of all places, and returns their number. The loop is of the shape of that in specimen.rt of crate compare, as is said there.
 pub(crate) fn write_rows(
     slots: &Slots,
     order: &mut [u64],

@@ -5,22 +5,18 @@
 use blocks::Entry;
 use std::io;
 
-// Prints the entries of a normal form, a line each.
-fn print_entries(rt: &impl Print, blocks: &[u8], total: usize) -> io::Result<()> {
-    for bytes in blocks::entries_in_order(blocks, total) {
-        let e = Entry::from(bytes);
-        println!(rt; "{} {} {} {}", e.kind, e.owner, e.name, e.number)?;
-    }
-    Ok(())
-}
-
-// Prints what normalising a description answers.
+// Prints what normalising a description answers, and the entries that it wrote, a line each. No `Display` is plainer: the answer has only their
+// number, and they stand in the output beside it.
 fn print_normal(rt: &impl Print, description: &[u8]) -> io::Result<()> {
     let mut out = [0u8; 512];
     match normal::normalise(&[], description, &mut out) {
         Ok(entries) => {
             println!(rt; "normal form of {entries} entries")?;
-            print_entries(rt, &out, usize::from(entries))
+            for bytes in blocks::entries_in_order(&out, usize::from(entries)) {
+                let e = Entry::from(bytes);
+                println!(rt; "{} {} {} {}", e.kind, e.owner, e.name, e.number)?;
+            }
+            Ok(())
         }
         Err(refusal) => println!(rt; "{refusal}"),
     }

@@ -96,7 +96,7 @@ impl Iterator for Excluders<'_> {
     fn next(&mut self) -> Option<Property> {
         while let Some(k) = self.next {
             self.next = self.all.link(256 + usize::from(k));
-            if named_at(self.all.pairs, usize::from(k)).0 == self.of.0 {
+            if named_at(self.all.pairs, usize::from(k)) == self.of {
                 return Some(self.all.beside(k));
             }
         }

@@ -6,8 +6,8 @@ ghost use Rattle.pairs.specs.code.Index.{bucket_of, indexed_to, named_count, not
 use crate::list::named_at;
 use blocks::Property;
 
-// The number of the other property of its pair; 0 for number 0. The first of a pair is the odd one: no jump by it, since nothing foretells
-// which of the two a number is.
+// The number of the other property of its pair; 0 for number 0, which is no mark: no caller asks for it, and the contract holds there too. The first
+// of a pair is the odd one: no jump by it, since nothing foretells which of the two a number is.
 pub(crate) fn number_beside(k: u8) -> usize
     ensures { (result ≡ number_beside k) × (result ≤ 256) }
 {
@@ -23,6 +23,7 @@ pub(crate) fn bucket(p: Property) -> usize
 }
 
 // Puts number k in front of the chain of its bucket. List and index are no `Exclusions` here: that says that the index is whole.
+// The same two stores as those of clashes, `add`, and of fit, `put`: each on a table of its own layout.
 #[tactic(auto, unfolding(crate::specs::code::Index::noted))]
 fn note(pairs: &[u8], index: &mut [u8; 512], k: usize)
     requires { (1 ≤ k) × (k ≤ named_count pairs.now) × (k ≤ 128) }
@@ -34,6 +35,7 @@ fn note(pairs: &[u8], index: &mut [u8; 512], k: usize)
 }
 
 // Puts the properties of a list, those of 64 pairs at most, on the chains of an index, which is blank before.
+#[tactic(auto, unfolding(crate::specs::code::Index::indexed_to))]
 pub(crate) fn index_pairs(pairs: &[u8], index: &mut [u8; 512])
     ensures { index.new ≡ indexed_to pairs.now index.old (min (named_count pairs.now) 128) }
 {

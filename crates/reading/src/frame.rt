@@ -1,5 +1,5 @@
 // The frames of blocks: which of them breaks number 2 or number 3 of the table.
-ghost use Rattle.std.specs.Prelude.{◌≡◌, cond, ◌+◌, ◌-◌, ◌*◌, ◌≤◌, ◌<◌, eqb, length};
+ghost use Rattle.std.specs.Prelude.{◌≡◌, ◌+◌, ◌-◌, ◌*◌, ◌≤◌, ◌<◌, length};
 ghost use Rattle.base.specs.Range.{all};
 ghost use Rattle.blocks.specs.Frame.{plain, check_wrong, zero_at, used_ok, frame_wrong};
 ghost use Rattle.blocks.specs.Faults.{block_faults, first};
@@ -8,23 +8,17 @@ ghost use Rattle.blocks.specs.code.ReadingSteps.{block_refusal};
 
 use blocks::{Cause, Refusal, block_check, block_second, word};
 
-// 1 where a byte is not zero, else what was found before. It takes no jump, so that the loop below goes over many bytes at a step.
-fn found_with(found: u8, b: u8) -> u8
-    ensures { result ≡ cond (eqb b 0) found 1 }
-{
-    if b == 0 { found } else { 1 }
-}
-
-// Whether the bytes from one index up to another are zero. All of them are looked at: in a block that is right they are.
+// Whether the bytes from one index up to another are zero. All of them are looked at, as in a block that is right
+// anyhow, and `|=` takes no jump, so that the loop goes over many bytes at a step: with `all` it took ten times as long.
 fn all_zero(s: &[u8], from: usize, to: usize) -> bool
     requires { (from ≤ to) × (to ≤ length s.now) }
     ensures { result ≡ all (zero_at s.now) from (to - from) }
 {
-    let mut found: u8 = 0;
+    let mut found = false;
     for b in &s[from..to] {
-        found = found_with(found, *b);
+        found |= *b != 0;
     }
-    found == 0
+    !found
 }
 
 // Whether block i of n, counted from 0, may use this many entries: all 63, or fewer in the last, and none in the only one.
@@ -57,10 +51,10 @@ fn frame_wrong(s: &[u8], n: usize, i: usize) -> bool
     ensures { result ≡ frame_wrong plain s.now n i }
 {
     let at = 512 * i;
-    if word(s, at) as usize != i + 1 {
+    if usize::from(word(s, at)) != i + 1 {
         return true;
     }
-    let used = word(s, at + 2) as usize;
+    let used = usize::from(word(s, at + 2));
     if !used_ok(n, i, used) {
         return true;
     }

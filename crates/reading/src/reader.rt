@@ -16,9 +16,8 @@ fn limit_of(schema: Schema) -> usize
     ensures { (result ≡ limit_of schema) × (result ≤ 32) }
 {
     match schema {
-        Schema::Description => 16,
+        Schema::Description | Schema::Named(_) => 16,
         Schema::Specimen => 32,
-        Schema::Named(_) => 16,
     }
 }
 
@@ -46,7 +45,7 @@ fn entries_in(s: &[u8], n: usize) -> usize
     ensures { (result ≡ total_in plain s.now) × (result ≤ 2016) }
 {
     let last = n - 1;
-    63 * last + word(s, 512 * last + 2) as usize
+    63 * last + usize::from(word(s, 512 * last + 2))
 }
 
 // Reads the entries of an input whose blocks are sound.
@@ -54,7 +53,7 @@ fn read_entries(s: &[u8], schema: Schema, input: u16, total: u16) -> Result<u16,
     requires { (total ≡ length (entries_of s.now)) × (total ≤ 2016) × Whole s.now total }
     ensures { result ≡ answer input total (first (entry_faults schema (entries_of s.now) 1 total)) }
 {
-    check_entries(s, schema, total as usize, input)?;
+    check_entries(s, schema, usize::from(total), input)?;
     Ok(total)
 }
 

@@ -36,9 +36,8 @@ fn owning_kind(schema: Schema) -> u8
     ensures { result ≡ owning_kind schema }
 {
     match schema {
-        Schema::Description => kinds::EVERY,
+        Schema::Description | Schema::Named(_) => kinds::EVERY,
         Schema::Specimen => kinds::GROUP,
-        Schema::Named(_) => kinds::EVERY,
     }
 }
 
@@ -59,6 +58,7 @@ fn pinned(kind: u8) -> u32
     ensures { result ≡ bit (not (eqb kind 3 || (eqb kind 4 || eqb kind 7))) }
 {
     let low = kind % 8; // of two kinds each: no kind's name
+    // Arm by arm, as the table of kinds has them.
     match low {
         0 => 1,
         1 => 1,
@@ -77,7 +77,7 @@ fn number_ok(kind: u8, number: u16) -> bool
     requires { kind ≤ 9 }
     ensures { result ≡ number_ok kind number }
 {
-    pinned(kind) * (number as u32) == 0
+    pinned(kind) * u32::from(number) == 0
 }
 
 // Whether an entry by itself is as the table has it: the contrary of number 4.
@@ -111,13 +111,13 @@ fn names_ok(schema: Schema, e: Entry) -> bool
     ensures { result ≡ names_ok schema e }
 {
     match schema {
-        Schema::Description => true,
-        Schema::Specimen => true,
+        Schema::Description | Schema::Specimen => true,
         Schema::Named(most) => name_given(most, e),
     }
 }
 
 // The level of an owner, from a table of the levels of the entries passed: 0 where it may own nothing or is not passed.
+// That is no Option: levels stand in a table of a byte each, of fixed size, which Options would double.
 pub fn owner_level(passed: &[u8], owner: u16) -> u8
     ensures { result ≡ slice_index passed.now owner }
 {
@@ -130,6 +130,7 @@ pub fn owner_level(passed: &[u8], owner: u16) -> u8
 fn described_weight(kind: u8) -> u32
     ensures { (result ≤ 2) × (result ≤ 1 → (kind_ok Schema.Description kind ≡ true) × (kind < 6)) × (result ≡ 0 → (eqb kind 3 || (eqb kind 4 || eqb kind 7)) ≡ true) }
 {
+    // Arm by arm, as the table of kinds has them.
     match kind {
         kinds::HAS => 1,
         kinds::LACKS => 1,
@@ -156,9 +157,8 @@ fn weight_of(schema: Schema, kind: u8) -> u32
     ensures { (result ≤ 2) × (result ≤ 1 → (kind_ok schema kind ≡ true) × (eqb kind 6 ≡ false) × (eqb kind 9 ≡ false)) × (result ≡ 0 → (eqb kind 3 || (eqb kind 4 || eqb kind 7)) ≡ true) }
 {
     match schema {
-        Schema::Description => described_weight(kind),
+        Schema::Description | Schema::Named(_) => described_weight(kind),
         Schema::Specimen => grouped_weight(kind),
-        Schema::Named(_) => described_weight(kind),
     }
 }
 
@@ -178,7 +178,7 @@ fn plainly_right(schema: Schema, e: Entry, l: u8) -> bool
     if l == 0 {
         return false;
     }
-    weight_of(schema, e.kind) * (e.number as u32 + 1) <= 1
+    weight_of(schema, e.kind) * (u32::from(e.number) + 1) <= 1
 }
 
 // Why an entry is refused whose owner has level l, if it is, test by test: 4 before 13 before 5 before 6.
@@ -210,7 +210,8 @@ pub fn entry_refusal(schema: Schema, e: Entry, l: u8) -> Option<Cause>
     first_refusal(schema, e, l)
 }
 
-// The level of an entry of this kind whose owner has level l, which is at most 33 where the entry is not refused.
+// The level of an entry of this kind whose owner has level l, which is at most 33 where the entry is not refused: 0, as above, for one that may own
+// nothing.
 pub fn level_under(schema: Schema, kind: u8, l: u8) -> u8
     ensures { l < 255 → result ≡ level_under schema kind l }
 {

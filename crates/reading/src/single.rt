@@ -36,7 +36,7 @@ fn start_of(key: u32, most: usize) -> usize
     requires { 0 < most }
     ensures { (result ≡ start_of most key) × (result < most) }
 {
-    ((2654435769 * (key as u64) / 1048576) as usize) & (most - 1)
+    ((2654435769 * u64::from(key) / 1048576) as usize) & (most - 1)
 }
 
 // The cell that has a key, or the free one where it is to stand: the first from where its search begins. Owners and links that were chosen for it
@@ -152,8 +152,7 @@ pub(crate) fn check_entries(
     ensures { result ≡ answer input tt (first (entry_faults schema (entries_of s.now) 1 total)) }
 {
     match schema {
-        Schema::Description => first_rule_fault(s, Schema::Description, total, input),
         Schema::Specimen => specimen_fault(s, total, input),
-        Schema::Named(most) => first_rule_fault(s, Schema::Named(most), total, input),
+        Schema::Description | Schema::Named(_) => first_rule_fault(s, schema, total, input),
     }
 }

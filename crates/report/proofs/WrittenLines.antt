@@ -11,7 +11,7 @@ use Rattle.blocks.specs.Encoding.{blocks_for, encode}
 use Rattle.blocks.specs.Entries.{entry_at, entry_from, entry_of, nth, zero_entry}
 use Rattle.blocks.specs.Frame.{entry_pos, plain}
 use Rattle.blocks.specs.declared.Entry.{Entry}
-use Rattle.report.proofs.Joined.{word-left}
+use Rattle.lists.proofs.JoinedParts.{word-left}
 use Rattle.report.specs.Lines.{entry_lines, lines_from, specimen_line}
 
 -- ---- entries of a list that goes on

@@ -16,7 +16,8 @@ pub use lines::specimen_lines;
 pub use text::{LINE_BYTES, line_text};
 
 // What a printed line says: `contained`; `not contained` with the entry that fails; `refused` with its number, input and place; `has`
-// with its entry number, owner and property; or `group` with its entry number, owner, link and count, which is the number of items.
+// with its entry number, owner and property; or `group` with its entry number, owner, link and count, which is the number of items. It is no
+// Option or Result, since there are five kinds of line.
 #[derive(Clone, Copy)]
 pub enum Line {
     Contained,

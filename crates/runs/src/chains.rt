@@ -11,7 +11,7 @@ fn slot_at(table: &[u64], n: usize) -> u64
     table.get(n).copied().unwrap_or(0)
 }
 
-// The number at index i.
+// The number at index i. As `slot_at`, of two bytes: of a generic element the 0 past the end would need a trait to say it.
 pub(crate) fn link_at(links: &[u16], i: usize) -> u16
     ensures { result ≡ get_or links.now i 0 }
 {
@@ -27,7 +27,7 @@ fn set_link(links: &mut [u16], i: usize, x: u16)
     }
 }
 
-// Puts the slots 1 to `used` on the chains of their runs, in turn.
+// Puts the slots 1 to `used` on the chains of their runs, in turn. The tables are slices and no struct, as in walks.rt.
 pub fn chain_slots(table: &[u64], used: u16, last: &mut [u16], before: &mut [u16])
     ensures { (last.new ≡ lasts_after table.now last.old used)
         × (before.new ≡ befores_after table.now last.old before.old used) }

@@ -11,7 +11,7 @@ use slots::low_in;
 use std::marker::Model;
 
 // The slots that are left on a chain, the last first: the next one and those before it, if it is one of the slots 1 to `most`. No slot of a
-// higher number follows, so that every walk ends.
+// higher number follows, so that every walk ends. Fit has a chain too: that goes along one table with an offset, this along two with a limit.
 #[derive(Drop)]
 struct Chain<'a> {
     before: &'a [u16],
@@ -59,7 +59,8 @@ fn chain_start(table: &[u64], last: &[u16], before: &[u16], run: usize) -> u16
     s
 }
 
-// Stores the tag of slot s, which is the number x, at index n where the slot says at least `low`. Returns the index after it.
+// Stores the tag of slot s, which is the number x, at index n where the slot says at least `low`. Returns the index after it. `order` and n
+// are no struct: the caller lends the slice, and needs nothing of them afterwards but the number that `gather` returns.
 fn push_tag(x: u64, s: u16, low: u64, order: &mut [u64], n: usize) -> usize
     requires { n < length order.old }
     ensures { TagPushed low x s order.old n order.new result }
@@ -72,7 +73,7 @@ fn push_tag(x: u64, s: u16, low: u64, order: &mut [u64], n: usize) -> usize
 }
 
 // Gathers the tags of the slots of a run that say at least `low`, the last slot first. Returns how many there are. Nothing is gathered where
-// there might not be room: as many tags as the last slot's number always have it.
+// there might not be room: as many tags as the last slot's number always have it. The tables are slices, as at `chain_start`.
 pub fn gather(
     table: &[u64],
     last: &[u16],
@@ -101,6 +102,7 @@ pub fn gather(
 }
 
 // The slot of a run that has a name, or 0. That is no slot, and every table reads as empty there, so that a caller needs no case for it.
+// The tables are slices, as at `chain_start`.
 pub fn slot_named(table: &[u64], last: &[u16], before: &[u16], run: usize, name: u16) -> usize
     ensures { result ≡ named table.now last.now before.now run name }
 {

@@ -22,22 +22,18 @@ use pairs::Exclusions;
 use unfolding::unfold_into;
 use writing::bytes_for;
 
-// 1 where no entry fails, else 0.
-pub(crate) fn bit_of(failing: Option<usize>) -> u8
-    requires { IfSome failing (λ n. 1 ≤ n) }
-    ensures { result ≡ bit (eqb (unwrap_or failing 0) 0) }
-{
-    u8::from(failing.is_none())
-}
-
 // Reads a description under a dictionary. One of length 0 leaves it as it is sent; otherwise the plain description that it stands for is
 // written to a buffer that has room for every description. The dictionary is read again for each.
-fn read_sent(dictionary: &[u8], d: &[u8], input: u16, buffer: &mut [u8]) -> Result<u16, Refusal>
-    requires { 8192 ≤ length buffer.old }
+fn read_sent(
+    dictionary: &[u8],
+    d: &[u8],
+    input: u16,
+    buffer: &mut [u8; 8192],
+) -> Result<u16, Refusal>
     ensures { (result ≡ unfolding_of dictionary.now input d.now)
         × ((n : ℕ) → result ≡ Ok n → Buffered dictionary.now d.now n buffer.new) }
 {
-    if dictionary.len() == 0 {
+    if dictionary.is_empty() {
         return reading::read(d, Schema::Named(0), input);
     }
     unfold_into(dictionary, d, input, buffer)
@@ -50,41 +46,40 @@ fn judge_sent(
     dictionary: &[u8],
     d: &[u8],
     m: u16,
-    buffer: &[u8],
-    states: &mut [u16],
+    buffer: &[u8; 8192],
+    states: &mut [u16; 1009],
 ) -> Option<usize>
-    requires { Ruled (under supplier.exclusions.pairs.now)
-        × (reading_of Schema.Description 2 (sent_of dictionary.now d.now) ≡ Ok m) × Buffered dictionary.now d.now m buffer.now × (8192 ≤ length buffer.now) × (1008 < length states.old) }
+    requires { (reading_of Schema.Description 2 (sent_of dictionary.now d.now) ≡ Ok m) × Buffered dictionary.now d.now m buffer.now }
     ensures { IfSome result (λ n. 1 ≤ n) × ((c : List ℕ) → HeldIn (under supplier.entry.exclusions.pairs.now) c supplier.entry
         → unwrap_or result 0 ≡ failing_in (under supplier.entry.exclusions.pairs.now) c (sent_of dictionary.now d.now)) }
 {
-    if dictionary.len() == 0 {
+    if dictionary.is_empty() {
         return supplier.judge(d, usize::from(m), states);
     }
     let end = bytes_for(m);
-    supplier.judge(&buffer[0..end], usize::from(m), states)
+    supplier.judge(&buffer[..end], usize::from(m), states)
 }
 
-// Reads a service, an input of any number, and judges it. With a dictionary of length 0 it has no names, and nothing is unfolded.
+// Reads a service, an input of any number, and judges it. With a dictionary of length 0 it has no names, and nothing is unfolded. That the dictionary
+// is accepted is a clause, here and below: it is known of bytes that were read with the supplier's description, and nothing else is kept of them.
 fn judge_service(
     supplier: Supplier<'_, 4093>,
     dictionary: &[u8],
     d: &[u8],
     input: u16,
-    buffer: &mut [u8],
-    states: &mut [u16],
-) -> Result<u8, Refusal>
-    requires { Ruled (under supplier.exclusions.pairs.now)
-        × DictionaryTaken dictionary.now × (8192 ≤ length buffer.old) × (1008 < length states.old) }
+    buffer: &mut [u8; 8192],
+    states: &mut [u16; 1009],
+) -> Result<bool, Refusal>
+    requires { DictionaryTaken dictionary.now }
     ensures { (c : List ℕ) → HeldIn (under supplier.entry.exclusions.pairs.now) c supplier.entry
         → result ≡ service_judged supplier.entry.exclusions.pairs.now dictionary.now c input d.now }
 {
-    if dictionary.len() == 0 {
+    if dictionary.is_empty() {
         return judge_plain(supplier, d, input, states);
     }
     let m = read_sent(dictionary, d, input, buffer)?;
-    let e = judge_sent(supplier, dictionary, d, m, buffer, states);
-    Ok(bit_of(e))
+    let failing = judge_sent(supplier, dictionary, d, m, buffer, states);
+    Ok(failing.is_none())
 }
 
 // Judges the services of a list in turn, as inputs 2, 3 and so on, and stores a byte for each: how many there are, or the first refusal.
@@ -92,25 +87,26 @@ fn judge_parts(
     supplier: Supplier<'_, 4093>,
     dictionary: &[u8],
     list: &[u8],
-    buffer: &mut [u8],
-    states: &mut [u16],
+    buffer: &mut [u8; 8192],
+    states: &mut [u16; 1009],
     answers: &mut [u8; 64],
 ) -> Result<u16, Refusal>
-    requires { Ruled (under supplier.exclusions.pairs.now)
-        × DictionaryTaken dictionary.now × (8192 ≤ length buffer.old) × (1008 < length states.old) × (length (parts_of list.now) ≤ 64) }
+    requires { DictionaryTaken dictionary.now × (length (parts_of list.now) ≤ 64) }
     ensures { (c : List ℕ) → HeldIn (under supplier.entry.exclusions.pairs.now) c supplier.entry
         → JudgesAll supplier.entry.exclusions.pairs.now dictionary.now c list.now answers.old result answers.new }
 {
+    // Counted by hand: the answer is how many there are, which `enumerate` does not tell at the end.
     let mut n: usize = 0;
     for part in Parts::of(list) {
-        let b = judge_service(supplier, dictionary, part, 2 + n as u16, buffer, states)?;
-        answers[n] = b;
+        let contained = judge_service(supplier, dictionary, part, 2 + n as u16, buffer, states)?;
+        answers[n] = u8::from(contained);
         n += 1;
     }
     Ok(n as u16)
 }
 
-// Slots and settles the supplier's description, which is accepted, with n entries, and judges a list of at most 64 services by its slots.
+// Slots and settles the supplier's description, which is accepted, with n entries, and judges a list of at most 64 services by its slots. Here and in
+// `judge_cut` the clause that n entries are read from c is of two values that have different makers: c is sent, or stands in a buffer.
 fn judge_all(
     exclusions: Exclusions<'_>,
     dictionary: &[u8],
@@ -157,7 +153,7 @@ fn judge_cut(
     requires { Ruled (under exclusions.pairs.now) × DictionaryTaken dictionary.now × (reading_of Schema.Description 1 c.now ≡ Ok n) }
     ensures { JudgesListed exclusions.entry.pairs.now dictionary.now c.now list.now answers.old result answers.new }
 {
-    if list.len() == 0 {
+    if list.is_empty() {
         return Err(Refusal {
             cause: Cause::Length,
             input: 2,
@@ -187,21 +183,21 @@ fn judge_supplied(
     dictionary: &[u8],
     c: &[u8],
     list: &[u8],
-    buffer: &mut [u8],
+    buffer: &mut [u8; 8192],
     answers: &mut [u8; 64],
 ) -> Result<u16, Refusal>
-    requires { Ruled (under exclusions.pairs.now) × (8192 ≤ length buffer.old) }
+    requires { Ruled (under exclusions.pairs.now) }
     ensures { JudgesSupplied exclusions.entry.pairs.now dictionary.now c.now list.now answers.old result answers.new }
 {
     let n = read_sent(dictionary, c, 1, buffer)?;
-    if dictionary.len() == 0 {
+    if dictionary.is_empty() {
         return judge_cut(exclusions, dictionary, c, usize::from(n), list, answers);
     }
     let end = bytes_for(n);
     judge_cut(
         exclusions,
         dictionary,
-        &buffer[0..end],
+        &buffer[..end],
         usize::from(n),
         list,
         answers,

@@ -7,7 +7,6 @@ ghost use Rattle.logic.specs.Background.{Background, Ruled};
 ghost use Rattle.passes.specs.code.Slots.{inconsistent};
 ghost use Rattle.pairs.specs.Pairs.{pair_count, under};
 ghost use Rattle.slots.specs.Holding.{failing_in, holding_by, holding_of};
-ghost use Rattle.slots.specs.code.Lent.{HeldIn};
 ghost use Rattle.slots.specs.code.Standing.{JudgedBy, Judges, table_judged};
 ghost use Rattle.slots.specs.code.Tables.{Kept, Tabled, slots_of};
 
@@ -22,24 +21,26 @@ fn answer_of(failing: Option<usize>, used: usize) -> Option<Unheld>
     requires { (unwrap_or failing 0 ≤ 1008) × IfSome failing (λ n. 1 ≤ n) × (used ≤ 1008) }
     ensures { result ≡ holding_by used (unwrap_or failing 0) }
 {
-    match failing {
-        Some(n) => Some(Unheld {
-            entry: n as u16,
-            used: used as u16,
-        }),
-        None => None,
-    }
+    failing.map(|n| Unheld {
+        entry: n as u16,
+        used: used as u16,
+    })
 }
 
-// A description that others are judged by, under a list of pairs: its settled slots, and whether nothing fits it.
+// A description that others are judged by, under a list of pairs: its settled slots, and whether nothing fits it. That the list is ruled is kept
+// here, and up to here a clause: it is known of bytes once they are read, and `Exclusions`, of another crate, indexes any list.
+// `impossible` stands beside the slots, which are no Option: a description that nothing fits has slots as well.
 #[derive(Clone, Copy)]
 pub(crate) struct Supplier<'a, const BUCKETS: usize> {
     pub exclusions: Exclusions<'a>,
     pub slots: Slots<'a, BUCKETS>,
     pub impossible: bool,
+    ghost ruled: { Ruled (under exclusions.pairs.now) },
 }
 
 impl<'a, const BUCKETS: usize> Supplier<'a, BUCKETS> {
+    ghost use Rattle.slots.specs.code.Lent.{HeldIn};
+
     // The supplier whose settled slots stand in these tables, of which the last marks the places that are impossible. They come apart: what is
     // known of them as Slots is known once all of them are written.
     pub(crate) fn new(
@@ -50,28 +51,28 @@ impl<'a, const BUCKETS: usize> Supplier<'a, BUCKETS> {
         used: usize,
         bad: &[u8],
     ) -> Self
-        requires { Kept table.now next.now head.now used × (used ≤ 1008) × (0 < length bad.now) }
+        requires { Ruled (under exclusions.pairs.now) × Kept table.now next.now head.now used × (used ≤ 1008) × (0 < length bad.now) }
         ensures held { (b : Background) → (c : List ℕ) → Tabled b c used table.now → get_or bad.now 0 0 ≡ bit (inconsistent 1 (slots_of b c) 0)
             → (result.slots.used ≡ used) × HeldIn b c result }
         ensures list { result.exclusions ≡ exclusions.entry }
     {
         let slots = Slots {
-            table: table,
-            next: next,
-            head: head,
-            used: used,
+            table,
+            next,
+            head,
+            used,
         };
         Supplier {
-            exclusions: exclusions,
-            slots: slots,
+            exclusions,
+            slots,
             impossible: bad[0] != 0,
         }
     }
 
     // The first entry of a description with m entries that does not hold by the supplier; none where nothing fits it. This is all that
-    // judges, and it leaves the slots: they serve for many descriptions.
+    // judges, and it leaves the slots: they serve for many descriptions. The states are a slice, since they come in both sizes of tables.
     pub(crate) fn judge(self, d: &[u8], m: usize, states: &mut [u16]) -> Option<usize>
-        requires { Ruled (under self.exclusions.pairs.now) × (reading_of Schema.Description 2 d.now ≡ Ok m) × (m < length states.old) }
+        requires { (reading_of Schema.Description 2 d.now ≡ Ok m) × (m < length states.old) }
         ensures { (unwrap_or result 0 ≤ 1008) × IfSome result (λ n. 1 ≤ n)
             × ((c : List ℕ) → HeldIn (under self.entry.exclusions.pairs.now) c self.entry
             → unwrap_or result 0 ≡ failing_in (under self.entry.exclusions.pairs.now) c d.now) }
@@ -85,7 +86,8 @@ impl<'a, const BUCKETS: usize> Supplier<'a, BUCKETS> {
 }
 
 // Slots and settles the first description and judges the second by its slots, where both are accepted, with n and m entries, fewer than N.
-// All tables but that of the slots are its own.
+// All tables but that of the slots are its own. That n and m are read from c and d is a clause, here and below, since each is handed on from where it
+// was read to where it is used, beside bytes that stay the caller's.
 fn judge<const N: usize, const BUCKETS: usize>(
     exclusions: Exclusions<'_>,
     c: &[u8],

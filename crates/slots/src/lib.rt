@@ -6,6 +6,9 @@
 // The slots stand in a table that the caller lends, who can go on from them. All other tables are slices too, made in two sizes: small ones
 // serve for at most 63 entries, which is a block, so that a short call clears no large ones.
 //
+// The three calls begin alike: the list of pairs is read, and indexed. What comes then has another type in each, and a function that is handed
+// it as a closure would be longer than the three lines that it saves.
+//
 // The contracts cite specs/: Holding and Catalogue say what is answered; the others mirror the code. What slots are, on lists, is said in `passes`.
 #![tactic(auto)]
 

@@ -96,10 +96,10 @@ pub(crate) fn restrict_slots<const BUCKETS: usize>(
 {
     for s in 1..used + 1 {
         let slots = Slots {
-            table: table,
-            next: next,
-            head: head,
-            used: used,
+            table,
+            next,
+            head,
+            used,
         };
         let x = restricted(exclusions, slots, slots.table[s]);
         table[s] = x;

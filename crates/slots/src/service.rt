@@ -1,6 +1,6 @@
 // A service read and judged by the slots of another description: its blocks first, and then its entries, each checked and judged in one pass. Two
 // chains run along the owners, of levels and of states; in one pass neither waits for the other.
-ghost use Rattle.std.specs.Prelude.{◌≡◌, List, ◌+◌, ◌≤◌, ◌<◌, ℕ, false, length};
+ghost use Rattle.std.specs.Prelude.{◌≡◌, List, ◌+◌, ◌≤◌, ◌<◌, ℕ, false, length, true};
 ghost use Rattle.std.specs.Iterator.Adapters.{enumerate_count};
 ghost use Rattle.base.specs.Range.{bit};
 ghost use Rattle.blocks.specs.Entries.{entries_of, nth};
@@ -9,19 +9,18 @@ ghost use Rattle.blocks.specs.Reading.{answer, reading_of};
 ghost use Rattle.blocks.specs.code.Blockwise.{Whole};
 ghost use Rattle.blocks.specs.code.ReadingSteps.{Levels};
 ghost use Rattle.blocks.specs.declared.Schema.{Schema};
-ghost use Rattle.logic.specs.Background.{Ruled};
 ghost use Rattle.pairs.specs.Pairs.{under};
-ghost use Rattle.slots.specs.code.Judging.{plain_judged, bit_unless};
+ghost use Rattle.slots.specs.code.Judging.{plain_judged, unless_told};
 ghost use Rattle.slots.specs.code.Lent.{AllPassedIn, HeldIn};
 ghost use Rattle.slots.specs.code.Pass.{EntryChecked, Left, RestChecked, left_in};
 
-use crate::catalogue::bit_of;
 use crate::failing::Supplier;
 use blocks::{Entry, InOrder, Refusal, Schema, entries_in_order};
 use reading::{entry_refusal, level_under, owner_level, read_blocks};
 use std::iter::Enumerate;
 
-// Checks entry n of a service by the levels of the entries before it, and notes its own. A part of both loops below, inlined into each.
+// Checks entry n of a service by the levels of the entries before it, and notes its own. A part of both loops below, inlined into each. It
+// says what a turn of `fault_by_levels` of crate reading says, of one schema: there the whole pass is one function, here an entry is also judged.
 #[inline(always)]
 fn check_entry(e: Entry, n: usize, level: &mut [u8], input: u16) -> Result<(), Refusal>
     requires { (n < length level.old) × (n ≤ 1008) }
@@ -59,12 +58,11 @@ fn pass_entries(
     supplier: Supplier<'_, 4093>,
     d: &[u8],
     total: usize,
-    states: &mut [u16],
-    level: &mut [u8],
+    states: &mut [u16; 1009],
+    level: &mut [u8; 1009],
     input: u16,
 ) -> Result<Option<usize>, Refusal>
-    requires { (total ≡ length (entries_of d.now)) × (total ≤ 1008)
-        × Whole d.now total × (total < length states.old) × (total < length level.old) }
+    requires { (total ≡ length (entries_of d.now)) × (total ≤ 1008) × Whole d.now total }
     ensures { AllPassedIn (under supplier.entry.exclusions.pairs.now) d.now supplier.entry.slots total input result }
 {
     states[0] = 0;
@@ -88,11 +86,11 @@ fn pass_entries(
 }
 
 // Reads a service that is contained if it is accepted: nothing fits the other description.
-fn judge_broken(d: &[u8], input: u16) -> Result<u8, Refusal>
-    ensures { result ≡ bit_unless (reading_of (Schema.Named 0) input d.now) 1 }
+fn judge_broken(d: &[u8], input: u16) -> Result<bool, Refusal>
+    ensures { result ≡ unless_told (reading_of (Schema.Named 0) input d.now) true }
 {
     reading::read(d, Schema::Named(0), input)?;
-    Ok(1)
+    Ok(true)
 }
 
 // Judges a service whose blocks are sound and have `total` entries.
@@ -101,17 +99,17 @@ fn judge_entries(
     d: &[u8],
     total: u16,
     input: u16,
-    states: &mut [u16],
-    level: &mut [u8],
-) -> Result<u8, Refusal>
-    requires { Ruled (under supplier.exclusions.pairs.now) × (supplier.impossible ≡ false)
+    states: &mut [u16; 1009],
+    level: &mut [u8; 1009],
+) -> Result<bool, Refusal>
+    requires { (supplier.impossible ≡ false)
         × (reading_of (Schema.Named 0) input d.now ≡ answer input total (first (entry_faults (Schema.Named 0) (entries_of d.now) 1 total)))
-        × (total ≡ length (entries_of d.now)) × (total ≤ 1008) × Whole d.now total × (1008 < length states.old) × (1008 < length level.old) }
+        × (total ≡ length (entries_of d.now)) × (total ≤ 1008) × Whole d.now total }
     ensures { (c : List ℕ) → HeldIn (under supplier.entry.exclusions.pairs.now) c supplier.entry
         → result ≡ plain_judged supplier.entry.exclusions.pairs.now c input d.now }
 {
-    let f = pass_entries(supplier, d, usize::from(total), states, level, input)?;
-    Ok(bit_of(f))
+    let failing = pass_entries(supplier, d, usize::from(total), states, level, input)?;
+    Ok(failing.is_none())
 }
 
 // Reads a service with no names, an input of any number, and judges it.
@@ -119,10 +117,8 @@ pub(crate) fn judge_plain(
     supplier: Supplier<'_, 4093>,
     d: &[u8],
     input: u16,
-    states: &mut [u16],
-) -> Result<u8, Refusal>
-    requires { Ruled (under supplier.exclusions.pairs.now)
-        × (1008 < length states.old) }
+    states: &mut [u16; 1009],
+) -> Result<bool, Refusal>
     ensures { (c : List ℕ) → HeldIn (under supplier.entry.exclusions.pairs.now) c supplier.entry
         → result ≡ plain_judged supplier.entry.exclusions.pairs.now c input d.now }
 {

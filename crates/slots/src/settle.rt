@@ -48,7 +48,8 @@ fn asks(link: bool, lo: u64, hi: u64, full: u8) -> bool
     lo != 0 || hi < NO_BOUND || (link && full != 0)
 }
 
-// Marks place v where the test holds.
+// Marks place v where the test holds. A mark is a byte, 1 or 0, and no bool: the tables of both marks stand in the signature of `fill`, whose
+// promise is of these bytes.
 fn mark(marks: &mut [u8], v: usize, test: bool)
     requires { v < length marks.old }
     ensures { marks.new ≡ cond test (set marks.old v 1) marks.old }
@@ -75,7 +76,7 @@ fn settle_slot(table: &mut [u64], bad: &mut [u8], full: &mut [u8], s: usize)
     mark(full, v, asks(link, lo, hi, was_full));
 }
 
-// Settles all slots.
+// Settles all slots. The tables come apart, since each is lent for itself.
 pub(crate) fn settle(table: &mut [u64], bad: &mut [u8], full: &mut [u8], used: usize)
     requires { (used < length table.old) × Placed table.old used × Blank used bad.old × Blank used full.old }
     ensures { Settling table.old used 0 table.new bad.new full.new }

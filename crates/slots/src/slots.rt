@@ -54,7 +54,8 @@ fn bucket<const BUCKETS: usize>(key: u64) -> usize
     (key % BUCKETS as u64) as usize
 }
 
-// The slots that stand in lent tables, numbered from 1 on, with the chains that find them by their keys.
+// The slots that stand in lent tables, numbered from 1 on, with the chains that find them by their keys. In `head` and `next` the number 0, which no
+// slot has, ends a chain: an Option would double both tables, which are cleared for each description.
 #[derive(Clone, Copy)]
 pub(crate) struct Slots<'a, const BUCKETS: usize> {
     pub table: &'a [u64],
@@ -119,7 +120,8 @@ fn append<const BUCKETS: usize>(
     head[b] = new as u16;
 }
 
-// The key of a property at a place. Properties and links are numbered apart: only their types say which key a name gets.
+// The key of a property at a place. Properties and links are numbered apart: only their types say which key a name gets. A place stays a number, here
+// and below, with a clause that says how large it is: it is packed into a key, divided out of one, and kept in tables of 16 bits.
 #[tactic(auto, unfolding(passes::specs::code::Keys::key_number))]
 pub(crate) fn property_key(place: u64, p: Property) -> u64
     requires { place < 1024 }
@@ -143,9 +145,8 @@ fn link_kind(kind: u8) -> bool
     ensures { result ≡ link_kind kind }
 {
     match kind {
-        kinds::AT_LEAST => true,
-        kinds::AT_MOST => true,
-        _ => kind == kinds::EVERY,
+        kinds::AT_LEAST | kinds::AT_MOST | kinds::EVERY => true,
+        _ => false,
     }
 }
 
@@ -176,10 +177,10 @@ pub(crate) fn enter<const BUCKETS: usize>(
         → Entered table.old next.old head.old used v b n (low_part bounds) (high_part bounds) result table.new next.new head.new) }
 {
     let slots = Slots {
-        table: table,
-        next: next,
-        head: head,
-        used: used,
+        table,
+        next,
+        head,
+        used,
     };
     if let Some(s) = slots.search(key) {
         tighten(table, s, bounds);

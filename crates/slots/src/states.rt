@@ -33,7 +33,7 @@ const NEVER: u64 = 131072;
 // What an entry asks of the bounds of its slot, kind by kind: "Kinds 1 and 2 need the same entry; kind 3 needs n = 0 or at least m with
 // m ≥ n; kind 4 needs at most m with m ≤ n; kind 5 always holds; kind 6 never does." There are no other kinds. The entry's own number comes
 // on top where it counts. All that a kind decides is a number known beforehand, so that it takes no jump: services come in any order
-// of kinds, and a jump by kind would be guessed wrong.
+// of kinds, and a jump by kind would be guessed wrong. In both tables here each kind has an arm of its own, though some say the same.
 #[tactic(auto, unfolding(crate::specs::code::States::least_asked))]
 fn least_asked(kind: u8) -> u64
     ensures { (result ≡ least_asked kind) × (result ≤ 131072) }
@@ -91,10 +91,7 @@ fn state_below(found: Option<usize>, hi: u64) -> u16
     requires { (unwrap_or found 0 ≤ 1008) × IfSome found (λ s. 1 ≤ s) }
     ensures { (result ≡ cond (eqb (unwrap_or found 0) 0) nowhere (cond (eqb hi 0) passed (unwrap_or found 0))) × (result ≤ passed) }
 {
-    match found {
-        Some(s) => if hi == 0 { PASSED } else { s as u16 },
-        None => NOWHERE,
-    }
+    found.map_or(NOWHERE, |s| if hi == 0 { PASSED } else { s as u16 })
 }
 
 impl<const BUCKETS: usize> Slots<'_, BUCKETS> {
@@ -112,10 +109,7 @@ impl<const BUCKETS: usize> Slots<'_, BUCKETS> {
         requires { (unwrap_or found 0 ≤ self.used) × IfSome found (λ s. 1 ≤ s) }
         ensures { result ≡ cond (eqb (unwrap_or found 0) 0) no_bound (get_or self.entry.table.now (unwrap_or found 0) 0) }
     {
-        match found {
-            Some(s) => self.table[s],
-            None => NO_BOUND,
-        }
+        found.map_or(NO_BOUND, |s| self.table[s])
     }
 
     // Whether an entry holds at a place that does not list it: an at most that every record keeps, or a lack that the place implies, since it

@@ -9,7 +9,8 @@ use std::io::Read;
 
 // Reads until the buffer is full, the input ends or a read fails. Answers how many bytes it put at the start of the buffer, and whether a
 // read failed.
-// A `while` and no `for`: each read says how far the next one begins.
+// A `while` and no `for`: each read says how far the next one begins. A pair and no Result alone: `read_until_failure` needs the count where a
+// read fails too.
 fn fill<R: Read>(reader: &mut R, buffer: &mut [u8]) -> (usize, io::Result<()>)
     ensures within { result.0 ≤ length buffer.new }
     ensures bytes { Consumes (R.remaining reader.old) (R.remaining reader.new) (take result.0 buffer.new) }

@@ -73,7 +73,8 @@ fn write_unfolded(
 
 // Reads a dictionary and a description, an input of any number, and writes the plain description that it stands for in blocks from the start
 // of an output; returns its number of entries. Later bytes stay. Where anything is refused, or the output is shorter than what would be
-// written, the refusal is returned and no byte changes. An output of 8,192 bytes is never too short.
+// written, the refusal is returned and no byte changes. An output of 8,192 bytes is never too short. Here and in `unfold_both` the dictionary is
+// read first, into tables of the call's own: a Dictionary borrows them, so that no function can hand one out.
 pub fn unfold_into(dictionary: &[u8], d: &[u8], input: u16, out: &mut [u8]) -> Result<u16, Refusal>
     ensures { (result ≡ unfold_at dictionary.now input d.now out.old) × (out.new ≡ unfolded_at dictionary.now input d.now out.old) }
 {

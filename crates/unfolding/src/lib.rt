@@ -19,7 +19,8 @@ mod tables;
 
 pub use calls::{unfold, unfold_both, unfold_into};
 
-// What the entries of a description come to: how many they are once unfolded, and on how many levels these stand.
+// What the entries of a description come to: how many they are once unfolded, and on how many levels these stand. They are not yet held against
+// the limits, so that the numbers are wider than those of Measured.
 #[derive(Clone, Copy)]
 struct Extent {
     size: usize,

@@ -19,7 +19,7 @@ pub(crate) struct Place {
 }
 
 // Puts in what name n becomes, straight from the dictionary's bytes, at the place of o: the entries of its description, without names that
-// stand for nothing.
+// stand for nothing. Their number is found as `entries_in` of crate reading finds it, which is not public.
 fn put_described(dictionary: Dictionary, n: u16, o: u16, number: &mut [u16; 1009], out: &mut Rows)
     requires { (1 ≤ n) × (n ≤ length (dictionary_of dictionary.bytes.now)) × (length out.old + length (inside (dictionary_of dictionary.bytes.now) n) ≤ 1008) }
     ensures { out.new ≡ out.old ++ map (relocate (length out.old) o) (inside (dictionary_of dictionary.entry.bytes.now) n) }
@@ -94,6 +94,7 @@ pub(crate) fn unfold_rows(
     ensures { rows.new ≡ unfolded_by (dictionary_of dictionary.entry.bytes.now) next.old }
 {
     open_names(dictionary, next, inner, rows);
+    // `while` and no `for`: nothing is counted, and how many passes there are shows only as they are made.
     while rows.has_names() {
         next.copy_from(rows);
         open_names(dictionary, next, inner, rows);

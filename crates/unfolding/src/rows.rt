@@ -9,7 +9,8 @@ ghost use Rattle.unfolding.specs.code.Rows.{entries_in, entry_of_row};
 use blocks::{Entry, entries_in_order, kinds, pack};
 use std::marker::Model;
 
-// A table of at most 1,008 entries, which a contract sees as their list.
+// A table of at most 1,008 entries, which a contract sees as their list. It is no ArrayVec of the kit, since its model is the entries that the
+// numbers stand for, of which the contracts speak.
 #[derive(Drop)]
 pub(crate) struct Rows {
     pub(crate) numbers: [u64; 1008],
@@ -82,7 +83,7 @@ impl Rows {
     }
 }
 
-// The entry of a number.
+// The entry of a number. No `From<u64>`: Entry is a type of `blocks`, and only a row here is a number whose bytes are an entry's.
 pub(crate) fn entry_of_row(x: u64) -> Entry
     ensures { result ≡ entry_of_row x }
 {

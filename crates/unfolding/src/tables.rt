@@ -9,7 +9,7 @@ pub(crate) struct Described {
     pub(crate) levels: u8,
 }
 
-// What stands for no description.
+// What stands for no description. It is no Option: `count` tells which names have one.
 pub(crate) const BLANK: Described = Described {
     start: 0,
     size: 0,

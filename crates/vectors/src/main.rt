@@ -12,7 +12,7 @@ use blocks::Refusal;
 use compare::NotContained;
 use std::io;
 
-// The call of a vector, and what it is given.
+// The call of a vector, as the header's own number, and what it is given.
 #[derive(Drop)]
 struct Vector<'a> {
     call: u16,
@@ -21,6 +21,9 @@ struct Vector<'a> {
     first: &'a [u8],
     second: &'a [u8],
 }
+
+// No `Display` is plainer than the functions below: `Result` is the library's own and can be given none here, so each answer would need a struct
+// about it, with the same `match`; and two of them print an output too, which stands beside the answer.
 
 // Prints what reading answers.
 fn print_reading(rt: &impl Print, call: &str, answer: Result<u16, Refusal>) -> io::Result<()> {
@@ -79,7 +82,8 @@ fn print_comparison(
     print_digest(rt, out)
 }
 
-// Makes the call of a vector and prints its answer. The readers take neither a list nor a dictionary.
+// Makes the call of a vector and prints its answer. The readers take neither a list nor a dictionary. The calls go by the number in the header,
+// which the head of this file explains and only this `match` reads: by an enum they would be listed twice more, and then matched as here.
 fn run_call(rt: &impl Print, v: &Vector, out: &mut [u8]) -> io::Result<()> {
     match v.call {
         1 => print_reading(rt, "description", reading::read_description(v.first)),

@@ -82,7 +82,8 @@ fn put_blocks(out: &mut [u8], rows: &[u64], n: usize)
 
 // Writes the first `count` packed entries as blocks from the start of the output, and returns the number of bytes written;
 // later bytes stay. Where there are fewer entries, more than 2,016 are asked for, or the output is too short, nothing is
-// written and the result is 0.
+// written and the result is 0: that is the number of bytes written, as of any other call, and no mark. `count` stays beside the entries:
+// the call is public, and promises 0 where there are fewer.
 pub fn write_entries(out: &mut [u8], rows: &[u64], count: usize) -> usize
     ensures { (result ≡ bytes_written (length out.old) (length rows.now) count)
         × (out.new ≡ written out.old rows.now count) }

@@ -154,7 +154,7 @@ most-asked links e i lo hi k name small number none = (
   λ x. rw (below_end links x lo, none) (bool_cases (eqb x i.link.0) (λ y. rw y) (λ y. rw y)),
 )
 
--- ---- how much is asked for
+-- ---- how much is asked for: what two contracts said before the fields `few` and `near` of Items
 
 pub least-few : (r : Option Items) (x : ℕ) → least_asked r x ≤ 65536
 least-few None x = omega arith

@@ -17,6 +17,11 @@ abbrev pub link_in : Option Items → List ℕ
 link_in None = []
 link_in (Some i) = i.link.0 ∷ []
 
+-- the items that are asked for, if they are of link x
+abbrev pub of_link : Option Items → ℕ → Option Items
+of_link None x = None
+of_link (Some i) x = cond (eqb x i.link.0) (Some i) None
+
 -- how many items of link x are asked for
 abbrev pub least_asked : Option Items → ℕ → ℕ
 least_asked None x = 0

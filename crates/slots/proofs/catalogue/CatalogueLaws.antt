@@ -1,7 +1,8 @@
 -- Laws of judging a list: a description that is sent, one service, the services in turn, the list, and what stands before it.
 -- Assumes nothing.
-use Prim.Native.Nat.{◌%◌, ◌*◌, ◌+◌, ◌-◌, ◌<◌, ◌≤◌, suc, ℕ}
+use Prim.Native.Nat.{◌%◌, ◌*◌, ◌+◌, ◌<◌, ◌≤◌, suc, ℕ}
 use lib.Dec.{eqb}
+use mathlib.Core.Bool.{Bool}
 use lib.ListN.{length, set, take}
 use mathlib.Core.List.{List, [], ◌++◌, ◌∷◌, append_assoc, append-nil}
 use mathlib.Core.Logic.{◌≢◌}
@@ -25,7 +26,7 @@ use Rattle.names.specs.NamedReading.{dictionary_of, named_unfolding, sent_of, un
 use Rattle.pairs.specs.Pairs.{pairs_reading, under}
 use Rattle.slots.specs.Catalogue.{answers_after, bits_before, cut_reading, list_bits, list_reading, listed_bits, listed_reading, service_bit, services_reading}
 use Rattle.slots.specs.Holding.{failing_in}
-use Rattle.slots.specs.code.Judging.{Buffered, DictionaryTaken, JudgesAll, JudgesListed, JudgesSupplied, plain_judged, service_judged}
+use Rattle.slots.specs.code.Judging.{Buffered, DictionaryTaken, JudgesAll, JudgesListed, JudgesSupplied, Judgement, plain_judged, service_judged}
 use Rattle.blocks.specs.declared.Refusal.{Refusal}
 use Rattle.unfolding.proofs.BufferLaws.{at-buffer, buffer-plain, sent-itself, sent-plain}
 use Rattle.unfolding.specs.Answer.{unfold_at, unfolded_at}
@@ -51,10 +52,8 @@ module _ (D d : List ℕ) where
   pub judged-sent : length D ≡ 0 → d ≡ sent_of D d
   judged-sent z = sym (sent-itself D d z)
 
-  pub judged-buffer : (n : ℕ) (buffer : List ℕ) {k : ℕ} → length D ≢ 0 → k ≡ 512 * blocks_for plain n → Buffered D d n buffer → take (k - 0) buffer ≡ sent_of D d
-  judged-buffer n buffer z q B =
-      let same : 512 * blocks_for plain n - 0 ≡ 512 * blocks_for plain n = omega arith in
-      rw (q, same) (B (omega arith))
+  pub judged-buffer : (n : ℕ) (buffer : List ℕ) {k : ℕ} → length D ≢ 0 → k ≡ 512 * blocks_for plain n → Buffered D d n buffer → take k buffer ≡ sent_of D d
+  judged-buffer n buffer z q B = rw q (B (omega arith))
 
 -- ---- a dictionary that is accepted
 
@@ -75,13 +74,13 @@ module _ (P : List ℕ) {D : List ℕ} (T : DictionaryTaken D) (s : List ℕ) (i
   unfolding service_judged
   service-refused q = let w = read_as ∙ q in rw w
 
-  pub service-judged : {m x b : ℕ} → r ≡ Ok m → x ≡ failing_in (under P) s (sent_of D d) → b ≡ bit (eqb x 0) → Ok b ≡ service_judged P D s i d
-  unfolding service_judged service_bit
+  pub service-judged : {m x : ℕ} {b : Bool} → r ≡ Ok m → x ≡ failing_in (under P) s (sent_of D d) → b ≡ eqb x 0 → Ok b ≡ service_judged P D s i d
+  unfolding service_judged
   service-judged q f g = let w = read_as ∙ q in rw (w, g, f)
 
 -- with a dictionary of length 0 it is judged as it is sent
 pub service-plain : (P : List ℕ) {D : List ℕ} → DictionaryTaken D → (s : List ℕ) (i : ℕ) (d : List ℕ) → length D ≡ 0 → plain_judged P s i d ≡ service_judged P D s i d
-unfolding plain_judged service_judged service_bit
+unfolding plain_judged service_judged
 service-plain P {D} T s i d z =
     let read = nameless-sent i d D z ∙ taken-goes T i d in
     let same = sent-itself D d z in
@@ -93,16 +92,18 @@ module _ (P D s : List ℕ) (i : ℕ) (d : List ℕ) where
   unfolding service_judged
   refused_as {x} q =
       reading-cases (named_unfolding (dictionary_of D) i d)
-      (λ k j p e. let z : ◌≡◌ {A = Reading} (Err x) (refused k j p) = q ∙ rw e in
+      (λ k j p e. let z : ◌≡◌ {A = Judgement} (Err x) (refused k j p) = q ∙ rw e in
       let g : refusal k j p ≡ x = cc in e ∙ ap Err g)
-      (λ n e. let z : ◌≡◌ {A = Reading} (Err x) (Ok (service_bit P D s d)) = q ∙ rw e in let y : ◌≡◌ {A = ℕ} 0 1 = cc in absurd (omega arith))
+      (λ n e. let z : ◌≡◌ {A = Judgement} (Err x) (Ok (eqb (failing_in (under P) s (sent_of D d)) 0)) = q ∙ rw e in let y : ◌≡◌ {A = ℕ} 0 1 = cc in absurd (omega arith))
 
-  judged-as : {X : Type 0} {b : ℕ} → Ok b ≡ service_judged P D s i d → ((m : ℕ) → named_unfolding (dictionary_of D) i d ≡ Ok m → b ≡ service_bit P D s d → X) → X
-  unfolding service_judged
+  -- a byte is that of the answer
+  judged-as : {X : Type 0} {b : Bool} → Ok b ≡ service_judged P D s i d → ((m : ℕ) → named_unfolding (dictionary_of D) i d ≡ Ok m → bit b ≡ service_bit P D s d → X) → X
+  unfolding service_judged service_bit
   judged-as {b = b} q f =
       reading-cases (named_unfolding (dictionary_of D) i d)
-      (λ k j p e. let z : Ok b ≡ refused k j p = q ∙ rw e in let y : ◌≡◌ {A = ℕ} 0 1 = cc in absurd (omega arith))
-      (λ m e. let z : Ok b ≡ Ok (service_bit P D s d) = q ∙ rw e in let y : b ≡ service_bit P D s d = cc in f m e y)
+      (λ k j p e. let z : ◌≡◌ {A = Judgement} (Ok b) (refused k j p) = q ∙ rw e in let y : ◌≡◌ {A = ℕ} 0 1 = cc in absurd (omega arith))
+      (λ m e. let z : ◌≡◌ {A = Judgement} (Ok b) (Ok (eqb (failing_in (under P) s (sent_of D d)) 0)) = q ∙ rw e in
+      let y : b ≡ eqb (failing_in (under P) s (sent_of D d)) 0 = cc in f m e (ap bit y))
 
 -- ---- the services in turn
 
@@ -118,7 +119,7 @@ pub passing-start : (P D s list old : List ℕ) {left : List (List ℕ)} → lef
 passing-start P D s list old e = rw e (record { done = []; count = refl; filled = stored-none old 0; same = refl; bits = refl })
 
 module _ {P D s list old : List ℕ} {left : List (List ℕ)} {n : ℕ} {answers : List ℕ} (A : Passing P D s list old left n answers) where
-  module _ {next : List ℕ} {rest : List (List ℕ)} (e : left ≡ next ∷ rest) {r : Reading} (w : r ≡ service_judged P D s (2 + n) next) where
+  module _ {next : List ℕ} {rest : List (List ℕ)} (e : left ≡ next ∷ rest) {r : Judgement} (w : r ≡ service_judged P D s (2 + n) next) where
     -- refused, it is the answer, and the bytes are those before it
     pub passing-refused : {x : Refusal} → r ≡ Err x → JudgesAll P D s list old (Err x) answers
     unfolding services_reading bits_before
@@ -129,19 +130,19 @@ module _ {P D s list old : List ℕ} {left : List (List ℕ)} {n : ℕ} {answers
         )
 
     -- judged, it is one of those that are passed
-    pub passing-more : {b : ℕ} → r ≡ Ok b → Passing P D s list old rest (n + 1) (set answers n b)
+    pub passing-more : {b : Bool} {x : ℕ} → r ≡ Ok b → x ≡ bit b → Passing P D s list old rest (n + 1) (set answers n x)
     unfolding services_reading bits_before
-    passing-more {b} q =
+    passing-more {b} {x} q byte =
         judged-as P D s (2 + n) next (sym q ∙ w) (λ m M is.
         let two : 2 + (n + 1) ≡ suc (2 + n) = omega arith in
         let behind = bits_before P D s (suc (2 + n)) rest in
-        let more : bits_before P D s 2 (parts_of list) ≡ A.done ++ (b ∷ behind) = A.bits ∙ rw (e, M, is) in
+        let more : bits_before P D s 2 (parts_of list) ≡ A.done ++ (x ∷ behind) = A.bits ∙ rw (e, M, byte, is) in
         record {
-          done = A.done ++ (b ∷ []);
-          count = sym (length_push A.done b ∙ ap (λ (k : ℕ). k + 1) (sym A.count));
-          filled = stored-then old A.done (b ∷ []) 0 n A.filled (stored_one answers n b) (omega (arith, A.count));
+          done = A.done ++ (x ∷ []);
+          count = sym (length_push A.done x ∙ ap (λ (k : ℕ). k + 1) (sym A.count));
+          filled = stored-then old A.done (x ∷ []) 0 n A.filled (stored_one answers n x) (omega (arith, A.count));
           same = A.same ∙ rw (e, M, two);
-          bits = rw two (more ∙ sym (append_assoc A.done (b ∷ []) behind));
+          bits = rw two (more ∙ sym (append_assoc A.done (x ∷ []) behind));
         })
 
   -- at the end all are judged

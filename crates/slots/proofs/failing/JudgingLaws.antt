@@ -5,14 +5,14 @@ use lib.ListN.{length}
 use mathlib.Core.Bool.{Bool, false, true}
 use mathlib.Core.List.{List}
 use mathlib.Core.Logic.{◌≢◌}
-use mathlib.Core.Path.{◌∙◌, ◌≡◌, ap, sym}
+use mathlib.Core.Path.{◌∙◌, ◌≡◌, ap, refl, sym}
 use native.Mathlib.Omega.{arith}
 use Rattle.base.proofs.Tests.{bool_cases, eq-cases, eq-eqb, ge-ltb, lt-ltb, ne_eqb}
 use Rattle.base.specs.Search.{first_from}
 use Rattle.blocks.proofs.RoundTrip.Accepting.{sound-of-accepted}
 use Rattle.blocks.specs.Entries.{entries_of}
 use Rattle.blocks.specs.Reading.{reading_of}
-use Rattle.std.specs.Prelude.{Err, Ok, Option}
+use Rattle.std.specs.Prelude.{Err, IfSome, None, Ok, Option, Some, eqb, is_some, not, unwrap_or}
 use Rattle.blocks.specs.Refusals.{refused}
 use Rattle.blocks.specs.declared.Refusal.{Refusal}
 use Rattle.blocks.specs.declared.Schema.TheVariants.{Description}
@@ -28,6 +28,14 @@ use Rattle.slots.specs.code.States.{Indexed, holds_by_slots}
 use Rattle.slots.specs.code.Tables.{Chained, Held, slots_of}
 use Rattle.slots.specs.declared.Unheld.{Unheld}
 use Rattle.blocks.specs.declared.Cause.TheVariants.{Room}
+
+-- ---- an entry fails, or none
+
+pub none-fails : (f : Option ℕ) → IfSome f (λ n. 1 ≤ n) → (b : Bool) → is_some f ≡ not b → b ≡ eqb (unwrap_or f 0) 0
+none-fails None h true e = refl
+none-fails None h false e = cc
+none-fails (Some n) h true e = cc
+none-fails (Some n) h false e = sym (ne_eqb (omega arith))
 
 -- ---- an input is refused, or the table is too short: it stays
 

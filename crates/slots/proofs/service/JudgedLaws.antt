@@ -6,11 +6,10 @@ use mathlib.Core.Bool.{Bool, false, true}
 use mathlib.Core.List.{List, []}
 use mathlib.Core.Path.{◌∙◌, ◌≡◌, ap, refl, subst, sym}
 use Rattle.std.specs.Prelude.{Option, unwrap_or, Err, Ok, Result}
-use Rattle.base.specs.Range.{bit}
 use Rattle.blocks.proofs.Refusing.SingleFirst.{named-first}
 use Rattle.blocks.specs.Entries.{entries_of}
 use Rattle.blocks.specs.Faults.{entry_faults, first}
-use Rattle.blocks.specs.Reading.{answer, reading_of, Reading}
+use Rattle.blocks.specs.Reading.{answer, reading_of}
 use Rattle.blocks.specs.Refusals.{refused}
 use Rattle.blocks.specs.declared.Refusal.{Refusal}
 use Rattle.blocks.specs.declared.Schema.TheVariants.{Description, Named}
@@ -20,7 +19,7 @@ use Rattle.pairs.specs.Pairs.{under}
 use Rattle.slots.proofs.FailingLaws.{accepted-few}
 use Rattle.slots.proofs.failing.JudgingLaws.{failing-bottom, failing-found}
 use Rattle.slots.specs.Holding.{failing_in}
-use Rattle.slots.specs.code.Judging.{bit_unless, plain_judged}
+use Rattle.slots.specs.code.Judging.{Judgement, plain_judged, unless_told}
 use Rattle.slots.specs.code.Pass.{PassedAll}
 use Rattle.slots.specs.code.Tables.{Held}
 use Rattle.unfolding.proofs.BufferLaws.{sent-itself}
@@ -39,7 +38,7 @@ module _ (P c : List ℕ) (i : ℕ) (d : List ℕ) where
 
   -- nothing fits the supplier's
   pub plain-broken : LawfulBackground (under P) → {t next head : List ℕ} {used : ℕ} {impossible : Bool} → Held (under P) c used t next head impossible → impossible ≡ true
-      → {r : Reading} → r ≡ bit_unless (reading_of (Named 0) i d) 1 → r ≡ plain_judged P c i d
+      → {r : Judgement} → r ≡ unless_told (reading_of (Named 0) i d) true → r ≡ plain_judged P c i d
   unfolding plain_judged
   plain-broken law H z e = let none = failing-bottom law c d H z in e ∙ rw (← none)
 
@@ -52,8 +51,8 @@ module _ (P c : List ℕ) (i : ℕ) (d : List ℕ) where
         let whose : refused x.cause i x.place ≡ Err x = ap (λ (j : ℕ). refused x.cause j x.place) (sym f.1) in
         plain-refused (e ∙ rw (sym (named-first 0 (entries_of d) total) ∙ f.0) whose)
 
-    pub entries-judged : LawfulBackground (under P) → {impossible : Bool} → Held (under P) c used t next head impossible → impossible ≡ false → {f : Option ℕ} {x : ℕ} → r ≡ Ok f
-        → x ≡ bit (eqb (unwrap_or f 0) 0) → Ok x ≡ plain_judged P c i d
+    pub entries-judged : LawfulBackground (under P) → {impossible : Bool} → Held (under P) c used t next head impossible → impossible ≡ false → {f : Option ℕ} {x : Bool} → r ≡ Ok f
+        → x ≡ eqb (unwrap_or f 0) 0 → Ok x ≡ plain_judged P c i d
     unfolding plain_judged
     entries-judged law H z {f} q is =
         let F = subst (PassedAll (under P) d t next head used total i) q A in

@@ -1,17 +1,17 @@
 -- What judging a list of descriptions by the slots of one is told, and what each step of it does.
 -- Assumes nothing.
-use Rattle.std.specs.Prelude.{◌*◌, ◌<◌, ℕ, eqb, length, take, List, [], ◌≡◌, Ok, Err}
-use Rattle.base.specs.Range.{bit}
+use Rattle.std.specs.Prelude.{◌*◌, ◌<◌, ℕ, eqb, length, take, Bool, List, [], ◌≡◌, Ok, Err, Result}
 use Rattle.base.specs.Stores.{stored}
 use Rattle.blocks.specs.Encoding.{blocks_for}
 use Rattle.blocks.specs.Frame.{plain}
 use Rattle.blocks.specs.Reading.{reading_of, Reading}
 use Rattle.blocks.specs.Refusals.{unless_refused}
+use Rattle.blocks.specs.declared.Refusal.{Refusal}
 use Rattle.blocks.specs.declared.Schema.TheVariants.{Named}
 use Rattle.lists.specs.Parts.{parts_of}
 use Rattle.names.specs.NamedReading.{dictionary_of, dictionary_reading, named_unfolding, sent_of, unfolding_of}
 use Rattle.pairs.specs.Pairs.{under}
-use Rattle.slots.specs.Catalogue.{bits_before, listed_bits, listed_reading, service_bit, services_reading}
+use Rattle.slots.specs.Catalogue.{bits_before, listed_bits, listed_reading, services_reading}
 use Rattle.slots.specs.Holding.{failing_in}
 
 -- a dictionary is accepted
@@ -23,16 +23,20 @@ pub record DictionaryTaken (D : List ℕ) : Type 0 where
 abbrev pub Buffered : List ℕ → List ℕ → ℕ → List ℕ → Type 0
 Buffered D d n buffer = 0 < length D → take (512 * blocks_for plain n) buffer ≡ sent_of D d
 
--- what judging one service with no names answers, as input i: its byte, unless it is refused
-abbrev pub bit_unless : Reading → ℕ → Reading
-bit_unless r x = unless_refused Err r (Ok x)
+-- whether one service is contained, or why it is refused
+abbrev pub Judgement : Type 0
+Judgement = Result Bool Refusal
 
-unfoldable pub plain_judged : List ℕ → List ℕ → ℕ → List ℕ → Reading
-plain_judged P s i d = bit_unless (reading_of (Named 0) i d) (bit (eqb (failing_in (under P) s d) 0))
+-- what judging one service with no names answers, as input i: whether it is contained, unless it is refused
+abbrev pub unless_told : Reading → Bool → Judgement
+unless_told r x = unless_refused Err r (Ok x)
 
--- what judging one service answers, as input i, by the bytes that a call goes on with for the supplier
-unfoldable pub service_judged : List ℕ → List ℕ → List ℕ → ℕ → List ℕ → Reading
-service_judged P D s i d = unless_refused Err (named_unfolding (dictionary_of D) i d) (Ok (service_bit P D s d))
+unfoldable pub plain_judged : List ℕ → List ℕ → ℕ → List ℕ → Judgement
+plain_judged P s i d = unless_told (reading_of (Named 0) i d) (eqb (failing_in (under P) s d) 0)
+
+-- what judging one service answers, as input i, by the bytes that a call goes on with for the supplier: its byte is that of this answer
+unfoldable pub service_judged : List ℕ → List ℕ → List ℕ → ℕ → List ℕ → Judgement
+service_judged P D s i d = unless_refused Err (named_unfolding (dictionary_of D) i d) (Ok (eqb (failing_in (under P) s (sent_of D d)) 0))
 
 -- what judging all of a list does with a table, where the list is cut into at most 64
 abbrev pub JudgesAll : List ℕ → List ℕ → List ℕ → List ℕ → List ℕ → Reading → List ℕ → Type 0

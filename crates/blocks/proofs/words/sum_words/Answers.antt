@@ -1,13 +1,8 @@
 use Rattle.std.proofs.Common.{◌≡◌, refl, ap, ◌%◌, arith}
-use Rattle.base.specs.Range.{sum}
 use Rattle.blocks.proofs.words.WordLaws.{sum_more, sum_to}
 use Rattle.blocks.specs.Words.{word_at}
 use Rattle.blocks.specs.code.WordPairs.{pair}
 use Rattle.blocks.proofs.words.sum_words.Goals as goal
-
-pub loop-bytes-init : goal.loop-bytes-init
-unfolding sum
-loop-bytes-init c = refl
 
 pub loop-bytes-preserved : goal.loop-bytes-preserved
 unfolding pair word_at

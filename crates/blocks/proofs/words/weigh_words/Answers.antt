@@ -1,13 +1,8 @@
 use Rattle.std.proofs.Common.{◌≡◌, refl, add-one, arith}
-use Rattle.base.specs.Range.{sum}
 use Rattle.blocks.proofs.words.WordLaws.{sum_more, sum_to}
 use Rattle.blocks.specs.Words.{word_at}
 use Rattle.blocks.specs.code.WordPairs.{pair, weighted_pair}
 use Rattle.blocks.proofs.words.weigh_words.Goals as goal
-
-pub loop-k-init : goal.loop-k-init
-unfolding sum
-loop-k-init c = refl
 
 pub loop-k-preserved : goal.loop-k-preserved
 unfolding pair weighted_pair word_at

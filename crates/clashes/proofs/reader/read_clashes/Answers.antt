@@ -1,6 +1,9 @@
 -- `read_clashes` meets its contract.
 use Rattle.std.proofs.Common.{◌∙◌, ap, arith}
 use Rattle.base.specs.Search.{first_from}
+use Rattle.blocks.proofs.RoundTrip.Accepting.{sound-of-accepted}
+use Rattle.blocks.proofs.RoundTrip.Faithful.{entries-whole}
+use Rattle.blocks.specs.declared.Schema.TheVariants.{Specimen}
 use Rattle.clashes.proofs.Ways.{by-clash, few-entries, list-few, many-entries, without-clash}
 use Rattle.clashes.proofs.reader.read_clashes.Goals as goal
 
@@ -8,7 +11,9 @@ pub first_clash-requires : goal.first_clash-requires
 first_clash-requires c =
     let p = c.requires in
     let same = c.from.ensures in
-    (list-few _ p.0, omega (arith, few-entries _ _ p.0 p.1), omega (arith, many-entries _ _ p.0 p.1))
+    let many = many-entries _ _ p.0 p.1 in
+    let whole = entries-whole (sound-of-accepted Specimen 1 c.args.s.now p.1).blocks in
+    (list-few _ p.0, omega (arith, few-entries _ _ p.0 p.1), omega (arith, many), omega (arith, many, whole))
 
 pub returns-in-Some : goal.returns-in-Some
 returns-in-Some c =

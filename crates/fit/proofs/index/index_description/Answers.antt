@@ -6,7 +6,8 @@ use native.Mathlib.Omega.{arith}
 use Rattle.blocks.specs.Entries.{entries_of}
 use Rattle.blocks.specs.Owners.{owner_of}
 use Rattle.fit.proofs.bare.MarkLaws.{marks-next, marks-start}
-use Rattle.fit.proofs.entries.PassLaws.{Now, begun, ended, owner-here, turned}
+use Rattle.blocks.proofs.Refusing.PassLaws.{Now, ended, turned}
+use Rattle.fit.proofs.entries.PassLaws.{begun-all, owner-here}
 use Rattle.fit.proofs.index.BucketWalk.{index-more, index-starts}
 use Rattle.fit.specs.code.Bare.{demands}
 use Rattle.fit.proofs.index.index_description.Goals.{After-from}
@@ -16,7 +17,7 @@ pub loop-before-init : goal.loop-before-init
 loop-before-init c =
     let r = c.requires in
     let n = c.enumerate-before-items.ensures in
-    let o = begun r.0 r.1 r.2 r.4 c.entries_in_order.ensures.items n.source n.count c.into_iter-before-iterator.ensures.into_iter_gives in
+    let o = begun-all r.0 r.1 r.2 r.4 c.entries_in_order.ensures.items n.source n.count c.into_iter-before-iterator.ensures.into_iter_gives in
     record { goes = (tt, tt, o.1); ends = tt; over = o.0; index = index-starts _ _ (omega (arith, r.1)) r.2 r.5; marks = marks-start demands _ r.6 }
 
 -- the turn: which entry it has, and that its owner stands before it

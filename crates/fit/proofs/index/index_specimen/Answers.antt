@@ -3,7 +3,8 @@ use lib.ListN.{length, length-replicate}
 use mathlib.Core.Path.{◌∙◌, ap, refl, sym}
 use native.Mathlib.Omega.{arith}
 use Rattle.blocks.specs.Entries.{entries_of}
-use Rattle.fit.proofs.entries.PassLaws.{begun, ended, turned}
+use Rattle.blocks.proofs.Refusing.PassLaws.{ended, turned}
+use Rattle.fit.proofs.entries.PassLaws.{begun-all}
 use Rattle.fit.proofs.index.BucketLaws.{bucket-specimen}
 use Rattle.fit.proofs.index.BucketWalk.{index-more, index-starts}
 use Rattle.fit.proofs.index.index_specimen.Goals as goal
@@ -12,7 +13,7 @@ pub loop-before-init : goal.loop-before-init
 loop-before-init c =
     let r = c.requires in
     let n = c.enumerate-before-items.ensures in
-    let o = begun r.0 r.1 r.2 r.4 c.entries_in_order.ensures.items n.source n.count c.into_iter-before-iterator.ensures.into_iter_gives in
+    let o = begun-all r.0 r.1 r.2 r.4 c.entries_in_order.ensures.items n.source n.count c.into_iter-before-iterator.ensures.into_iter_gives in
     record { goes = (tt, tt, o.1); ends = tt; over = o.0; index = index-starts _ _ (omega (arith, r.1)) r.2 r.6 }
 
 pub bounds-marks-n : goal.bounds-marks-n

@@ -1,12 +1,12 @@
 -- `total_read` meets its contract: what the reader answers, an accepted input's total or none.
-use mathlib.Core.Path.{◌∙◌, ap, sym}
+use Rattle.std.proofs.Common.{◌≡◌, ◌∙◌, ap, ℕ, MatchResult, Ok, Err}
 use Rattle.blocks.specs.Reading.{returned, total_read, Reading}
 use Rattle.lent.proofs.held.total_read.Goals as goal
 
-pub returns-in-Ok : goal.returns-in-Ok
-unfolding total_read
-returns-in-Ok c = ap (λ (a : Reading). (returned a).entries) (sym c.in-Ok.is ∙ c.read.ensures)
+number : (a : Reading) (n : ℕ) → MatchResult a (λ x. n ≡ x) (λ _. n ≡ 0) → n ≡ (returned a).entries
+number (Ok x) n p = p
+number (Err e) n p = p
 
-pub returns-in-Err : goal.returns-in-Err
+pub returns : goal.returns
 unfolding total_read
-returns-in-Err c = ap (λ (a : Reading). (returned a).entries) (sym c.in-Err.is ∙ c.read.ensures)
+returns c = number c.read.result c.map_or.result c.map_or.ensures ∙ ap (λ (a : Reading). (returned a).entries) c.read.ensures

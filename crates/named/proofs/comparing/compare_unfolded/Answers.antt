@@ -2,9 +2,9 @@
 use Prim.Native.Nat.{ℕ}
 use mathlib.Core.List.{List}
 use mathlib.Core.Path.{◌∙◌, ap₂, sym}
-use native.Mathlib.Omega.{arith}
 use Rattle.compare.specs.Answer.{compare_of, output_of}
 use Rattle.named.proofs.UnfoldedLaws.{both-buffers, both-unfolded, comparison-goes, comparison-refused, first_part_lem, second-part}
+use Rattle.std.proofs.lemmas.List.{length-take-le}
 use Rattle.std.proofs.lemmas.Result.{err_from_is_err_and}
 use Rattle.named.proofs.comparing.compare_unfolded.Goals as goal
 
@@ -30,8 +30,8 @@ slice_bounds-compare-end c =
     let u = c.unfold_both.ensures in
     (first_part_lem D c₀ d₀ b₁ b₂ c.requires.2 c.requires.3 u.0 u.1 u.2 c.in_ok-n.was c.bytes_for-first.ensures.0).1
 
-pub slice_bounds-compare-end-2 : goal.slice_bounds-compare-end-2
-slice_bounds-compare-end-2 c =
+pub slice_bounds-compare-end-3 : goal.slice_bounds-compare-end-3
+slice_bounds-compare-end-3 c =
     let D = c.args.dictionary.now in
     let c₀ = c.args.c.now in
     let d₀ = c.args.d.now in
@@ -58,8 +58,8 @@ returns c =
     let r = c.compare.ensures in
     (r.0 ∙ ap₂ (λ (x y : List ℕ). compare_of P x y o) f s ∙ g.0, r.1 ∙ ap₂ (λ (x y : List ℕ). output_of P x y o) f s ∙ g.1)
 
-pub slice_bounds-compare-start : goal.slice_bounds-compare-start
-slice_bounds-compare-start c = omega arith
+pub slice_bounds-compare-end-2 : goal.slice_bounds-compare-end-2
+slice_bounds-compare-end-2 c = sym (length-take-le _ _ (slice_bounds-compare-end c))
 
-pub slice_bounds-compare-start-2 : goal.slice_bounds-compare-start-2
-slice_bounds-compare-start-2 c = omega arith
+pub slice_bounds-compare-end-4 : goal.slice_bounds-compare-end-4
+slice_bounds-compare-end-4 c = sym (length-take-le _ _ (slice_bounds-compare-end-3 c))

@@ -1,8 +1,7 @@
--- `answer_sent` meets its contract, by the answer.
+-- `answer_sent` meets its contract, by what `map_err` gives.
+use Rattle.std.proofs.Common.{rules}
+use Rattle.named.proofs.SentLaws.{sent-mapped}
 use Rattle.named.proofs.fitting.answer_sent.Goals as goal
 
-pub returns-in-Err : goal.returns-in-Err
-returns-in-Err c = rw (c.in-Err.is, c.sent_as.ensures)
-
-pub returns-in-Ok : goal.returns-in-Ok
-returns-in-Ok c = rw c.in-Ok.is
+pub returns : goal.returns
+returns c = sent-mapped c.args.d.now 2 c.args.answer (λ e x p. search rules) c.map_err.ensures.cases

@@ -1,19 +1,19 @@
 -- `fit` meets its contract: as it is sent, or the list is refused, or unfolded.
 use mathlib.Core.Path.{◌∙◌, sym}
-use native.Mathlib.Omega.{arith}
+use Rattle.base.proofs.Tests.{eqb-eq}
 use Rattle.named.proofs.SentLaws.{fit_none}
-use Rattle.named.proofs.UnfoldedLaws.{fit-list}
+use Rattle.named.proofs.UnfoldedLaws.{fit-list, goes-on}
 use Rattle.std.proofs.lemmas.Result.{err_from_is_err_and}
 use Rattle.named.proofs.fitting.fit.Goals as goal
 
-pub returns-then-dictionary-eq0 : goal.returns-then-dictionary-eq0
-returns-then-dictionary-eq0 c =
-    fit_none c.args.pairs.now c.args.dictionary.now c.if-dictionary-eq0.true c.args.specimen.now c.args.description.now c.fit_sent.ensures
+pub returns-then-is_empty : goal.returns-then-is_empty
+returns-then-is_empty c =
+    let z = eqb-eq (sym c.is_empty.ensures ∙ c.if-is_empty.true) in
+    fit_none c.args.pairs.now c.args.dictionary.now z c.args.specimen.now c.args.description.now c.fit_sent.ensures
 
 pub fit_named-requires : goal.fit_named-requires
 fit_named-requires c =
-    let read = sym c.read_pairs.ensures ∙ c.in_ok-read_pairs.was in
-    (omega (arith, c.if-dictionary-eq0.false), record { count = _; taken = read })
+    goes-on c.args.pairs.now c.args.dictionary.now c.is_empty.ensures c.if-is_empty.false c.read_pairs.ensures c.in_ok-read_pairs.was
 
 pub returns-in_err-read_pairs : goal.returns-in_err-read_pairs
 returns-in_err-read_pairs c =

@@ -5,6 +5,7 @@ use mathlib.Core.Path.{◌∙◌, ap, sym}
 use native.Mathlib.Omega.{arith}
 use Rattle.fit.specs.Answer.{fit_of}
 use Rattle.named.proofs.UnfoldedLaws.{fit-early, fit-goes, fit-late, part-ends, part-plain}
+use Rattle.std.proofs.lemmas.List.{length-take-le}
 use Rattle.unfolding.proofs.BufferLaws.{at-buffer}
 use Rattle.named.proofs.fitting.fit_unfolded.Goals as goal
 
@@ -51,5 +52,5 @@ returns-in-Ok c =
     let p = part-plain D 2 d e b c.requires.2 u.1 c.bytes_for-end.ensures.0 in
     c.fit.ensures ∙ ap (λ (x : List ℕ). fit_of P s x) p ∙ fit-goes P D c.requires.0 c.requires.1 s d e
 
-pub slice_bounds-fit-start : goal.slice_bounds-fit-start
-slice_bounds-fit-start c = omega arith
+pub slice_bounds-fit-end-in-Ok : goal.slice_bounds-fit-end-in-Ok
+slice_bounds-fit-end-in-Ok c = sym (length-take-le _ _ (slice_bounds-fit-end c))

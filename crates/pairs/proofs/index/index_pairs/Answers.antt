@@ -1,12 +1,8 @@
-use Rattle.std.proofs.Common.{◌≡◌, ◌∙◌, min, ap, refl, arith}
+use Rattle.std.proofs.Common.{◌≡◌, ◌∙◌, min, ap, arith}
 use Rattle.pairs.proofs.IndexLaws.{indexed-more}
 use Rattle.pairs.specs.Pairs.{pair_count}
 use Rattle.pairs.specs.code.Index.{indexed_to, named_count}
 use Rattle.pairs.proofs.index.index_pairs.Goals as goal
-
-pub loop-k-init : goal.loop-k-init
-unfolding indexed_to
-loop-k-init c = refl
 
 pub note-requires : goal.note-requires
 unfolding pair_count

@@ -15,7 +15,7 @@ loop-b-preserved c =
     let n = length-take (a.to - a.from) (drop a.from a.s.now) in
     let e = get_or-take (a.to - a.from) (drop a.from a.s.now) i 0 (omega arith) ∙ get_or-drop a.from a.s.now i 0 in
     let next : a.from + (i + 1) ≡ a.from + i + 1 = omega arith in
-    rw next (c.loop-b.invariant ∙ found-more (zero_at a.s.now) (a.from + i) a.to c.loop-b.found (omega arith) (rw e at c.found_with-found.ensures))
+    rw (next, e) (c.loop-b.invariant ∙ found-more (zero_at a.s.now) (a.from + i) a.to c.loop-b.found (omega arith))
 
 pub returns : goal.returns
 returns c =

@@ -8,9 +8,9 @@ use Rattle.reading.proofs.reader.read_entries.Goals as goal
 pub returns-in_err-check_entries : goal.returns-in_err-check_entries
 returns-in_err-check_entries c =
     let p = err_from_is_err_and c.from_residual.result c.from_residual.ensures.1 in
-    rw (p.1, p.2) (refused-alike c.args.input tt c.args.total _ (sym c.check_entries.ensures ∙ c.in_err-check_entries.was))
+    rw (p.1, p.2) (refused-alike c.args.input tt c.args.total _ (sym (rw c.from.ensures at c.check_entries.ensures) ∙ c.in_err-check_entries.was))
 
 pub returns : goal.returns
 returns c =
-    let f = accepted-finding c.args.input tt _ (sym c.check_entries.ensures ∙ c.in_ok-check_entries.was) in
+    let f = accepted-finding c.args.input tt _ (sym (rw c.from.ensures at c.check_entries.ensures) ∙ c.in_ok-check_entries.was) in
     sym (ap (answer c.args.input c.args.total) f.1)

@@ -1,10 +1,7 @@
 -- `judge_list` meets its contract: the list of pairs is refused, or accepted and indexed.
-use Prim.Native.Nat.{ℕ}
-use Rattle.std.proofs.Common.{List, subst}
+use Rattle.std.proofs.Common.{List, ℕ, subst}
 use Rattle.slots.specs.code.Judging.{JudgesSupplied}
-use lib.ListN.{length-replicate}
 use mathlib.Core.Path.{◌∙◌, sym}
-use native.Mathlib.Omega.{arith}
 use Rattle.pairs.proofs.IndexLaws.{list-whole}
 use Rattle.pairs.proofs.PairsAccepted.{list-few}
 use Rattle.pairs.proofs.Under.{ruled-under}
@@ -16,7 +13,7 @@ pub judge_supplied-requires : goal.judge_supplied-requires
 judge_supplied-requires c =
     let e = sym c.read_pairs.ensures ∙ c.in_ok-read_pairs.was in
     let few = list-few _ e in
-    (rw (c.new-exclusions.ensures ∙ list-whole _ few) (ruled-under _ e), omega (arith, length-replicate {A = ℕ} 8192 0))
+    rw (c.new-exclusions.ensures ∙ list-whole _ few) (ruled-under _ e)
 
 pub returns-in_err-read_pairs : goal.returns-in_err-read_pairs
 returns-in_err-read_pairs c =

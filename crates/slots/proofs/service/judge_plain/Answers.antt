@@ -8,15 +8,14 @@ use Rattle.slots.proofs.service.judge_plain.Goals as goal
 
 pub returns-then-supplier : goal.returns-then-supplier
 returns-then-supplier c =
-    λ s H. plain-broken c.args.supplier.exclusions.pairs.now s c.args.input c.args.d.now c.requires.0.lawful H c.if-supplier.true c.judge_broken.ensures
+    λ s H. plain-broken c.args.supplier.exclusions.pairs.now s c.args.input c.args.d.now c.args.supplier.ruled.lawful H c.if-supplier.true c.judge_broken.ensures
 
 pub judge_entries-requires : goal.judge_entries-requires
 judge_entries-requires c =
-    let p = c.requires in
     let r = c.read_blocks.ensures in
     let q = c.in_ok-total.was in
     let w = blocks-whole (Named 0) c.args.input c.args.d.now r q in
-    (p.0, c.if-supplier.false, blocks-accepted (Named 0) c.args.input c.args.d.now r q, w.0, omega (arith, w.1), w.2, p.1, omega arith)
+    (c.if-supplier.false, blocks-accepted (Named 0) c.args.input c.args.d.now r q, w.0, omega (arith, w.1), w.2)
 
 pub returns-in_err-total : goal.returns-in_err-total
 returns-in_err-total c =

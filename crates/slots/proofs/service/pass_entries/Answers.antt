@@ -25,8 +25,8 @@ loop-before-init c =
     let p = c.requires in
     let z = c.enumerate-rest.ensures.count in
     record {
-      resting = resting-start (begins c) z (levels-start _ _ c.args.level.now (omega (arith, p.0, p.4)));
-      judged = rw z (judged-start c.args.states.now (omega (arith, p.0, p.3)));
+      resting = resting-start (begins c) z (levels-start _ _ c.args.level.now (omega (arith, p.0, p.1)));
+      judged = rw z (judged-start c.args.states.now (omega (arith, p.0, p.1)));
     }
 
 pub returns-in_err-check_entry : goal.returns-in_err-check_entry

@@ -1,9 +1,9 @@
-use Rattle.std.proofs.Common.{◌≡◌, ◌+◌, ◌≤◌, sym, ◌++◌, ◌∷◌, [], ap, length, length-take, ◌∙◌, arith}
-use Rattle.std.proofs.lemmas.List.{length_push}
+use Rattle.std.proofs.Common.{◌≡◌, ◌+◌, ◌<◌, ◌≤◌, sym, length, length-take, ◌∙◌, arith}
 use Rattle.base.proofs.Tests.{eq-eqb, ne_eqb}
-use Rattle.blocks.proofs.Refusing.InOrder.{Turn, may-number, over-numbered, turn-numbered, turned-all-numbered}
+use Rattle.blocks.proofs.Refusing.InOrder.{may-number, over-numbered, turned-all-numbered}
+use Rattle.blocks.proofs.Refusing.PassLaws.{Now, turned}
 use Rattle.blocks.proofs.Refusing.LevelLaws.{level-passed}
-use Rattle.blocks.specs.Entries.{entries_of, entry_from, is_named}
+use Rattle.blocks.specs.Entries.{entries_of, is_named}
 use Rattle.blocks.specs.code.ReadingSteps.{entry_refusal, level_by}
 use Rattle.blocks.specs.declared.Schema.TheVariants.{Named}
 use Rattle.names.proofs.Dictionary.ByAllValues.{given-name}
@@ -11,21 +11,15 @@ use Rattle.unfolding.proofs.Measuring.{Past, name-level, other-level, other-rule
 use Rattle.unfolding.specs.code.Known.{levels_in, size_in}
 use mathlib.Core.Bool.{false, true}
 use mathlib.Core.Path.{refl}
-use Rattle.unfolding.proofs.measure.check_entries.Goals.{After-entry_refusal, After-owner_level-l, In-Some}
+use Rattle.unfolding.proofs.measure.check_entries.Goals.{After-entry_refusal, After-owner_level-l, In-Some, In_default}
 use Rattle.unfolding.proofs.measure.check_entries.Goals as goal
 
--- the turn: which entry it has
-here : (c : In-Some) → (c.in-Some.before ≡ length c.loop-before.yielded) × Turn c.args.s.now c.args.total c.in-Some.before (entry_from c.in-Some.bytes.now 0)
-here c =
-    let l = c.loop-before in
-    turn-numbered l.invariant.over l.yielded l.before-iterator l.yielded_by c.next.result c.next.new.self c.in-Some.before c.in-Some.bytes c.in-Some.is c.next.ensures.steps
+-- the turn
+here : (c : In-Some) → Now c.args.s.now c.args.total c.loop-before.yielded c.in-Some.before c.in-Some.bytes
+here c = let l = c.loop-before in turned l.invariant.over l.yielded l.before-iterator l.yielded_by c.next.new.self c.in-Some.is c.next.ensures.steps
 
 there : (c : In-Some) → c.in-Some.before + 1 ≤ length (entries_of c.args.s.now)
-there c = omega (arith, c.requires.0, (here c).1.before)
-
--- one entry more is passed
-longer : (c : In-Some) → length (c.loop-before.yielded ++ (c.in-Some.before, c.in-Some.bytes) ∷ []) ≡ c.in-Some.before + 1
-longer c = length_push c.loop-before.yielded (c.in-Some.before, c.in-Some.bytes) ∙ ap (λ k. k + 1) (sym (here c).0)
+there c = omega (arith, c.requires.0, (here c).before)
 
 pub loop-before-init : goal.loop-before-init
 loop-before-init c =
@@ -43,28 +37,34 @@ loop-before-init c =
 pub slice_bounds-owner_level-end : goal.slice_bounds-owner_level-end
 slice_bounds-owner_level-end c =
     let h = here (goal.at.slice_bounds-owner_level-end c).In-Some in
-    omega (arith, c.requires.0, h.1.before, c.loop-before.invariant.past.levels.room)
+    omega (arith, c.requires.0, h.before, c.loop-before.invariant.past.levels.room)
 
 pub slice_bounds-owner_level-end-in-loop-before : goal.slice_bounds-owner_level-end-in-loop-before
 slice_bounds-owner_level-end-in-loop-before c =
     let h = here (goal.at.slice_bounds-owner_level-end-in-loop-before c).In-Some in
-    omega (arith, length-take (c.in-Some.before + 1) c.loop-before.level, c.requires.0, h.1.before, c.loop-before.invariant.past.levels.room)
+    omega (arith, length-take (c.in-Some.before + 1) c.loop-before.level, c.requires.0, h.before, c.loop-before.invariant.past.levels.room)
+
+-- the table has a number for it
+placed : (c : In-Some) → c.in-Some.before + 1 < length c.loop-before.level
+placed c = omega (arith, there c, c.loop-before.invariant.past.levels.room)
 
 pub bounds-level-n : goal.bounds-level-n
-bounds-level-n c = omega (arith, there (goal.at.bounds-level-n c).In-Some, c.loop-before.invariant.past.levels.room)
+bounds-level-n c = placed (goal.at.bounds-level-n c).In-Some
 
 pub bounds-level-n-else-e-eq-NAME : goal.bounds-level-n-else-e-eq-NAME
-bounds-level-n-else-e-eq-NAME c = omega (arith, there (goal.at.bounds-level-n-else-e-eq-NAME c).In-Some, c.loop-before.invariant.past.levels.room)
+bounds-level-n-else-e-eq-NAME c = placed (goal.at.bounds-level-n-else-e-eq-NAME c).In-Some
+
+-- a name that is not refused has a number in the dictionary's tables
+numbered : (c : In_default) → c.from-e.result.name ≤ 64
+numbered c =
+    let u = unrefused _ _ _ c.name_refusal.ensures c.in_default.is in
+    omega (arith, given-name _ _ u.0 (eq-eqb c.if-e-eq-NAME.true), c.args.tables.now.few)
 
 pub size-requires : goal.size-requires
-size-requires c =
-    let u = unrefused _ _ _ c.name_refusal.ensures c.in_default.is in
-    omega (arith, given-name _ _ u.0 (eq-eqb c.if-e-eq-NAME.true), c.args.tables.now.few)
+size-requires c = numbered (goal.at.size-requires c).In_default
 
 pub levels-requires : goal.levels-requires
-levels-requires c =
-    let u = unrefused _ _ _ c.name_refusal.ensures c.in_default.is in
-    omega (arith, given-name _ _ u.0 (eq-eqb c.if-e-eq-NAME.true), c.args.tables.now.few)
+levels-requires c = numbered (goal.at.levels-requires c).In_default
 
 pub under_level-requires : goal.under_level-requires
 under_level-requires c = let u = unrefused _ _ _ c.name_refusal.ensures c.in_default.is in omega (arith, u.1.0)
@@ -73,7 +73,7 @@ under_level-requires c = let u = unrefused _ _ _ c.name_refusal.ensures c.in_def
 passed : (c : After-owner_level-l)
     → Past c.args.tables.now.count (size_in c.args.tables.now.of) (levels_in c.args.tables.now.of) (entries_of c.args.s.now) c.args.total
     c.loop-before.level c.loop-before.had c.loop-before.deep c.in-Some.before
-passed c = rw (← (here (goal.at.After-owner_level-l c).In-Some).0) at c.loop-before.invariant.past
+passed c = rw (← (here (goal.at.After-owner_level-l c).In-Some).same) at c.loop-before.invariant.past
 
 level : (c : After-owner_level-l) → c.owner_level-l.result ≡ level_by c.loop-before.level (c.in-Some.before + 1) c.from-e.result.owner
 level c = c.owner_level-l.ensures ∙ level-passed _ _ _
@@ -92,8 +92,8 @@ loop-before-preserved-then-e-eq-NAME c =
       goes = c.in-Some.ensures.goes.keeps;
       ends = tt;
       over = c.loop-before.invariant.over;
-      past = rw (longer at.In-Some)
-          (past-more (passed o) h.1.before c.requires.0 (c.from-e.ensures ∙ h.1.entry) (level o) c.name_refusal.ensures c.in_default.is
+      past = rw h.more
+          (past-more (passed o) h.before c.requires.0 (c.from-e.ensures ∙ h.entry) (level o) c.name_refusal.ensures c.in_default.is
           (name-level c.args.tables.now.count c.from-e.result c.owner_level-l.result named)
           (rw named (c.from-had.ensures ∙ c.size.ensures)) (omega (arith, c.size.type_inv, c.from-had.ensures))
           (c.under_level.ensures ∙ rw (named, c.levels.ensures)) c.max-deep.ensures);
@@ -111,8 +111,8 @@ loop-before-preserved c =
       goes = c.in-Some.ensures.goes.keeps;
       ends = tt;
       over = c.loop-before.invariant.over;
-      past = rw (longer at.In-Some)
-          (past-more (passed o) h.1.before c.requires.0 (c.from-e.ensures ∙ h.1.entry) (level o) r c.in_default-entry_refusal.is
+      past = rw h.more
+          (past-more (passed o) h.before c.requires.0 (c.from-e.ensures ∙ h.entry) (level o) r c.in_default-entry_refusal.is
           (other-level c.args.tables.now.count _ _ (c.level_under.ensures (omega (arith, u.1.1))))
           (rw other) (omega arith) (rw other (omega (arith, c.from.ensures, u.1.0))) c.max-deep-else-e-eq-NAME.ensures);
     }
@@ -127,7 +127,7 @@ pub returns-in-Some-name_refusal : goal.returns-in-Some-name_refusal
 returns-in-Some-name_refusal c =
     let at = goal.at.returns-in-Some-name_refusal c in
     let h = here at.In-Some in (
-      past-refused (passed at.After-owner_level-l) h.1.before c.requires.0 (c.from-e.ensures ∙ h.1.entry) (level at.After-owner_level-l)
+      past-refused (passed at.After-owner_level-l) h.before c.requires.0 (c.from-e.ensures ∙ h.entry) (level at.After-owner_level-l)
           c.name_refusal.ensures c.in-Some-name_refusal.is,
       refl,
     )
@@ -136,7 +136,7 @@ pub returns-in-Some-entry_refusal : goal.returns-in-Some-entry_refusal
 returns-in-Some-entry_refusal c =
     let at = goal.at.returns-in-Some-entry_refusal c in
     let h = here at.In-Some in (
-      past-refused (passed at.After-owner_level-l) h.1.before c.requires.0 (c.from-e.ensures ∙ h.1.entry) (level at.After-owner_level-l)
+      past-refused (passed at.After-owner_level-l) h.before c.requires.0 (c.from-e.ensures ∙ h.entry) (level at.After-owner_level-l)
           (refused-by at.After-entry_refusal) c.in-Some-entry_refusal.is,
       refl,
     )

@@ -5,7 +5,8 @@ use mathlib.Core.Path.{◌∙◌, ap, refl, sym}
 use native.Mathlib.Omega.{arith}
 use Rattle.blocks.specs.Entries.{entries_of}
 use Rattle.fit.proofs.bare.MarkLaws.{marks-start, marks-told}
-use Rattle.fit.proofs.entries.PassLaws.{Now, begun, ended, owner-here, turned}
+use Rattle.blocks.proofs.Refusing.PassLaws.{Now, ended, turned}
+use Rattle.fit.proofs.entries.PassLaws.{begun-all, owner-here}
 use Rattle.fit.proofs.totals.TotalsLaws.{groups-few, groups-next, groups_none, totals-start}
 use Rattle.fit.specs.code.Bare.{any_entry}
 use Rattle.fit.proofs.totals.Filling.fill.Goals.{After-from}
@@ -15,7 +16,7 @@ pub loop-before-init : goal.loop-before-init
 loop-before-init g c =
     let r = c.requires in
     let n = c.enumerate-before-items.ensures in
-    let o = begun r.0 r.1 c.args.self.now.kept.index.sized r.6 c.entries_in_order.ensures.items n.source n.count c.into_iter-before-iterator.ensures.into_iter_gives in
+    let o = begun-all r.0 r.1 c.args.self.now.kept.index.sized r.6 c.entries_in_order.ensures.items n.source n.count c.into_iter-before-iterator.ensures.into_iter_gives in
     record {
       goes = (tt, tt, o.1);
       ends = tt;

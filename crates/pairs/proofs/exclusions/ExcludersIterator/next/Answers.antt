@@ -1,5 +1,6 @@
 use Rattle.std.proofs.Common.{◌≡◌, ◌∙◌, ◌+◌, ◌<◌, ◌≢◌, ◌∷◌, ℕ, Option, length, get_or, unwrap_or, IfSome, ap, subst, sym, rules}
 use Rattle.base.specs.Chain.{OnChain}
+use Rattle.base.proofs.Tests.{eqb-eq, eqb-ne}
 use Rattle.pairs.proofs.IndexLaws.{partners-end, partners-falls, partners-goes, partners-hit, partners-miss}
 use Rattle.pairs.specs.code.Index.{bucket_of, named_at, named_count, partners}
 use Rattle.pairs.proofs.exclusions.ExcludersIterator.next.Goals.{After-beside, After-link-self, After-named_at}
@@ -40,16 +41,16 @@ given : (c : After-beside) → partners c.args.self.now.all.pairs.now c.args.sel
     ≡ c.beside.result.0 ∷ partners c.loop-self.self.all.pairs.now c.loop-self.self.of.0 (unwrap_or c.link-self.result 0)
 given c =
     let s = c.loop-self.self in
-    let d = (goal.at.returns-then-named_at-self-clause-steps c).After-link-self in
-    let here = looked (goal.at.returns-then-named_at-self-clause-steps c).After-named_at in
-    left d ∙ partners-hit s.all.indexed s.of.0 (on_chain d) (is_number d) (before d) (sym here ∙ c.if-named_at-self.true)
+    let d = (goal.at.returns-then-eq-clause-steps c).After-link-self in
+    let here = looked (goal.at.returns-then-eq-clause-steps c).After-named_at in
+    left d ∙ partners-hit s.all.indexed s.of.0 (on_chain d) (is_number d) (before d) (sym here ∙ eqb-eq (sym c.eq.ensures ∙ c.if-eq.true))
     ∙ ap (λ (q : ℕ). q ∷ partners s.all.pairs.now s.of.0 (unwrap_or c.link-self.result 0)) (sym c.beside.ensures)
 
-pub returns-then-named_at-self-clause-steps : goal.returns-then-named_at-self-clause-steps
-returns-then-named_at-self-clause-steps c = given c
+pub returns-then-eq-clause-steps : goal.returns-then-eq-clause-steps
+returns-then-eq-clause-steps c = given c
 
-pub returns-then-named_at-self-clause-goes : goal.returns-then-named_at-self-clause-goes
-returns-then-named_at-self-clause-goes c = let fewer = ap length (given c) in search rules
+pub returns-then-eq-clause-goes : goal.returns-then-eq-clause-goes
+returns-then-eq-clause-goes c = let fewer = ap length (given c) in search rules
 
 pub loop-self-smaller : goal.loop-self-smaller
 loop-self-smaller c =
@@ -66,7 +67,7 @@ loop-self-preserved c =
     record {
       all_same = c.loop-self.invariant.all_same;
       of_same = c.loop-self.invariant.of_same;
-      left = left d ∙ partners-miss s.all.indexed s.of.0 (on_chain d) (is_number d) (before d) (λ z. c.if-named_at-self.false (here ∙ z));
+      left = left d ∙ partners-miss s.all.indexed s.of.0 (on_chain d) (is_number d) (before d) (λ z. eqb-ne (sym c.eq.ensures ∙ c.if-eq.false) (here ∙ z));
     }
 
 pub returns-clause-steps : goal.returns-clause-steps

@@ -5,13 +5,13 @@ use Rattle.slots.proofs.failing.JudgingLaws.{failing-bottom, failing-found}
 use Rattle.slots.proofs.failing.Supplier.judge.Goals as goal
 
 pub returns-then-self : goal.returns-then-self
-returns-then-self g c = (omega arith, tt, λ d h. failing-bottom c.requires.0.lawful d _ h c.if-self.true)
+returns-then-self g c = (omega arith, tt, λ d h. failing-bottom c.args.self.ruled.lawful d _ h c.if-self.true)
 
 pub first_failing_entry-requires : goal.first_failing_entry-requires
-first_failing_entry-requires g c = let a = c.requires in (omega arith, (accepted-few 2 _ a.1, a.2))
+first_failing_entry-requires g c = let a = c.requires in (omega arith, (accepted-few 2 _ a.0, a.1))
 
 pub returns : goal.returns
 returns g c =
     let a = c.requires in
     let f = c.first_failing_entry.ensures in
-    (omega (arith, f.0, (accepted-few 2 _ a.1).1), f.1, λ d h. failing-found a.0.lawful d _ h a.1 c.if-self.false f.2)
+    (omega (arith, f.0, (accepted-few 2 _ a.0).1), f.1, λ d h. failing-found c.args.self.ruled.lawful d _ h a.0 c.if-self.false f.2)
