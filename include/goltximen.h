@@ -88,17 +88,17 @@
  *
  * Stack. The most that each call took of the caller's stack, on the inputs that lead furthest down (`make stack` measures it):
  *
- *     gx_read_description   24,792 bytes
- *     gx_read_specimen      24,792 bytes
- *     gx_fit                70,216 bytes
- *     gx_fit_counted        70,168 bytes
- *     gx_normal             72,424 bytes
- *     gx_compare            69,160 bytes
- *     gx_unfold             22,056 bytes
- *     gx_fit_with           79,576 bytes
- *     gx_normal_with        81,752 bytes
- *     gx_compare_with       93,816 bytes
- *     gx_catalogue          64,888 bytes
+ *     gx_read_description   24,804 bytes
+ *     gx_read_specimen      24,804 bytes
+ *     gx_fit                70,228 bytes
+ *     gx_fit_counted        70,180 bytes
+ *     gx_normal             72,436 bytes
+ *     gx_compare            69,172 bytes
+ *     gx_unfold             22,040 bytes
+ *     gx_fit_with           79,588 bytes
+ *     gx_normal_with        81,764 bytes
+ *     gx_compare_with       93,828 bytes
+ *     gx_catalogue          64,904 bytes
  *
  * The library calls memset and memcpy; a program that binds them at their first call took up to 1,072 bytes more there. A
  * thread with 128 KiB of stack has room for each call.
