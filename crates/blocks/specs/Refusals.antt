@@ -6,6 +6,20 @@ use Rattle.blocks.specs.declared.Cause.{Cause}
 use Rattle.blocks.specs.declared.Cause.TheVariants.{Length, Check, Framing, Form, Owner, Depth, Room, Count, Double, Pairs, Clash, Name, Size}
 use Rattle.blocks.specs.declared.Refusal.{Refusal}
 
+-- The table of refusals: the number of each row, and what the row says.
+-- Length: "input length 0, no multiple of 512, or over the limit"
+-- Check: "a check is wrong"
+-- Framing: "block number, used count or a byte due to be zero in frame or unused entries is wrong"
+-- Form: "kind not allowed, byte 1 not zero, or name or number outside the table"
+-- Owner: "owner not earlier or not of kind 5 (7)"
+-- Depth: "depth over 32"
+-- Room: "output too short"
+-- Count: "more than 64 services"; of a dictionary, more than 64 descriptions
+-- Double: "a specimen group that brings its owner above one item by such a link"
+-- Pairs: "length no multiple of 4 or over 64 pairs", "0 or two equal numbers"
+-- Clash: "a specimen or delivered record with an item that has both of a pair"
+-- Name: "a name of 0, above the dictionary's count or not earlier"
+-- Size: "a description, in the dictionary or not, of more than 1,008 entries or depth over 32 once unfolded"
 abbrev pub number_of : Cause → ℕ
 number_of Length = 1
 number_of Check = 2

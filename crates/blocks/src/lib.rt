@@ -49,18 +49,31 @@ pub enum Schema {
 // Why an input is refused: the table of refusals, whose numbers `number` gives. There is no 10.
 #[derive(Clone, Copy, Debug, PartialEq, Eq)]
 pub enum Cause {
+    // The input's length.
     Length,
+    // A block's check.
     Check,
+    // A block's number, its used count, or a byte that is due to be zero.
     Framing,
+    // An entry's kind, its second byte, or a name or number outside the table of kinds.
     Form,
+    // An owner that is not earlier, or may not own.
     Owner,
+    // A depth over 32.
     Depth,
+    // An output that is too short.
     Room,
+    // More than 64 services, or descriptions of a dictionary.
     Count,
+    // A second item by a link that leads to one item only.
     Double,
+    // The list of pairs.
     Pairs,
+    // An item that has both properties of a pair.
     Clash,
+    // A name of no description of the dictionary, or of none earlier.
     Name,
+    // A description that is too large once it is unfolded.
     Size,
 }
 
