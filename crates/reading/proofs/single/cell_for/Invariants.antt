@@ -1,11 +1,6 @@
--- `cell_for` meets its contract: the cells passed have other keys.
-use lib.ListN.{length}
-use Prim.Native.Nat.{◌-◌}
+-- `cell_for` meets its contract: the groups in the cells passed have other keys, and each bit of the key passes one.
 use Rattle.blocks.specs.code.SingleTable.{Passed}
 use Rattle.reading.proofs.single.cell_for.Given as goal
 
-abbrev pub invariant-loop-c : goal.invariant-loop-c
-invariant-loop-c l = Passed l.cells l.most l.key l.c
-
-abbrev pub decreases-loop-c : goal.decreases-loop-c
-decreases-loop-c l = length l.cells - l.c
+abbrev pub invariant-loop-bit : goal.invariant-loop-bit
+invariant-loop-bit l = Passed l.cells l.keys l.most l.key l.bit l.c

@@ -1,9 +1,8 @@
-use Rattle.std.proofs.Common.{◌≡◌, ◌+◌, ◌-◌, sym, ◌∙◌, arith}
+use Rattle.std.proofs.Common.{◌≡◌, ◌+◌, ◌-◌, refl, sym, ◌∙◌, arith}
 use Rattle.base.proofs.SearchLaws.{first-end, first_goes, first_stops}
 use Rattle.base.proofs.Tests.{false_of_not, true_of_not}
 use Rattle.blocks.proofs.Refusing.PassLaws.{Now, begun, ended, turned}
 use Rattle.blocks.proofs.Refusing.SingleSearch.{no_place, place-is}
-use Rattle.blocks.proofs.Refusing.SingleTable.{kept-room}
 use Rattle.reading.proofs.single.double_by.Goals as goal
 use Rattle.reading.proofs.single.double_by.Goals.{In-Some}
 
@@ -17,23 +16,25 @@ loop-before-init c =
     let n = c.enumerate-before-items.ensures in
     let o = begun p.0 (omega (arith, p.1)) p.2 c.entries_in_order.ensures.items n.source n.count c.into_iter-before-iterator.ensures.into_iter_gives in
     let e : c.args.n + 1 - 1 ≡ c.args.n = omega arith in
-    record { goes = (tt, tt, o.1); ends = tt; over = o.0; kept = p.4; rest = rw e }
+    record { goes = (tt, tt, o.1); ends = tt; over = o.0; kept = p.4; known = refl; rest = rw e }
 
 pub brings_second-requires : goal.brings_second-requires
 brings_second-requires c =
     let h = here (goal.at.brings_second-requires c).In-Some in
-    kept-room c.loop-before.invariant.kept (omega (arith, h.same, h.before, c.requires.3))
+    let i = c.loop-before.invariant in
+    (i.kept.placed, omega (arith, h.same, h.before, i.known, c.requires.3), omega (arith, h.same, h.before, c.requires.1))
 
 pub loop-before-preserved : goal.loop-before-preserved
 loop-before-preserved c =
     let h = here (goal.at.loop-before-preserved c).In-Some in
     let i = c.loop-before.invariant in
-    let f = c.brings_second.ensures _ _ (c.from.ensures ∙ h.entry) (rw (← h.same) at i.kept) in
+    let f = c.brings_second.ensures _ (c.from.ensures ∙ h.entry) (rw (← h.same) at i.kept) in
     record {
       goes = c.in-Some.ensures.goes.keeps;
       ends = tt;
       over = i.over;
       kept = rw h.more (f.1 c.if-brings_second.false);
+      known = omega (arith, c.brings_second.auto, i.known);
       rest = rw h.more (i.rest ∙ rw (← h.same) (first_goes _ _ _ (omega (arith, h.before)) (true_of_not _ (sym f.0 ∙ c.if-brings_second.false))));
     }
 
@@ -41,7 +42,7 @@ pub returns-then-brings_second : goal.returns-then-brings_second
 returns-then-brings_second c =
     let h = here (goal.at.returns-then-brings_second c).In-Some in
     let i = c.loop-before.invariant in
-    let f = c.brings_second.ensures _ _ (c.from.ensures ∙ h.entry) (rw (← h.same) at i.kept) in
+    let f = c.brings_second.ensures _ (c.from.ensures ∙ h.entry) (rw (← h.same) at i.kept) in
     place-is _ _ (i.rest ∙ rw (← h.same) (first_stops _ _ _ (omega (arith, h.before)) (false_of_not _ (sym f.0 ∙ c.if-brings_second.true)))) (omega arith)
 
 pub returns : goal.returns

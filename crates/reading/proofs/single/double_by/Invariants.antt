@@ -12,6 +12,7 @@ invariant-loop-before l = record {
   goes : (goal.iterator-loop-before).can_next l.before-iterator;
   ends : (goal.iterator-loop-before).is_finite l.before-iterator;
   over : OverNumbered l.s l.n l.initial.before-iterator;
-  kept : Kept (entries_of l.s) l.most l.cells (length l.yielded);
+  kept : Kept (entries_of l.s) l.most l.cells l.keys (length l.yielded);
+  known : length l.keys ≡ length l.initial.keys;
   rest : first_from (single_ok (entries_of l.s)) 1 l.n ≡ first_from (single_ok (entries_of l.s)) (length l.yielded + 1) (l.n + 1 - (length l.yielded + 1));
 }

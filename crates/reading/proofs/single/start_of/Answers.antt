@@ -1,7 +1,7 @@
 -- `start_of` meets its contract.
 use Rattle.std.proofs.Common.{ap, ◌*◌, ◌/◌, ◌-◌}
 use lib.Bits.{bit_and}
-use Rattle.blocks.proofs.Refusing.SingleTable.{start_is}
+use Rattle.blocks.proofs.Refusing.SingleWalk.{start_is}
 use Rattle.reading.proofs.single.start_of.Goals as goal
 
 pub returns : goal.returns
