@@ -5,19 +5,16 @@ ghost use Rattle.fit.specs.code.Bare.{demands};
 
 use blocks::{Entry, kinds};
 
-// Whether an item with nothing does not meet an entry.
+// Whether an item with nothing does not meet an entry. `&` and `|` take no jumps: entries come in any order of kinds, and a jump would be guessed
+// wrong.
 fn demands_item(e: Entry) -> bool
     ensures { result ≡ demands e }
 {
-    match e.kind {
-        kinds::LACKS | kinds::AT_MOST | kinds::EVERY => false,
-        kinds::AT_LEAST => e.number != 0,
-        _ => true,
-    }
+    let counts = (e.kind != kinds::AT_LEAST) | (e.number != 0);
+    (e.kind != kinds::LACKS) & (e.kind != kinds::AT_MOST) & (e.kind != kinds::EVERY) & counts
 }
 
-// Marks the owner of an entry that an item with nothing does not meet. The mark is stored either way: entries come in any order of kinds, and a
-// jump would be guessed wrong.
+// Marks the owner of an entry that an item with nothing does not meet. The mark is stored either way, without a jump.
 pub(crate) fn mark_demand(marks: &mut [bool], e: Entry)
     requires { e.owner < length marks.old }
     ensures { marks.new ≡ set marks.old e.owner (get_or marks.old e.owner false || demands e) }

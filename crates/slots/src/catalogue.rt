@@ -60,6 +60,14 @@ fn judge_sent(
     supplier.judge(&buffer[..end], usize::from(m), states)
 }
 
+// What is needed for one service at a time: what stands there before does not count, and so it is cleared once for all of a list.
+#[derive(Drop)]
+struct Scratch {
+    buffer: [u8; 8192],
+    states: [u16; 1009],
+    level: [u8; 1009],
+}
+
 // Reads a service, an input of any number, and judges it. With a dictionary of length 0 it has no names, and nothing is unfolded. That the dictionary
 // is accepted is a clause, here and below: it is known of bytes that were read with the supplier's description, and nothing else is kept of them.
 fn judge_service(
@@ -67,18 +75,24 @@ fn judge_service(
     dictionary: &[u8],
     d: &[u8],
     input: u16,
-    buffer: &mut [u8; 8192],
-    states: &mut [u16; 1009],
+    scratch: &mut Scratch,
 ) -> Result<bool, Refusal>
     requires { DictionaryTaken dictionary.now }
     ensures { (c : List ℕ) → HeldIn (under supplier.entry.exclusions.pairs.now) c supplier.entry
         → result ≡ service_judged supplier.entry.exclusions.pairs.now dictionary.now c input d.now }
 {
     if dictionary.is_empty() {
-        return judge_plain(supplier, d, input, states);
+        return judge_plain(supplier, d, input, &mut scratch.states, &mut scratch.level);
     }
-    let m = read_sent(dictionary, d, input, buffer)?;
-    let failing = judge_sent(supplier, dictionary, d, m, buffer, states);
+    let m = read_sent(dictionary, d, input, &mut scratch.buffer)?;
+    let failing = judge_sent(
+        supplier,
+        dictionary,
+        d,
+        m,
+        &scratch.buffer,
+        &mut scratch.states,
+    );
     Ok(failing.is_none())
 }
 
@@ -87,8 +101,7 @@ fn judge_parts(
     supplier: Supplier<'_, 4093>,
     dictionary: &[u8],
     list: &[u8],
-    buffer: &mut [u8; 8192],
-    states: &mut [u16; 1009],
+    scratch: &mut Scratch,
     answers: &mut [u8; 64],
 ) -> Result<u16, Refusal>
     requires { DictionaryTaken dictionary.now × (length (parts_of list.now) ≤ 64) }
@@ -98,7 +111,7 @@ fn judge_parts(
     // Counted by hand: the answer is how many there are, which `enumerate` does not tell at the end.
     let mut n: usize = 0;
     for part in Parts::of(list) {
-        let contained = judge_service(supplier, dictionary, part, 2 + n as u16, buffer, states)?;
+        let contained = judge_service(supplier, dictionary, part, 2 + n as u16, scratch)?;
         answers[n] = u8::from(contained);
         n += 1;
     }
@@ -129,16 +142,12 @@ fn judge_all(
         exclusions, c, n, &mut table, &mut next, &mut head, &mut node, &mut bad, &mut full,
     );
     let supplier = Supplier::new(exclusions, &table, &next, &head, used, &bad);
-    let mut buffer = [0u8; 8192];
-    let mut states = [0u16; 1009];
-    judge_parts(
-        supplier,
-        dictionary,
-        list,
-        &mut buffer,
-        &mut states,
-        answers,
-    )
+    let mut scratch = Scratch {
+        buffer: [0; 8192],
+        states: [0; 1009],
+        level: [0; 1009],
+    };
+    judge_parts(supplier, dictionary, list, &mut scratch, answers)
 }
 
 // The same for any list.

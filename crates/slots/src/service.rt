@@ -52,8 +52,8 @@ fn check_rest(rest: Enumerate<InOrder<'_>>, level: &mut [u8], input: u16) -> Res
 }
 
 // Goes over the `total` entries of a service, with tables that have a number for each: checks and judges each until one fails, and only checks
-// the rest. What the tables held does not count.
-#[inline(always)]
+// the rest. What the tables held does not count. It is not inlined: what its callers keep would take the registers of its loop.
+#[inline(never)]
 fn pass_entries(
     supplier: Supplier<'_, 4093>,
     d: &[u8],
@@ -112,20 +112,20 @@ fn judge_entries(
     Ok(failing.is_none())
 }
 
-// Reads a service with no names, an input of any number, and judges it.
+// Reads a service with no names, an input of any number, and judges it. What the tables held does not count.
 pub(crate) fn judge_plain(
     supplier: Supplier<'_, 4093>,
     d: &[u8],
     input: u16,
     states: &mut [u16; 1009],
+    level: &mut [u8; 1009],
 ) -> Result<bool, Refusal>
     ensures { (c : List ℕ) → HeldIn (under supplier.entry.exclusions.pairs.now) c supplier.entry
         → result ≡ plain_judged supplier.entry.exclusions.pairs.now c input d.now }
 {
-    let mut level = [0u8; 1009];
     if supplier.impossible {
         return judge_broken(d, input);
     }
     let total = read_blocks(d, Schema::Named(0), input)?;
-    judge_entries(supplier, d, total, input, states, &mut level)
+    judge_entries(supplier, d, total, input, states, level)
 }

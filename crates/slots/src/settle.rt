@@ -28,35 +28,29 @@ fn closed(link: bool, bad: u8, hi: u64) -> u64
     if link && bad != 0 { 0 } else { hi }
 }
 
-// Whether nothing meets a slot of these bounds.
+// Whether nothing meets a slot of these bounds. Here and in `asks` no jump is taken, by `&` and `|`: slots come in any order of classes and bounds, and
+// a jump would be guessed wrong.
 fn is_broken(link: bool, lo: u64, hi: u64) -> bool
     ensures { result ≡ broken link lo (high_in hi) }
 {
-    if NO_BOUND <= hi {
-        return false;
-    }
-    if link {
-        return hi < lo;
-    }
-    lo != 0
+    let below = if link { hi < lo } else { lo != 0 };
+    (hi < NO_BOUND) & below
 }
 
 // Whether a slot of these bounds asks something, by itself or by a place below it that is not empty.
 fn asks(link: bool, lo: u64, hi: u64, full: u8) -> bool
     ensures { result ≡ not (eqb lo 0) || (found (high_in hi) || (link && not (eqb full 0))) }
 {
-    lo != 0 || hi < NO_BOUND || (link && full != 0)
+    (lo != 0) | ((hi < NO_BOUND) | (link & (full != 0)))
 }
 
-// Marks place v where the test holds. A mark is a byte, 1 or 0, and no bool: the tables of both marks stand in the signature of `fill`, whose
-// promise is of these bytes.
+// Marks place v where the test holds. The mark is stored either way, for the same reason. A mark is a byte, 1 or 0, and no bool: the tables of both marks
+// stand in the signature of `fill`, whose promise is of these bytes.
 fn mark(marks: &mut [u8], v: usize, test: bool)
     requires { v < length marks.old }
     ensures { marks.new ≡ cond test (set marks.old v 1) marks.old }
 {
-    if test {
-        marks[v] = 1;
-    }
+    marks[v] = if test { 1 } else { marks[v] };
 }
 
 // Settles slot s, where the slots above it are settled. The two marks stay apart from the slots: each is a table that the caller lends for itself.

@@ -113,7 +113,9 @@ impl<const BUCKETS: usize> Slots<'_, BUCKETS> {
     }
 
     // Whether an entry holds at a place that does not list it: an at most that every record keeps, or a lack that the place implies, since it
-    // has a property that excludes the entry's.
+    // has a property that excludes the entry's. Few entries are asked this: it is not inlined into the loops over all of them, whose registers it
+    // would take.
+    #[inline(never)]
     fn holds_beside(self, exclusions: Exclusions<'_>, place: u64, e: Entry) -> bool
         requires { place < 1024 }
         ensures { result ≡ beside_bounds standing (excluded_at (under exclusions.entry.pairs.now) (slots_in self.entry.table.now self.entry.used) place e.name) e.kind e.name e.number }
@@ -135,7 +137,9 @@ impl<const BUCKETS: usize> Slots<'_, BUCKETS> {
         supported(e.kind, e.number, x) || self.holds_beside(exclusions, place, e)
     }
 
-    // Looks an entry up in a place of this state: if it holds there, the state of the place that it owns, should it be an 'every'.
+    // Looks an entry up in a place of this state: if it holds there, the state of the place that it owns, should it be an 'every'. A part of both
+    // loops over a description's entries, inlined into each, so that the tables are at hand.
+    #[inline(always)]
     pub(crate) fn look(self, exclusions: Exclusions<'_>, state: u16, e: Entry) -> Option<u16>
         requires { state ≤ passed }
         ensures { IfSome result (λ y. y ≤ passed)
