@@ -3,15 +3,14 @@ ghost use Rattle.std.specs.Prelude.{◌≡◌, ℕ, ◌*◌, ◌≤◌, ◌<◌,
 ghost use Rattle.blocks.specs.Encoding.{blocks_for, encode};
 ghost use Rattle.blocks.specs.Entries.{entries_of};
 ghost use Rattle.blocks.specs.Frame.{plain};
-ghost use Rattle.blocks.specs.Refusals.{unless_refused};
-ghost use Rattle.names.specs.NamedReading.{dictionary_of, dictionary_reading, named_unfolding, plain_of};
+ghost use Rattle.names.specs.NamedReading.{dictionary_of, named_unfolding};
 ghost use Rattle.names.specs.Unfold.{unfolded_by};
-ghost use Rattle.unfolding.specs.Answer.{both_of, over, second_after, short_by, unfold_at, unfolded_at};
+ghost use Rattle.unfolding.specs.Answer.{both_of, over, second_after, unfold_at, unfolded_at};
 
-use crate::dictionary::{Dictionary, read_dictionary, read_named};
+use crate::dictionary::{Dictionary, read_named};
 use crate::passes::unfold_rows;
 use crate::rows::{Rows, load};
-use crate::tables::{BLANK, Tables};
+use crate::tables::Tables;
 use blocks::{Cause, Refusal};
 use writing::write_entries;
 
@@ -46,48 +45,37 @@ fn write_rows(out: &mut [u8], rows: &Rows) -> bool
     write_entries(out, numbers, numbers.len()) != 0
 }
 
-// The same, written from the start of an output; 7 where it is too short.
-fn write_unfolded(
-    dictionary: Dictionary,
-    d: &[u8],
-    input: u16,
-    out: &mut [u8],
-) -> Result<u16, Refusal>
-    ensures { (result ≡ short_by out.old (named_unfolding (dictionary_of dictionary.entry.bytes.now) input d.now))
-        × (out.new ≡ unless_refused (λ e. out.old) result (over (plain_of dictionary.entry.bytes.now d.now) out.old)) }
-{
-    let mut rows = Rows {
-        numbers: [0; 1008],
-        len: 0,
-    };
-    let n = unfold_read(dictionary, d, input, &mut rows)?;
-    if !write_rows(out, &rows) {
-        return Err(Refusal {
-            cause: Cause::Room,
-            input: 0,
-            place: 0,
-        });
+impl Dictionary<'_> {
+    // Reads a description, an input of any number, and writes the plain description that it stands for in blocks from the start of an output;
+    // returns its number of entries. Later bytes stay. Where it is refused, or the output is shorter than what would be written, the refusal is
+    // returned and no byte changes. An output of 8,192 bytes is never too short.
+    pub fn unfold_into(self, d: &[u8], input: u16, out: &mut [u8]) -> Result<u16, Refusal>
+        ensures { (result ≡ unfold_at self.entry.bytes.now input d.now out.old) × (out.new ≡ unfolded_at self.entry.bytes.now input d.now out.old) }
+    {
+        let mut rows = Rows {
+            numbers: [0; 1008],
+            len: 0,
+        };
+        let n = unfold_read(self, d, input, &mut rows)?;
+        if !write_rows(out, &rows) {
+            return Err(Refusal {
+                cause: Cause::Room,
+                input: 0,
+                place: 0,
+            });
+        }
+        Ok(n)
     }
-    Ok(n)
 }
 
-// Reads a dictionary and a description, an input of any number, and writes the plain description that it stands for in blocks from the start
-// of an output; returns its number of entries. Later bytes stay. Where anything is refused, or the output is shorter than what would be
-// written, the refusal is returned and no byte changes. An output of 8,192 bytes is never too short. Here and in `unfold_both` the dictionary is
-// read first, into tables of the call's own: a Dictionary borrows them, so that no function can hand one out.
+// Reads a dictionary and a description, an input of any number, and unfolds it to an output, as `Dictionary::unfold_into` does. A dictionary that is
+// refused changes no byte either. Here and in `unfold_both` the dictionary is read first, into tables of the call's own.
 pub fn unfold_into(dictionary: &[u8], d: &[u8], input: u16, out: &mut [u8]) -> Result<u16, Refusal>
     ensures { (result ≡ unfold_at dictionary.now input d.now out.old) × (out.new ≡ unfolded_at dictionary.now input d.now out.old) }
 {
-    let mut tables = Tables {
-        of: [BLANK; 65],
-        count: 0,
-    };
-    read_dictionary(dictionary, &mut tables)?;
-    let dictionary = Dictionary {
-        bytes: dictionary,
-        tables: &tables,
-    };
-    write_unfolded(dictionary, d, input, out)
+    let mut tables = Tables::new();
+    let dictionary = Dictionary::read(dictionary, &mut tables)?;
+    dictionary.unfold_into(d, input, out)
 }
 
 // The unfolding: the same for input 1.
@@ -105,12 +93,11 @@ fn unfold_two(
     a: &mut [u8],
     b: &mut [u8],
 ) -> Result<(u16, u16), Refusal>
-    requires { dictionary_reading dictionary.bytes.now ≡ Ok dictionary.tables.now.count }
     ensures { (result ≡ both_of dictionary.entry.bytes.now c.now d.now a.old b.old) × (a.new ≡ unfolded_at dictionary.entry.bytes.now 1 c.now a.old)
         × (b.new ≡ second_after dictionary.entry.bytes.now c.now d.now a.old b.old) }
 {
-    let n = write_unfolded(dictionary, c, 1, a)?;
-    let m = write_unfolded(dictionary, d, 2, b)?;
+    let n = dictionary.unfold_into(c, 1, a)?;
+    let m = dictionary.unfold_into(d, 2, b)?;
     Ok((n, m))
 }
 
@@ -125,14 +112,7 @@ pub fn unfold_both(
     ensures { (result ≡ both_of dictionary.now c.now d.now a.old b.old) × (a.new ≡ unfolded_at dictionary.now 1 c.now a.old)
         × (b.new ≡ second_after dictionary.now c.now d.now a.old b.old) }
 {
-    let mut tables = Tables {
-        of: [BLANK; 65],
-        count: 0,
-    };
-    read_dictionary(dictionary, &mut tables)?;
-    let dictionary = Dictionary {
-        bytes: dictionary,
-        tables: &tables,
-    };
+    let mut tables = Tables::new();
+    let dictionary = Dictionary::read(dictionary, &mut tables)?;
     unfold_two(dictionary, c, d, a, b)
 }

@@ -1,5 +1,5 @@
 // Reading: a description that may name those of a dictionary, and a dictionary, description by description.
-ghost use Rattle.std.specs.Prelude.{◌≡◌, List, [], ◌+◌, ◌-◌, ◌≤◌, ◌<◌, ℕ, get_or, length, replicate};
+ghost use Rattle.std.specs.Prelude.{◌≡◌, List, [], ◌+◌, ◌-◌, ◌≤◌, ◌<◌, ℕ, get_or, length, replicate, IfErr, IfOk, Ok};
 ghost use Rattle.blocks.specs.Entries.{entries_of};
 ghost use Rattle.blocks.specs.Faults.{entry_faults, first};
 ghost use Rattle.blocks.specs.Reading.{answer, reading_of};
@@ -8,6 +8,7 @@ ghost use Rattle.blocks.specs.declared.Entry.{Entry};
 ghost use Rattle.blocks.specs.declared.Schema.{Schema};
 ghost use Rattle.lists.specs.Parts.{parts_of};
 ghost use Rattle.names.specs.NamedReading.{dictionary_of, dictionary_reading, parts_reading};
+ghost use Rattle.std.proofs.Props.{props};
 ghost use Rattle.unfolding.specs.code.Known.{Known, MeasuredBy, Ready, Ready-prop, blank};
 
 use crate::Measured;
@@ -17,15 +18,27 @@ use blocks::{Cause, Refusal, Schema};
 use lists::{Parts, part_length, parts_in};
 use reading::read_blocks;
 
-// A dictionary that is read and accepted: its bytes, and what is kept of its descriptions.
+// A dictionary that is read and accepted: its bytes, and what is kept of its descriptions. It borrows the tables that a caller lends, so that it is
+// read once for as many descriptions as there are.
 #[derive(Clone, Copy)]
-pub(crate) struct Dictionary<'a> {
+pub struct Dictionary<'a> {
     pub(crate) bytes: &'a [u8],
     pub(crate) tables: &'a Tables,
     ghost ready: { Ready bytes.now tables.now } by { Ready-prop bytes.now tables.now },
+    ghost accepted: { dictionary_reading bytes.now ≡ Ok tables.now.count } by { Prim.hlevel props },
 }
 
 impl<'a> Dictionary<'a> {
+    // Reads a dictionary into lent tables. What they held before does not count.
+    pub fn read(bytes: &'a [u8], tables: &'a mut Tables) -> Result<Self, Refusal>
+        ensures refused { IfErr result (λ x. dictionary_reading bytes.now ≡ Err x) }
+        ensures accepted { IfOk result (λ d. d.bytes.now ≡ bytes.now) }
+    {
+        *tables = Tables::new();
+        read_dictionary(bytes, tables)?;
+        Ok(Dictionary { bytes, tables })
+    }
+
     // The bytes of description n.
     pub(crate) fn description(self, n: u16) -> &'a [u8]
         requires { (1 ≤ n) × (n ≤ length (dictionary_of self.bytes.now)) }
@@ -94,7 +107,7 @@ fn read_parts(bytes: &[u8], tables: &mut Tables) -> Result<u16, Refusal>
 }
 
 // Reads a dictionary: how many descriptions it has, or the refusal. What is kept of each is left in tables that are blank before.
-pub(crate) fn read_dictionary(bytes: &[u8], tables: &mut Tables) -> Result<u16, Refusal>
+fn read_dictionary(bytes: &[u8], tables: &mut Tables) -> Result<u16, Refusal>
     requires { (tables.old.of ≡ replicate 65 blank) × (tables.old.count ≡ 0) }
     ensures { (result ≡ dictionary_reading bytes.now)
         × ((n : ℕ) → result ≡ Ok n → (n ≡ tables.new.count) × Ready bytes.now tables.new) }

@@ -10,24 +10,34 @@ pub(crate) struct Described {
 }
 
 // What stands for no description. It is no Option: `count` tells which names have one.
-pub(crate) const BLANK: Described = Described {
+const BLANK: Described = Described {
     start: 0,
     size: 0,
     levels: 0,
 };
 
-// Of the descriptions that are read: each stands at its name, the first of which is 1.
+// Of the descriptions that are read: each stands at its name, the first of which is 1. There is no heap: the tables stand where a caller has room.
 #[derive(Drop)]
-pub(crate) struct Tables {
+pub struct Tables {
     pub(crate) of: [Described; 65],
     pub(crate) count: u16,
     ghost few: { count ≤ 64 },
 }
 
 impl Tables {
-    ghost use Rattle.std.specs.Prelude.{◌≡◌, ◌+◌, ◌<◌};
+    ghost use Rattle.std.specs.Prelude.{◌≡◌, ◌+◌, ◌<◌, replicate};
     ghost use Rattle.std.proofs.Common.{set};
-    ghost use Rattle.unfolding.specs.code.Known.{levels_in, size_in, start_in};
+    ghost use Rattle.unfolding.specs.code.Known.{blank, levels_in, size_in, start_in};
+
+    // Tables of no description.
+    pub fn new() -> Self
+        ensures { (result.of ≡ replicate 65 blank) × (result.count ≡ 0) }
+    {
+        Tables {
+            of: [BLANK; 65],
+            count: 0,
+        }
+    }
 
     // Where description n begins.
     pub(crate) fn start(&self, n: u16) -> usize
