@@ -98,7 +98,7 @@
  *     gx_fit_with           79,588 bytes
  *     gx_normal_with        81,764 bytes
  *     gx_compare_with       93,828 bytes
- *     gx_catalogue          64,904 bytes
+ *     gx_catalogue          65,288 bytes
  *
  * The library calls memset and memcpy; a program that binds them at their first call took up to 1,072 bytes more there. A
  * thread with 128 KiB of stack has room for each call.

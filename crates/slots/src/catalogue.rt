@@ -1,17 +1,15 @@
 // A list of descriptions judged by one: the slots of the one are built and settled once, and each of the list is judged by them as soon as it
 // is read, while its bytes are warm. No specimen is written.
-ghost use Rattle.std.specs.Prelude.{◌≡◌, List, ◌<◌, ◌≤◌, ℕ, eqb, length, unwrap_or, IfSome};
-ghost use Rattle.base.specs.Range.{bit};
+ghost use Rattle.std.specs.Prelude.{◌≡◌, List, ◌<◌, ◌≤◌, ℕ, length, IfSome};
+ghost use Rattle.std.proofs.Props.{props};
 ghost use Rattle.blocks.specs.Reading.{reading_of};
 ghost use Rattle.blocks.specs.declared.Schema.{Schema};
 ghost use Rattle.lists.specs.Parts.{parts_of};
 ghost use Rattle.logic.specs.Background.{Ruled};
-ghost use Rattle.names.specs.NamedReading.{sent_of, unfolding_of};
 ghost use Rattle.pairs.specs.Pairs.{under};
 ghost use Rattle.slots.specs.Catalogue.{answers_after, list_reading};
-ghost use Rattle.slots.specs.Holding.{failing_in};
 ghost use Rattle.slots.specs.code.Lent.{HeldIn};
-ghost use Rattle.slots.specs.code.Judging.{Buffered, DictionaryTaken, JudgesAll, JudgesListed, JudgesSupplied, service_judged};
+ghost use Rattle.slots.specs.code.Judging.{JudgesAll, JudgesListed, JudgesSupplied, bytes_read, service_judged};
 
 use crate::failing::Supplier;
 use crate::filling::chained_slots;
@@ -19,45 +17,15 @@ use crate::service::judge_plain;
 use blocks::{Cause, Refusal, Schema};
 use lists::{Parts, parts_in};
 use pairs::Exclusions;
-use unfolding::unfold_into;
+use unfolding::{Dictionary, Tables};
 use writing::bytes_for;
 
-// Reads a description under a dictionary. One of length 0 leaves it as it is sent; otherwise the plain description that it stands for is
-// written to a buffer that has room for every description. The dictionary is read again for each.
-fn read_sent(
-    dictionary: &[u8],
-    d: &[u8],
-    input: u16,
-    buffer: &mut [u8; 8192],
-) -> Result<u16, Refusal>
-    ensures { (result ≡ unfolding_of dictionary.now input d.now)
-        × ((n : ℕ) → result ≡ Ok n → Buffered dictionary.now d.now n buffer.new) }
-{
-    if dictionary.is_empty() {
-        return reading::read(d, Schema::Named(0), input);
-    }
-    unfold_into(dictionary, d, input, buffer)
-}
-
-// The first entry of a description that does not hold by the slots of another, where it is accepted under a dictionary, with m entries, and
-// stands in a buffer unless the dictionary has length 0.
-fn judge_sent(
-    supplier: Supplier<'_, 4093>,
-    dictionary: &[u8],
-    d: &[u8],
-    m: u16,
-    buffer: &[u8; 8192],
-    states: &mut [u16; 1009],
-) -> Option<usize>
-    requires { (reading_of Schema.Description 2 (sent_of dictionary.now d.now) ≡ Ok m) × Buffered dictionary.now d.now m buffer.now }
-    ensures { IfSome result (λ n. 1 ≤ n) × ((c : List ℕ) → HeldIn (under supplier.entry.exclusions.pairs.now) c supplier.entry
-        → unwrap_or result 0 ≡ failing_in (under supplier.entry.exclusions.pairs.now) c (sent_of dictionary.now d.now)) }
-{
-    if dictionary.is_empty() {
-        return supplier.judge(d, usize::from(m), states);
-    }
-    let end = bytes_for(m);
-    supplier.judge(&buffer[..end], usize::from(m), states)
+// What descriptions may name: those of a dictionary that is read, once for all inputs, or nothing where it has length 0, for which nothing is read or
+// copied.
+#[derive(Clone, Copy)]
+struct Names<'a> {
+    read: Option<Dictionary<'a>>,
+    ghost some: { IfSome read (λ d. 0 < length d.bytes.now) } by { Prim.hlevel props },
 }
 
 // What is needed for one service at a time: what stands there before does not count, and so it is cleared once for all of a list.
@@ -68,50 +36,43 @@ struct Scratch {
     level: [u8; 1009],
 }
 
-// Reads a service, an input of any number, and judges it. With a dictionary of length 0 it has no names, and nothing is unfolded. That the dictionary
-// is accepted is a clause, here and below: it is known of bytes that were read with the supplier's description, and nothing else is kept of them.
+// Reads a service, an input of any number, and judges it: as it is sent where nothing may be named, else by the plain description that it stands
+// for, which is written to a buffer that has room for every description.
 fn judge_service(
     supplier: Supplier<'_, 4093>,
-    dictionary: &[u8],
+    names: Names<'_>,
     d: &[u8],
     input: u16,
     scratch: &mut Scratch,
 ) -> Result<bool, Refusal>
-    requires { DictionaryTaken dictionary.now }
     ensures { (c : List ℕ) → HeldIn (under supplier.entry.exclusions.pairs.now) c supplier.entry
-        → result ≡ service_judged supplier.entry.exclusions.pairs.now dictionary.now c input d.now }
+        → result ≡ service_judged supplier.entry.exclusions.pairs.now (bytes_read names.entry.read) c input d.now }
 {
-    if dictionary.is_empty() {
+    let Some(dictionary) = names.read else {
         return judge_plain(supplier, d, input, &mut scratch.states, &mut scratch.level);
-    }
-    let m = read_sent(dictionary, d, input, &mut scratch.buffer)?;
-    let failing = judge_sent(
-        supplier,
-        dictionary,
-        d,
-        m,
-        &scratch.buffer,
-        &mut scratch.states,
-    );
+    };
+    let m = dictionary.unfold_into(d, input, &mut scratch.buffer)?;
+    let end = bytes_for(m);
+    let failing = supplier.judge(&scratch.buffer[..end], usize::from(m), &mut scratch.states);
     Ok(failing.is_none())
 }
 
 // Judges the services of a list in turn, as inputs 2, 3 and so on, and stores a byte for each: how many there are, or the first refusal.
 fn judge_parts(
     supplier: Supplier<'_, 4093>,
-    dictionary: &[u8],
+    names: Names<'_>,
     list: &[u8],
     scratch: &mut Scratch,
     answers: &mut [u8; 64],
 ) -> Result<u16, Refusal>
-    requires { DictionaryTaken dictionary.now × (length (parts_of list.now) ≤ 64) }
+    requires { length (parts_of list.now) ≤ 64 }
     ensures { (c : List ℕ) → HeldIn (under supplier.entry.exclusions.pairs.now) c supplier.entry
-        → JudgesAll supplier.entry.exclusions.pairs.now dictionary.now c list.now answers.old result answers.new }
+        → JudgesAll supplier.entry.exclusions.pairs.now (bytes_read names.entry.read) c list.now answers.old result answers.new }
 {
     // Counted by hand: the answer is how many there are, which `enumerate` does not tell at the end.
     let mut n: usize = 0;
     for part in Parts::of(list) {
-        let contained = judge_service(supplier, dictionary, part, 2 + n as u16, scratch)?;
+        let contained = judge_service(supplier, names, part, 2 + n as u16, scratch)?;
         answers[n] = u8::from(contained);
         n += 1;
     }
@@ -122,15 +83,15 @@ fn judge_parts(
 // `judge_cut` the clause that n entries are read from c is of two values that have different makers: c is sent, or stands in a buffer.
 fn judge_all(
     exclusions: Exclusions<'_>,
-    dictionary: &[u8],
+    names: Names<'_>,
     c: &[u8],
     n: usize,
     list: &[u8],
     answers: &mut [u8; 64],
 ) -> Result<u16, Refusal>
-    requires { Ruled (under exclusions.pairs.now) × DictionaryTaken dictionary.now × (reading_of Schema.Description 1 c.now ≡ Ok n)
+    requires { Ruled (under exclusions.pairs.now) × (reading_of Schema.Description 1 c.now ≡ Ok n)
         × (length (parts_of list.now) ≤ 64) }
-    ensures { JudgesAll exclusions.entry.pairs.now dictionary.now c.now list.now answers.old result answers.new }
+    ensures { JudgesAll exclusions.entry.pairs.now (bytes_read names.entry.read) c.now list.now answers.old result answers.new }
 {
     let mut table = [0u64; 1009];
     let mut next = [0u16; 1009];
@@ -147,20 +108,20 @@ fn judge_all(
         states: [0; 1009],
         level: [0; 1009],
     };
-    judge_parts(supplier, dictionary, list, &mut scratch, answers)
+    judge_parts(supplier, names, list, &mut scratch, answers)
 }
 
 // The same for any list.
 fn judge_cut(
     exclusions: Exclusions<'_>,
-    dictionary: &[u8],
+    names: Names<'_>,
     c: &[u8],
     n: usize,
     list: &[u8],
     answers: &mut [u8; 64],
 ) -> Result<u16, Refusal>
-    requires { Ruled (under exclusions.pairs.now) × DictionaryTaken dictionary.now × (reading_of Schema.Description 1 c.now ≡ Ok n) }
-    ensures { JudgesListed exclusions.entry.pairs.now dictionary.now c.now list.now answers.old result answers.new }
+    requires { Ruled (under exclusions.pairs.now) × (reading_of Schema.Description 1 c.now ≡ Ok n) }
+    ensures { JudgesListed exclusions.entry.pairs.now (bytes_read names.entry.read) c.now list.now answers.old result answers.new }
 {
     if list.is_empty() {
         return Err(Refusal {
@@ -183,29 +144,30 @@ fn judge_cut(
             place: 0,
         });
     }
-    judge_all(exclusions, dictionary, c, n, list, answers)
+    judge_all(exclusions, names, c, n, list, answers)
 }
 
-// Reads the supplier's description, under a list of pairs that is accepted and indexed, with a buffer that has room for it.
+// Reads the supplier's description, under a list of pairs that is accepted and indexed.
 fn judge_supplied(
     exclusions: Exclusions<'_>,
-    dictionary: &[u8],
+    names: Names<'_>,
     c: &[u8],
     list: &[u8],
-    buffer: &mut [u8; 8192],
     answers: &mut [u8; 64],
 ) -> Result<u16, Refusal>
     requires { Ruled (under exclusions.pairs.now) }
-    ensures { JudgesSupplied exclusions.entry.pairs.now dictionary.now c.now list.now answers.old result answers.new }
+    ensures { JudgesSupplied exclusions.entry.pairs.now (bytes_read names.entry.read) c.now list.now answers.old result answers.new }
 {
-    let n = read_sent(dictionary, c, 1, buffer)?;
-    if dictionary.is_empty() {
-        return judge_cut(exclusions, dictionary, c, usize::from(n), list, answers);
-    }
+    let Some(dictionary) = names.read else {
+        let n = reading::read(c, Schema::Named(0), 1)?;
+        return judge_cut(exclusions, names, c, usize::from(n), list, answers);
+    };
+    let mut buffer = [0u8; 8192];
+    let n = dictionary.unfold_into(c, 1, &mut buffer)?;
     let end = bytes_for(n);
     judge_cut(
         exclusions,
-        dictionary,
+        names,
         &buffer[..end],
         usize::from(n),
         list,
@@ -229,6 +191,10 @@ pub fn judge_list(
     pairs::read_pairs(pairs)?;
     let mut index = [0u8; 512];
     let exclusions = Exclusions::new(pairs, &mut index);
-    let mut buffer = [0u8; 8192];
-    judge_supplied(exclusions, dictionary, c, list, &mut buffer, answers)
+    if dictionary.is_empty() {
+        return judge_supplied(exclusions, Names { read: None }, c, list, answers);
+    }
+    let mut tables = Tables::new();
+    let read = Dictionary::read(dictionary, &mut tables)?;
+    judge_supplied(exclusions, Names { read: Some(read) }, c, list, answers)
 }

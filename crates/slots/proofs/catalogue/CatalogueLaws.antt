@@ -20,55 +20,46 @@ use Rattle.blocks.specs.Reading.{reading_of, Reading}
 use Rattle.std.specs.Prelude.{Err, Ok}
 use Rattle.blocks.specs.Refusals.{refusal, refused}
 use Rattle.blocks.specs.declared.Schema.TheVariants.{Named}
+use Rattle.lists.proofs.PartLaws.{parts-of-nil}
 use Rattle.lists.specs.Parts.{parts_of}
-use Rattle.names.proofs.Legality.AcceptedReadings.{both-taken, nameless-sent}
-use Rattle.names.specs.NamedReading.{dictionary_of, named_unfolding, sent_of, unfolding_of}
+use Rattle.names.proofs.Legality.AcceptedReadings.{nameless-sent}
+use Rattle.names.specs.NamedReading.{dictionary_of, dictionary_reading, named_unfolding, parts_reading, sent_of, unfolding_of}
 use Rattle.pairs.specs.Pairs.{pairs_reading, under}
 use Rattle.slots.specs.Catalogue.{answers_after, bits_before, cut_reading, list_bits, list_reading, listed_bits, listed_reading, service_bit, services_reading}
 use Rattle.slots.specs.Holding.{failing_in}
-use Rattle.slots.specs.code.Judging.{Buffered, DictionaryTaken, JudgesAll, JudgesListed, JudgesSupplied, Judgement, plain_judged, service_judged}
+use Rattle.slots.specs.code.Judging.{JudgesAll, JudgesListed, JudgesSupplied, Judgement, plain_judged, service_judged}
 use Rattle.blocks.specs.declared.Refusal.{Refusal}
 use Rattle.unfolding.proofs.BufferLaws.{at-buffer, buffer-plain, sent-itself, sent-plain}
+use Rattle.unfolding.proofs.CallLaws.{dictionary-goes, dictionary-stops}
 use Rattle.unfolding.specs.Answer.{unfold_at, unfolded_at}
 use Rattle.blocks.specs.declared.Cause.TheVariants.{Count, Length}
 
 -- ---- a description that is sent
 
--- it is read, and stands in the buffer unless no name can be given
-abbrev Sent : List ℕ → ℕ → List ℕ → Reading → List ℕ → Type 0
-Sent D i s r buffer = (r ≡ unfolding_of D i s) × ((n : ℕ) → r ≡ Ok n → Buffered D s n buffer)
+-- where nothing may be named, it is read as it is
+pub read-nameless : (i : ℕ) (s : List ℕ) {r : Reading} → r ≡ reading_of (Named 0) i s → r ≡ unfolding_of [] i s
+read-nameless i s q = q ∙ nameless-sent i s [] refl
 
-module _ (D : List ℕ) (i : ℕ) (s : List ℕ) where
-  pub read-nameless : (buffer : List ℕ) {r : Reading} → length D ≡ 0 → r ≡ reading_of (Named 0) i s → Sent D i s r buffer
-  read-nameless buffer z q = (q ∙ nameless-sent i s D z, λ n e some. absurd (omega arith))
-
-  pub read-buffered : (buffer : List ℕ) {after : List ℕ} {r : Reading} → 8192 ≤ length buffer → r ≡ unfold_at D i s buffer → after ≡ unfolded_at D i s buffer → Sent D i s r after
+-- else the blocks of what it stands for are at the front of a buffer
+module _ (D : List ℕ) (i : ℕ) (s : List ℕ) (some : 0 < length D) where
+  pub read-buffered : (buffer : List ℕ) {after : List ℕ} {r : Reading} → 8192 ≤ length buffer → r ≡ unfold_at D i s buffer → after ≡ unfolded_at D i s buffer
+      → (r ≡ unfolding_of D i s) × ((n k : ℕ) → r ≡ Ok n → k ≡ 512 * blocks_for plain n → take k after ≡ sent_of D s)
   read-buffered buffer h q w =
       let same = at-buffer D i s buffer h in
-      (q ∙ same, λ n e some. buffer-plain D i s (sym same ∙ sym q ∙ e) buffer h w ∙ sym (sent-plain D s some))
-
--- the bytes that are judged: as they are sent, or in the buffer
-module _ (D d : List ℕ) where
-  pub judged-sent : length D ≡ 0 → d ≡ sent_of D d
-  judged-sent z = sym (sent-itself D d z)
-
-  pub judged-buffer : (n : ℕ) (buffer : List ℕ) {k : ℕ} → length D ≢ 0 → k ≡ 512 * blocks_for plain n → Buffered D d n buffer → take k buffer ≡ sent_of D d
-  judged-buffer n buffer z q B = rw q (B (omega arith))
+      (q ∙ same, λ n k e b. rw b (buffer-plain D i s (sym same ∙ sym q ∙ e) buffer h w ∙ sym (sent-plain D s some)))
 
 -- ---- a dictionary that is accepted
 
-pub taken-by : (D : List ℕ) (i : ℕ) (s : List ℕ) {n : ℕ} → unfolding_of D i s ≡ Ok n → DictionaryTaken D
-taken-by D i s e = both-taken D i s e (λ m k q w. record { count = m; taken = q })
-
-pub taken-goes : {D : List ℕ} → DictionaryTaken D → (i : ℕ) (s : List ℕ) → unfolding_of D i s ≡ named_unfolding (dictionary_of D) i s
-unfolding unfolding_of
-taken-goes T i s = let t = T.taken in rw t
+-- one of length 0 is
+pub none-taken : dictionary_reading [] ≡ Ok 0
+unfolding dictionary_reading parts_reading
+none-taken = rw parts-of-nil
 
 -- ---- one service
 
-module _ (P : List ℕ) {D : List ℕ} (T : DictionaryTaken D) (s : List ℕ) (i : ℕ) (d : List ℕ) {r : Reading} (e : r ≡ unfolding_of D i d) where
+module _ (P D : List ℕ) {k : ℕ} (T : dictionary_reading D ≡ Ok k) (s : List ℕ) (i : ℕ) (d : List ℕ) {r : Reading} (e : r ≡ unfolding_of D i d) where
   read_as : named_unfolding (dictionary_of D) i d ≡ r
-  read_as = sym (e ∙ taken-goes T i d)
+  read_as = sym (e ∙ dictionary-goes D i d refl T)
 
   pub service-refused : {x : Refusal} → r ≡ Err x → Err x ≡ service_judged P D s i d
   unfolding service_judged
@@ -78,12 +69,12 @@ module _ (P : List ℕ) {D : List ℕ} (T : DictionaryTaken D) (s : List ℕ) (i
   unfolding service_judged
   service-judged q f g = let w = read_as ∙ q in rw (w, g, f)
 
--- with a dictionary of length 0 it is judged as it is sent
-pub service-plain : (P : List ℕ) {D : List ℕ} → DictionaryTaken D → (s : List ℕ) (i : ℕ) (d : List ℕ) → length D ≡ 0 → plain_judged P s i d ≡ service_judged P D s i d
+-- where nothing may be named it is judged as it is sent
+pub service-plain : (P s : List ℕ) (i : ℕ) (d : List ℕ) → plain_judged P s i d ≡ service_judged P [] s i d
 unfolding plain_judged service_judged
-service-plain P {D} T s i d z =
-    let read = nameless-sent i d D z ∙ taken-goes T i d in
-    let same = sent-itself D d z in
+service-plain P s i d =
+    let read = nameless-sent i d [] refl ∙ dictionary-goes [] i d refl none-taken in
+    let same = sent-itself [] d refl in
     rw (read, same)
 
 -- what came of it says how it was read
@@ -186,6 +177,10 @@ module _ (P D c list old : List ℕ) {r : Reading} (e : r ≡ unfolding_of D 1 c
 
   pub supplier-read : {n : ℕ} → r ≡ Ok n → {s : List ℕ} → s ≡ sent_of D c → {a : Reading} {new : List ℕ} → JudgesListed P D s list old a new → JudgesSupplied P D c list old a new
   supplier-read q is j = let w = sym e ∙ q in (rw w j.0, rw (w, ← is) j.1)
+
+-- a dictionary that is refused comes before the supplier
+pub dictionary-refused : (P D c list old : List ℕ) {x : Refusal} → dictionary_reading D ≡ Err x → JudgesSupplied P D c list old (Err x) old
+dictionary-refused P D c list old e = supplier-refused P D c list old (sym (dictionary-stops D 1 c refl e)) refl
 
 -- ---- the list of pairs
 

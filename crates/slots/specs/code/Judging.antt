@@ -1,27 +1,22 @@
 -- What judging a list of descriptions by the slots of one is told, and what each step of it does.
 -- Assumes nothing.
-use Rattle.std.specs.Prelude.{◌*◌, ◌<◌, ℕ, eqb, length, take, Bool, List, [], ◌≡◌, Ok, Err, Result}
+use Rattle.std.specs.Prelude.{ℕ, eqb, length, Bool, List, [], ◌≡◌, Ok, Err, Option, Some, None, Result}
 use Rattle.base.specs.Stores.{stored}
-use Rattle.blocks.specs.Encoding.{blocks_for}
-use Rattle.blocks.specs.Frame.{plain}
 use Rattle.blocks.specs.Reading.{reading_of, Reading}
 use Rattle.blocks.specs.Refusals.{unless_refused}
 use Rattle.blocks.specs.declared.Refusal.{Refusal}
 use Rattle.blocks.specs.declared.Schema.TheVariants.{Named}
 use Rattle.lists.specs.Parts.{parts_of}
-use Rattle.names.specs.NamedReading.{dictionary_of, dictionary_reading, named_unfolding, sent_of, unfolding_of}
+use Rattle.names.specs.NamedReading.{dictionary_of, named_unfolding, sent_of, unfolding_of}
 use Rattle.pairs.specs.Pairs.{under}
 use Rattle.slots.specs.Catalogue.{bits_before, listed_bits, listed_reading, services_reading}
 use Rattle.slots.specs.Holding.{failing_in}
+use Rattle.unfolding.specs.declared.dictionary.Dictionary.{Dictionary}
 
--- a dictionary is accepted
-pub record DictionaryTaken (D : List ℕ) : Type 0 where
-  pub count : ℕ
-  pub taken : dictionary_reading D ≡ Ok count
-
--- where a dictionary is not of length 0, the plain description that d stands for is at the front of a buffer, in the blocks of n entries
-abbrev pub Buffered : List ℕ → List ℕ → ℕ → List ℕ → Type 0
-Buffered D d n buffer = 0 < length D → take (512 * blocks_for plain n) buffer ≡ sent_of D d
+-- the bytes of a dictionary that is read; none where none is
+abbrev pub bytes_read : Option Dictionary → List ℕ
+bytes_read None = []
+bytes_read (Some d) = d.bytes.now
 
 -- whether one service is contained, or why it is refused
 abbrev pub Judgement : Type 0

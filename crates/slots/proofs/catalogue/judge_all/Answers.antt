@@ -10,7 +10,7 @@ use Rattle.slots.proofs.catalogue.judge_all.Goals as goal
 pub chained_slots-used-requires : goal.chained_slots-used-requires
 chained_slots-used-requires c =
     let p = c.requires in
-    let few = accepted-few 1 _ p.2 in (
+    let few = accepted-few 1 _ p.1 in (
       omega arith,
       (
         few,
