@@ -16,11 +16,12 @@ ghost use Rattle.blocks.specs.declared.Schema.{Schema};
 use crate::rules::first_rule_fault;
 use blocks::{Cause, Entry, Refusal, Schema, entries_in_order, kinds};
 
-// Whether an entry is a group by a link that leads to one item only.
+// Whether an entry is a group by a link that leads to one item only. The name's highest bit and the kind make one number, so that one comparison
+// tells, which is guessed right: the compiler would test the kind first, and entries come in any order of kinds.
 fn single_group(e: Entry) -> bool
     ensures { result ≡ single_group e }
 {
-    32768 <= e.name && e.kind == kinds::GROUP
+    256 * (u32::from(e.name) / 32768) + u32::from(e.kind) == 256 + u32::from(kinds::GROUP)
 }
 
 // The table of the groups met is made of `cells` and `keys`. A cell is free, then it is 0, or has the number of a group: an Option for each would
@@ -109,23 +110,13 @@ fn double_in_table<const CELLS: usize, const KEYS: usize>(s: &[u8], n: usize) ->
     double_by(s, n, &mut cells, &mut keys, CELLS - 2 * KEYS)
 }
 
-// Whether one of the first n entries is a group by such a link. Whether any has such a number at all is asked first, since most specimens have none: so
-// that test is guessed right, and the kinds, which come in any order, are not looked at.
-fn any_single(s: &[u8], n: usize) -> bool
-    requires { (n ≤ length (entries_of s.now)) × Whole s.now n }
-    ensures { result ≡ false → (k : ℕ) → 1 ≤ k → k ≤ n → single_group (nth (entries_of s.now) k) ≡ false }
-{
-    entries_in_order(s, n).any(|bytes| 32768 <= Entry::from(bytes).name)
-        && entries_in_order(s, n).any(|bytes| single_group(Entry::from(bytes)))
-}
-
 // The lowest of the first n entries that breaks number 9. Most specimens have no group by such a link at all, and then no table is needed. Few
 // entries take a small one, which is sooner cleared.
 fn first_double(s: &[u8], n: usize) -> Option<usize>
     requires { (n ≤ length (entries_of s.now)) × (n ≤ 2016) × Whole s.now n }
     ensures { result ≡ place (first_from (single_ok (entries_of s.now)) 1 n) }
 {
-    if !any_single(s, n) {
+    if !entries_in_order(s, n).any(|bytes| single_group(Entry::from(bytes))) {
         return None;
     }
     if n < 64 {

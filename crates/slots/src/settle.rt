@@ -1,6 +1,6 @@
 // The second pass: the slots, last to first. A place is impossible where one of its slots is; a link to an impossible place has at most 0;
 // and a place is not empty where one of its slots asks something. All slots of a place stand after it, so one pass is enough.
-ghost use Rattle.std.specs.Prelude.{◌≡◌, not, cond, ◌&&◌, ◌||◌, ◌/◌, ◌%◌, ◌≤◌, ◌<◌, eqb, length, get_or, set};
+ghost use Rattle.std.specs.Prelude.{◌≡◌, not, cond, ◌&&◌, ◌||◌, ◌/◌, ◌%◌, ◌≤◌, ◌<◌, ℕ, eqb, length, get_or, set};
 ghost use Rattle.logic.specs.Normal.{found};
 ghost use Rattle.passes.specs.code.Slots.{broken};
 ghost use Rattle.slots.specs.code.Tables.{key_in, high_in, Blank, Placed, Settling, Slotted};
@@ -47,15 +47,16 @@ fn asks(link: bool, lo: u64, hi: u64, full: u8) -> bool
 // Marks place v where the test holds. The mark is stored either way, for the same reason. A mark is a byte, 1 or 0, and no bool: the tables of both marks
 // stand in the signature of `fill`, whose promise is of these bytes.
 fn mark(marks: &mut [u8], v: usize, test: bool)
-    requires { v < length marks.old }
+    requires { (v < length marks.old) × (get_or marks.old v 0 ≤ 1) }
     ensures { marks.new ≡ cond test (set marks.old v 1) marks.old }
 {
-    marks[v] = if test { 1 } else { marks[v] };
+    marks[v] |= u8::from(test);
 }
 
 // Settles slot s, where the slots above it are settled. The two marks stay apart from the slots: each is a table that the caller lends for itself.
 fn settle_slot(table: &mut [u64], bad: &mut [u8], full: &mut [u8], s: usize)
-    requires { (s < length table.old) × (s < length bad.old) × (s < length full.old) × (key_in (get_or table.old s 0) / 131072 < s) }
+    requires { (s < length table.old) × (s < length bad.old) × (s < length full.old) × (key_in (get_or table.old s 0) / 131072 < s)
+        × ((v : ℕ) → get_or bad.old v 0 ≤ 1) × ((v : ℕ) → get_or full.old v 0 ≤ 1) }
     ensures { Slotted table.old bad.old full.old s table.new bad.new full.new }
 {
     let x = table[s];
