@@ -1,6 +1,6 @@
 // The comparison. Whether all entries of the second description hold is asked of the normal form's layer, which slots the first and leaves
-// its slots in a lent table. Only where one fails is the specimen written to the output, from these slots. Tables are made in two sizes, so
-// that two descriptions of one block each do not pay for clearing tables for 1,008 entries.
+// its slots in a lent table. Only where one fails is the specimen written to the output, from these slots. Tables are made in three sizes, so
+// that two descriptions of one block each, or of at most four, do not pay for clearing tables for 1,008 entries.
 ghost use Rattle.std.specs.Prelude.{◌≡◌, ◌*◌, ◌+◌, ◌≤◌, ◌<◌, leb, ltb, length, min, replicate, ◌&&◌};
 ghost use Rattle.logic.specs.Background.{Background, Ruled};
 ghost use Rattle.slots.specs.code.Standing.{BothRead};
@@ -57,11 +57,11 @@ fn show_sized<const SLOTS: usize, const RUNS: usize, const ROWS: usize, const PL
     write_specimen(table, d, n, work, out)
 }
 
-// Whether two descriptions are of one block each.
-fn are_small(c: &[u8], d: &[u8]) -> bool
-    ensures { result ≡ (leb (length c.now) 512 && leb (length d.now) 512) }
+// Whether two descriptions are of at most so many bytes each.
+fn are_within(c: &[u8], d: &[u8], most: usize) -> bool
+    ensures { result ≡ (leb (length c.now) most && leb (length d.now) most) }
 {
-    c.len() <= 512 && d.len() <= 512
+    c.len() <= most && d.len() <= most
 }
 
 // Shows that entry n fails, where the slots of the first description stand in the table.
@@ -70,8 +70,10 @@ fn show(c: &[u8], d: &[u8], n: usize, table: &[u64], out: &mut [u8]) -> NotConta
     ensures { (b : Background) → Ruled b → Failed b c.now d.now n table.now
         → (Ok (Some result) ≡ compare_under b c.now d.now out.old) × (out.new ≡ output_under b c.now d.now out.old) }
 {
-    let count = if are_small(c, d) {
+    let count = if are_within(c, d, 512) {
         show_sized::<64, 128, 126, 127>(table, d, n, out)
+    } else if are_within(c, d, 2048) {
+        show_sized::<253, 506, 504, 505>(table, d, n, out)
     } else {
         show_sized::<1009, 2018, 2016, 2017>(table, d, n, out)
     };
@@ -178,8 +180,11 @@ pub fn compare(
 ) -> Result<Option<NotContained>, Refusal>
     ensures { (result ≡ compare_of pairs.now c.now d.now out.old) × (out.new ≡ output_of pairs.now c.now d.now out.old) }
 {
-    if are_small(c, d) {
+    if are_within(c, d, 512) {
         return compare_sized::<64>(pairs, c, d, out);
+    }
+    if are_within(c, d, 2048) {
+        return compare_sized::<253>(pairs, c, d, out);
     }
     compare_sized::<1009>(pairs, c, d, out)
 }

@@ -63,16 +63,17 @@ fn pack_row(kind: u8, owner: u16, name: u16, number: u16) -> u64
     })
 }
 
-impl<'a> Slots<'a> {
-    // The number that a tag's slot lists with a kind of its class, if it lists one.
-    fn value_at(&self, kind: AtomKind, x: u64) -> Option<u16>
-        requires { (x % 1024 < length self.now.table.now) × (low_part (get_or self.now.table.now (x % 1024) 0) < 65536) }
-        ensures { result ≡ value_number (cell_value (kind_in kind) (kind_cell self.now.table.now (kind_in kind) x)) }
-    {
-        let y = self.table[tag_slot(x)];
-        value_of(kind, low_in(y), high_in(y))
-    }
+// The number that a tag's slot lists with a kind of its class, if it lists one. Here, in `push_atom` and in `push_kind` the table comes alone: while
+// rows are written, a struct that is lent would be asked for it again at each tag.
+fn value_at(kind: AtomKind, x: u64, table: &[u64]) -> Option<u16>
+    requires { (x % 1024 < length table.now) × (low_part (get_or table.now (x % 1024) 0) < 65536) }
+    ensures { result ≡ value_number (cell_value (kind_in kind) (kind_cell table.now (kind_in kind) x)) }
+{
+    let y = table[tag_slot(x)];
+    value_of(kind, low_in(y), high_in(y))
+}
 
+impl<'a> Slots<'a> {
     // Whether the 'every' of a tag's slot, a link's, is kept: its place is not empty, and its bound is not 0.
     fn keeps(&self, x: u64) -> bool
         requires { x % 1024 < length self.now.table.now }
@@ -83,26 +84,27 @@ impl<'a> Slots<'a> {
     }
 }
 
-// Pushes the row of a kind of a tag's slot, where it lists one.
+// Pushes the row of a kind of a tag's slot, where it lists one. The row is stored either way, where there is room for one, and counts where it is
+// listed: slots come in any order of kinds, and a jump would be guessed wrong.
 fn push_atom(
     kind: AtomKind,
     owner: u16,
     x: u64,
-    slots: &Slots,
+    table: &[u64],
     rows: &mut [u64],
     count: usize,
 ) -> usize
-    requires { (x % 1024 < length slots.now.table.now) × (low_part (get_or slots.now.table.now (x % 1024) 0) < 65536) × (x / 1024 < 65536)
-        × (count + length (tag_rows slots.now (kind_in kind) owner x) ≤ length rows.old) }
-    ensures { Pushed (length rows.old) rows.old count (tag_rows slots.now (kind_in kind) owner x) rows.new result }
+    requires { (x % 1024 < length table.now) × (low_part (get_or table.now (x % 1024) 0) < 65536) × (x / 1024 < 65536)
+        × (count + length (tag_rows table.now (kind_in kind) owner x) ≤ length rows.old) }
+    ensures { Pushed (length rows.old) rows.old count (tag_rows table.now (kind_in kind) owner x) rows.new result }
 {
-    match slots.value_at(kind, x) {
-        None => count,
-        Some(number) => {
-            rows[count] = pack_row(kind.number(), owner, tag_name(x) as u16, number);
-            count + 1
-        }
+    if rows.len() <= count {
+        return count;
     }
+    let value = value_at(kind, x, table);
+    let number = value.unwrap_or(0);
+    rows[count] = pack_row(kind.number(), owner, tag_name(x) as u16, number);
+    count + usize::from(value.is_some())
 }
 
 // Pushes the rows of a kind of the slots of these tags, which are of its class.
@@ -110,17 +112,17 @@ fn push_kind(
     kind: AtomKind,
     owner: u16,
     tags: &[u64],
-    slots: &Slots,
+    table: &[u64],
     rows: &mut [u64],
     count: usize,
 ) -> usize
-    requires { Tagged slots.now.table.now tags.now
-        × (count + length (kind_rows (kind_in kind) owner (map (cell_at slots.now.table.now (is_link (kind_in kind))) tags.now)) ≤ length rows.old) }
-    ensures { Pushed (length rows.old) rows.old count (kind_rows (kind_in kind) owner (map (cell_at slots.now.table.now (is_link (kind_in kind))) tags.now)) rows.new result }
+    requires { Tagged table.now tags.now
+        × (count + length (kind_rows (kind_in kind) owner (map (cell_at table.now (is_link (kind_in kind))) tags.now)) ≤ length rows.old) }
+    ensures { Pushed (length rows.old) rows.old count (kind_rows (kind_in kind) owner (map (cell_at table.now (is_link (kind_in kind))) tags.now)) rows.new result }
 {
     let mut k = count;
     for x in tags {
-        k = push_atom(kind, owner, *x, slots, rows, k);
+        k = push_atom(kind, owner, *x, table, rows, k);
     }
     k
 }
@@ -183,8 +185,8 @@ fn push_properties(
 {
     let n = slots.class_run(2 * v, order);
     let run = &order[..n];
-    let k = push_kind(AtomKind::Has, owner, run, slots, rows, count);
-    push_kind(AtomKind::Lacks, owner, run, slots, rows, k)
+    let k = push_kind(AtomKind::Has, owner, run, slots.table, rows, count);
+    push_kind(AtomKind::Lacks, owner, run, slots.table, rows, k)
 }
 
 // Pushes those of its links, and notes the slots that the 'every' entries lead to.
@@ -206,8 +208,8 @@ fn push_links(
 {
     let n = slots.class_run(2 * v + 1, order);
     let run = &order[..n];
-    let k = push_kind(AtomKind::AtLeast, owner, run, slots, rows, count);
-    let m = push_kind(AtomKind::AtMost, owner, run, slots, rows, k);
+    let k = push_kind(AtomKind::AtLeast, owner, run, slots.table, rows, count);
+    let m = push_kind(AtomKind::AtMost, owner, run, slots.table, rows, k);
     push_every(owner, run, slots, rows, below, m)
 }
 

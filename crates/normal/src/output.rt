@@ -71,7 +71,8 @@ fn normalise_in(
     write_normal(d, usize::from(used), table, bad, full, work, out)
 }
 
-// The same in tables of its own, for so many entries: a description of one block has at most 63, and small tables are sooner cleared.
+// The same in tables of its own, for so many entries: a description of one block has at most 63, and one of four 252, and smaller tables are sooner
+// cleared.
 fn normalise_sized<const ROWS: usize, const SLOTS: usize, const RUNS: usize>(
     pairs: &[u8],
     d: &[u8],
@@ -106,6 +107,9 @@ pub fn normalise(pairs: &[u8], description: &[u8], out: &mut [u8]) -> Result<u16
 {
     if description.len() <= 512 {
         return normalise_sized::<63, 64, 128>(pairs, description, out);
+    }
+    if description.len() <= 2048 {
+        return normalise_sized::<252, 253, 506>(pairs, description, out);
     }
     normalise_sized::<1008, 1009, 2018>(pairs, description, out)
 }

@@ -70,7 +70,7 @@ impl<'a, const BUCKETS: usize> Supplier<'a, BUCKETS> {
     }
 
     // The first entry of a description with m entries that does not hold by the supplier; none where nothing fits it. This is all that
-    // judges, and it leaves the slots: they serve for many descriptions. The states are a slice, since they come in both sizes of tables.
+    // judges, and it leaves the slots: they serve for many descriptions. The states are a slice, since they come in each size of tables.
     pub(crate) fn judge(self, d: &[u8], m: usize, states: &mut [u16]) -> Option<usize>
         requires { (reading_of Schema.Description 2 d.now ≡ Ok m) × (m < length states.old) }
         ensures { (unwrap_or result 0 ≤ 1008) × IfSome result (λ n. 1 ≤ n)
@@ -114,8 +114,8 @@ fn judge<const N: usize, const BUCKETS: usize>(
     Ok(answer_of(e, used))
 }
 
-// The answer for two accepted descriptions: 7 where the table is too short for the first. Few entries take small tables, which are sooner
-// cleared.
+// The answer for two accepted descriptions: 7 where the table is too short for the first. Those of one block, and
+// of four, take smaller tables, which are sooner cleared.
 fn judge_read(
     exclusions: Exclusions<'_>,
     c: &[u8],
@@ -136,6 +136,9 @@ fn judge_read(
     }
     if n < 64 && m < 64 {
         return judge::<64, 61>(exclusions, c, n, d, m, table);
+    }
+    if n < 253 && m < 253 {
+        return judge::<253, 4093>(exclusions, c, n, d, m, table);
     }
     judge::<1009, 4093>(exclusions, c, n, d, m, table)
 }

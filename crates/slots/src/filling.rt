@@ -53,7 +53,8 @@ fn settled_within<const N: usize, const BUCKETS: usize>(
     )
 }
 
-// The slots of a description with `total` entries, settled; returns their number. Few entries take small tables, which are sooner cleared.
+// The slots of a description with `total` entries, settled; returns their number. Those of one block, and of four, take smaller tables, which
+// are sooner cleared.
 fn settled_slots(
     exclusions: Exclusions<'_>,
     d: &[u8],
@@ -67,6 +68,9 @@ fn settled_slots(
 {
     if total < 64 {
         return settled_within::<64, 61>(exclusions, d, total, table, bad, full);
+    }
+    if total < 253 {
+        return settled_within::<253, 4093>(exclusions, d, total, table, bad, full);
     }
     settled_within::<1009, 4093>(exclusions, d, total, table, bad, full)
 }

@@ -3,8 +3,8 @@
 // place. A second call asks which entries of another description they hold; it orders nothing. A third asks it of each description of a list,
 // by one set of slots, and reads each as it comes to it.
 //
-// The slots stand in a table that the caller lends, who can go on from them. All other tables are slices too, made in two sizes: small ones
-// serve for at most 63 entries, which is a block, so that a short call clears no large ones.
+// The slots stand in a table that the caller lends, who can go on from them. All other tables are slices too, made in three sizes, for
+// as many entries as a block has, as four have, and for any number, so that a short call clears no large ones.
 //
 // The three calls begin alike: the list of pairs is read, and indexed. What comes then has another type in each, and a function that is handed
 // it as a closure would be longer than the three lines that it saves.

@@ -44,7 +44,7 @@ pub(crate) fn make_slot(key: u64, lo: u64, hi: u64) -> u64
     17179869184 * key + (131072 * lo + hi)
 }
 
-// The bucket of a key. Tables come in two sizes; each divides by a prime that is a constant, which is sooner done than by a number that is
+// The bucket of a key. Heads come in two sizes; each divides by a prime that is a constant, which is sooner done than by a number that is
 // known only when the program runs.
 #[tactic(auto, unfolding(crate::specs::code::Tables::hash_of))]
 fn bucket<const BUCKETS: usize>(key: u64) -> usize
@@ -72,9 +72,6 @@ impl<const BUCKETS: usize> Slots<'_, BUCKETS> {
     pub(crate) fn search(self, key: u64) -> Option<usize>
         ensures { (unwrap_or result 0 ≡ last_where (λ j. key_in (get_or self.entry.table.now j 0)) key self.entry.used) × IfSome result (λ s. 1 ≤ s) }
     {
-        if self.used == 0 {
-            return None;
-        }
         let b = bucket::<BUCKETS>(key);
         let mut s = usize::from(self.head[b]);
         // The one walk along a chain: an iterator for it would say the same in three places.

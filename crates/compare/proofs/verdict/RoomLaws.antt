@@ -40,11 +40,11 @@ accepted-counted i c e =
 pub roomy : (c : List ℕ) (k : ℕ) → 63 * min (length c) 8192 < 512 * k → Roomy c (replicate k 0)
 roomy c k h n e = let a = accepted-counted 1 c e in omega (arith, a.few, a.short, length-replicate {A = ℕ} k 0)
 
--- two descriptions of one block each, by a test that was made
-pub small-both : (c d : List ℕ) {b : Bool} → b ≡ (leb (length c) 512 && leb (length d) 512) → b ≡ true → (length c ≤ 512) × (length d ≤ 512)
-small-both c d e h =
+-- two descriptions of at most so many bytes each, by a test that was made
+pub small-both : (c d : List ℕ) (most : ℕ) {b : Bool} → b ≡ (leb (length c) most && leb (length d) most) → b ≡ true → (length c ≤ most) × (length d ≤ most)
+small-both c d most e h =
     let both = sym e ∙ h in
-    (leb-le (and_left (leb (length c) 512) (leb (length d) 512) both), leb-le (and_right (leb (length c) 512) (leb (length d) 512) both))
+    (leb-le (and_left (leb (length c) most) (leb (length d) most) both), leb-le (and_right (leb (length c) most) (leb (length d) most) both))
 
 -- two accepted descriptions: how many entries they have together, and how long they are
 pub both-few : {c d : List ℕ} → BothRead c d → 512 * (length (entries_of c) + length (entries_of d)) ≤ 63 * (length c + length d)

@@ -127,14 +127,14 @@ module _ {b : Background} (R : Ruled b) {c d : List ℕ} {n : ℕ} {t : List ℕ
       room = fits-output;
     }
 
-    -- any two, and two of one block each
+    -- any two, and two of so many blocks each
     pub failed-many : Showable t d n 2016 out
     failed-many = failed-showable 2016 (omega (arith, both-few f.read, both-short f.read)) (omega arith)
 
-    pub failed-few : length c ≤ 512 → length d ≤ 512 → Showable t d n 126 out × (length t ≤ 64)
-    failed-few lc ld =
+    pub failed-few : (blocks : ℕ) → blocks ≤ 16 → length c ≤ 512 * blocks → length d ≤ 512 * blocks → Showable t d n (126 * blocks) out × (length t ≤ 63 * blocks + 1)
+    failed-few blocks few lc ld =
         let a = accepted-counted 1 c f.read.first_read in
-        (failed-showable 126 (omega (arith, both-few f.read)) (omega arith), omega (arith, f.few, a.total, a.few))
+        (failed-showable (126 * blocks) (omega (arith, lc, ld, both-few f.read)) (omega (arith, few)), omega (arith, lc, f.few, a.total, a.few))
 
     -- and is what the answer promises
     pub failed-shown : {r : ℕ} {out' : List ℕ} → r ≡ length (shown_by t d n) → out' ≡ shown_after t d n out

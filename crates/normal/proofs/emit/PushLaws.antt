@@ -1,18 +1,22 @@
 -- Rows pushed onto the table of packed entries: none, one, some and then some, and all of them at last.
 -- Assumes nothing.
 use Prim.Native.Nat.{◌+◌, ◌<◌, ◌≤◌, ℕ}
-use lib.ListN.{drop_of_length-le, drop, get_or, length, length-append, length-map, set}
+use lib.ListN.{drop_of_length-le, drop, get_or, length, length-append, length-map, length-set, set, take}
 use lib.Seq.{drop-cons}
 use mathlib.Core.List.{List, map-append, [], ◌++◌, ◌∷◌, append_assoc, append-nil, map}
 use mathlib.Core.Option.{Option, none, some}
-use mathlib.Core.Path.{◌∙◌, ◌≡◌, ap, refl}
+use mathlib.Core.Path.{◌∙◌, ◌≡◌, ap, refl, sym}
+use native.Mathlib.Nat.{add-zero}
 use native.Mathlib.Numerals.{add-one}
 use native.Mathlib.Omega.{arith}
 use Rattle.base.proofs.Tests.{bool_cases}
 use Rattle.logic.proofs.TreeRows.FillLaws.{filled_more, filled_none, filled-one}
 use Rattle.logic.specs.Filling.{Filled}
 use Rattle.logic.specs.Normal.{rank}
+use Rattle.std.proofs.lemmas.List.{take-set}
+use Rattle.std.specs.Int.{from_bool}
 use Rattle.std.specs.Prelude as code
+use Rattle.std.specs.Prelude.{is_some, unwrap_or}
 use Rattle.logic.specs.Place.{Atom, Kind, atom}
 use Rattle.logic.specs.Tree.{Row, leaf_row}
 use Rattle.normal.specs.code.Emitted.{Pushed, cell_name, cell_value, kind_rows, packed_of, row_number, rows_if, value_number}
@@ -81,31 +85,31 @@ pub kinds-step : (a : Kind) (o : ℕ) (c : Cell) (q : List Cell) → kind_rows a
 unfolding kind_rows
 kinds-step a o (cell j b n lo hi) q = bool_cases (same_class b (is_link a)) (λ z. rw z) (λ z. rw z)
 
--- what is listed, where the code finds a number, and where it finds none
-value_none : (w : Option ℕ) → code.None ≡ value_number w → w ≡ none
-value_none none e = refl
-value_none (some m) e = cc
-
-value-some : (w : Option ℕ) {m : ℕ} → code.Some m ≡ value_number w → w ≡ some m
-value-some none e = cc
-value-some (some n) e = cc
-
 -- ---- the rows of one cell, pushed
 
-pub atom-none : (a : Kind) (o : ℕ) (c : Cell) {rows : List ℕ} {n : ℕ} → code.None ≡ value_number (cell_value a c)
+-- what is stored after the rows is of no account
+stored-beyond : {rows : List ℕ} {n : ℕ} (x : ℕ) → Filled (length rows) rows n [] (set rows n x) (n + 0)
+stored-beyond {rows} {n} x = record { size = length-set rows n x; total = refl; held = rw (add-zero n) (take-set rows n x ∙ sym (append-nil (take n rows))) }
+
+-- where there is no room, nothing is listed
+pub atom-full : (a : Kind) (o : ℕ) (c : Cell) {rows : List ℕ} {n : ℕ} → n + length (rows_if a o (cell_name c) (cell_value a c)) ≤ length rows → length rows ≤ n
     → Pushed (length rows) rows n (rows_if a o (cell_name c) (cell_value a c)) rows n
-atom-none a o c e = rw (value_none (cell_value a c) e) (filled_none refl)
+atom-full a o c {rows} {n} l h = listed (cell_value a c) l
+  where
+    listed : (w : Option ℕ) → n + length (rows_if a o (cell_name c) w) ≤ length rows → Pushed (length rows) rows n (rows_if a o (cell_name c) w) rows n
+    listed none k = filled_none refl
+    listed (some m) k = absurd (omega (arith, k, h))
 
-pub atom-room : (a : Kind) (o : ℕ) (c : Cell) {n m w : ℕ} → code.Some m ≡ value_number (cell_value a c)
-    → n + length (rows_if a o (cell_name c) (cell_value a c)) ≤ w → n < w
-atom-room a o c e l =
-    let l' = rw (value-some (cell_value a c) e) at l in
-    omega (arith, l')
-
-pub atom-one : (a : Kind) (o : ℕ) (c : Cell) {rows : List ℕ} {n m x : ℕ} → code.Some m ≡ value_number (cell_value a c)
-    → n < length rows → x ≡ packed_of (rank a) o (cell_name c) m → Pushed (length rows) rows n (rows_if a o (cell_name c) (cell_value a c)) (set rows n x) (n + 1)
-atom-one a o c {m = m} e b p =
-    rw (value-some (cell_value a c) e) (filled-one refl b (p ∙ row_number_lem a o (cell_name c) m))
+-- A row that is stored counts where its cell lists a number.
+pub atom-stored : (a : Kind) (o : ℕ) (c : Cell) {rows : List ℕ} {n x : ℕ} {v : code.Option ℕ} → v ≡ value_number (cell_value a c) → n < length rows
+    → x ≡ packed_of (rank a) o (cell_name c) (unwrap_or v 0)
+    → Pushed (length rows) rows n (rows_if a o (cell_name c) (cell_value a c)) (set rows n x) (n + from_bool (is_some v))
+atom-stored a o c {rows} {n} {x} {v} e b p = rw e (listed (cell_value a c) (rw e at p))
+  where
+    listed : (w : Option ℕ) → x ≡ packed_of (rank a) o (cell_name c) (unwrap_or (value_number w) 0)
+        → Pushed (length rows) rows n (rows_if a o (cell_name c) w) (set rows n x) (n + from_bool (is_some (value_number w)))
+    listed none q = stored-beyond x
+    listed (some m) q = filled-one refl b (q ∙ row_number_lem a o (cell_name c) m)
 
 -- ---- the rows of one kind
 

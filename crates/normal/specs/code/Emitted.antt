@@ -100,8 +100,8 @@ abbrev pub kept_by : Slots → ℕ → Bool → Option ℕ → Bool
 kept_by s = keep_in s.full.now
 
 -- the row of kind a that a tag's slot gives, if it lists a number
-abbrev pub tag_rows : Slots → Kind → ℕ → ℕ → List (Row Atom ℕ)
-tag_rows s a o x = rows_if a o (cell_name (kind_cell s.table.now a x)) (cell_value a (kind_cell s.table.now a x))
+abbrev pub tag_rows : List ℕ → Kind → ℕ → ℕ → List (Row Atom ℕ)
+tag_rows t a o x = rows_if a o (cell_name (kind_cell t a x)) (cell_value a (kind_cell t a x))
 
 -- all rows of a place
 unfoldable pub place_rows : (ℕ → Bool → Option ℕ → Bool) → ℕ → List Cell → List (Row Atom ℕ)

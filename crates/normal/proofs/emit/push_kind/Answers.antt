@@ -15,7 +15,7 @@ push_atom-k-requires c =
       w.slot l.x-index b,
       w.bound l.x-index b,
       w.name l.x-index b,
-      within l.invariant.pushed.size (kinds-room k a.owner (kind_cell a.slots.now.table.now k) a.tags.now l.x-index _ b (pushing-room l.invariant c.requires.1)),
+      within l.invariant.pushed.size (kinds-room k a.owner (kind_cell a.table.now k) a.tags.now l.x-index _ b (pushing-room l.invariant c.requires.1)),
     )
 
 pub loop-x-preserved : goal.loop-x-preserved
@@ -23,12 +23,12 @@ loop-x-preserved c =
     let l = c.loop-x in
     let a = c.args in
     let k = kind_in a.kind in
-    let x = kind_cell a.slots.now.table.now k (get_or a.tags.now l.x-index 0) in
-    pushing-more (rows_if k a.owner (cell_name x) (cell_value k x)) l.invariant (kinds-more k a.owner (kind_cell a.slots.now.table.now k) a.tags.now l.x-index c.loop-x-test.true) c.push_atom-k.ensures
+    let x = kind_cell a.table.now k (get_or a.tags.now l.x-index 0) in
+    pushing-more (rows_if k a.owner (cell_name x) (cell_value k x)) l.invariant (kinds-more k a.owner (kind_cell a.table.now k) a.tags.now l.x-index c.loop-x-test.true) c.push_atom-k.ensures
 
 pub returns : goal.returns
 returns c =
     let l = c.loop-x in
     let a = c.args in
     let k = kind_in a.kind in
-    pushing-done l.invariant (kinds-none k a.owner (cells-end (kind_cell a.slots.now.table.now k) a.tags.now l.x-index c.loop-x-test.false))
+    pushing-done l.invariant (kinds-none k a.owner (cells-end (kind_cell a.table.now k) a.tags.now l.x-index c.loop-x-test.false))

@@ -8,5 +8,5 @@ use Rattle.normal.proofs.emit.push_kind.Given as goal
 
 abbrev pub invariant-loop-x : goal.invariant-loop-x
 invariant-loop-x l =
-    Pushing (length l.initial.rows) l.initial.rows l.count (kind_rows (kind_in l.kind) l.owner (map (kind_cell l.slots.table.now (kind_in l.kind)) l.tags)) l.rows l.k
-    (kind_rows (kind_in l.kind) l.owner (map (kind_cell l.slots.table.now (kind_in l.kind)) (drop l.x-index l.tags)))
+    Pushing (length l.initial.rows) l.initial.rows l.count (kind_rows (kind_in l.kind) l.owner (map (kind_cell l.table (kind_in l.kind)) l.tags)) l.rows l.k
+    (kind_rows (kind_in l.kind) l.owner (map (kind_cell l.table (kind_in l.kind)) (drop l.x-index l.tags)))

@@ -1,4 +1,4 @@
--- `judge_read` meets its contract: too short, or judged in tables of one of the two sizes.
+-- `judge_read` meets its contract: too short, or judged in tables of one of the three sizes.
 use borrow.Author.Rules.{rules}
 use native.Mathlib.Omega.{arith}
 use Rattle.pairs.specs.Pairs.{under}

@@ -3,14 +3,8 @@ use lib.ListN.{length}
 use mathlib.Core.Path.{◌∙◌, ◌≡◌, ap, sym}
 use native.Mathlib.Omega.{arith}
 use Rattle.slots.proofs.slots.SearchLaws.{found-ends, found-goes, found-hits, found-starts, search-falls, search-goes, search-starts}
-use Rattle.base.specs.Chain.{last_where}
 use Rattle.slots.specs.code.Tables.{hash_of}
 use Rattle.slots.proofs.slots.Slots.search.Goals as goal
-
--- in a table of no slots nothing is found
-pub returns-then-self-eq0 : goal.returns-then-self-eq0
-unfolding last_where
-returns-then-self-eq0 g c = (rw c.if-self-eq0.true, tt)
 
 pub loop-s-init : goal.loop-s-init
 loop-s-init g c =
