@@ -3,12 +3,12 @@
 use std::hint::black_box;
 
 use bench::excluding::{star, star_places, Case};
-use bench::inputs::{entry, with_last, Chance};
+use bench::inputs::Chance;
 use bench::plain;
 use goltximen::Under;
 use reference::{encode, Entry};
 
-use crate::{best, grouped, print_row, shape_name, SHAPES, STRANGE};
+use crate::{checked_times, failing_last, grouped, print_row, shape_name, shaped};
 
 /// The sizes of the descriptions, and how many pairs the lists have.
 const SIZES: [usize; 2] = [250, 1008];
@@ -18,10 +18,7 @@ const STAR: &str = "504 places";
 
 pub fn rows() {
     let mut chance = Chance::new(0x7a17);
-    for (shape, size) in SHAPES
-        .iter()
-        .flat_map(|&shape| SIZES.map(|size| (shape, size)))
-    {
+    for (shape, size) in shaped(SIZES) {
         for pairs in PAIRS {
             let case = Case::new(size, shape, pairs, &mut chance);
             let input = format!("{}, {pairs} pairs", shape_name(shape));
@@ -39,7 +36,7 @@ fn case_rows(case: &Case, size: &str, input: &str) {
         specimen,
     } = case;
     let owner = c.last().map_or(0, |last| last.owner);
-    let failing = with_last(entry(1, owner.into(), STRANGE, 0), d);
+    let failing = failing_last(owner.into(), d);
     let row = |call, situation, times| print_row(call, size, input, situation, times);
     row("compare", "contained", compare_times(pairs, c, d));
     row("compare", "failing last", compare_times(pairs, c, &failing));
@@ -67,14 +64,16 @@ pub fn writing<A, B>(
     mut product: impl FnMut(&mut [u8]) -> A,
     mut plain: impl FnMut(&mut [u8]) -> B,
 ) -> (f64, f64) {
-    let mut outs = [vec![0; length], vec![0; length]];
-    let [ours, other] = &mut outs;
-    product(ours);
-    plain(other);
-    assert!(ours == other);
-    best(
-        || product(black_box(&mut ours[..])),
-        || plain(black_box(&mut other[..])),
+    checked_times(
+        &[()],
+        length,
+        |_| true,
+        |_, out| {
+            black_box(product(out));
+        },
+        |_, out| {
+            black_box(plain(out));
+        },
     )
 }
 
@@ -98,8 +97,9 @@ fn normal_times(pairs: &[u8], d: &[Entry]) -> (f64, f64) {
 
 fn fit_times(pairs: &[u8], s: &[Entry], d: &[Entry]) -> (f64, f64) {
     let (s, d) = (&encode(s)[..], &encode(d)[..]);
-    best(
-        || under(black_box(pairs)).fit(black_box(s), black_box(d)),
-        || plain::fit_with(black_box(pairs), &[], black_box(s), black_box(d)),
+    writing(
+        0,
+        |_| under(black_box(pairs)).fit(black_box(s), black_box(d)),
+        |_| plain::fit_with(black_box(pairs), &[], black_box(s), black_box(d)),
     )
 }

@@ -5,7 +5,9 @@
 mod listed;
 mod named;
 mod services;
+mod turns;
 
+use std::fmt::Debug;
 use std::hint::black_box;
 use std::time::Instant;
 
@@ -18,11 +20,15 @@ use reference::{encode, Entry};
 
 const SIZES: [usize; 4] = [16, 63, 250, 1008];
 const SHAPES: [Shape; 2] = [Shape::Wide, Shape::Deep];
-/// The turns of each side, and the repetitions in a turn, of which the best is taken. The first repetitions of a turn warm up.
+/// The turns of each side, and the repetitions in a turn, of which the best is taken. One more before them warms up.
 const TURNS: usize = 6;
 const ROUNDS: usize = 50;
 /// A repetition makes as many calls as take at least this long.
 const ROUND_NANOSECONDS: u128 = 20_000;
+/// Where there are many inputs, a repetition is one pass through them all. A turn then has as many repetitions as take at least
+/// this long, and at least so many.
+const TURN_NANOSECONDS: u128 = 1_000_000;
+const LEAST_ROUNDS: usize = 3;
 /// A property that no model has.
 const STRANGE: u16 = 65_500;
 /// A specimen whose groups are by a link that leads to one item only.
@@ -37,16 +43,23 @@ struct Timed {
     sorted_too: bool,
 }
 
+/// How the calls of a turn are laid out.
+#[derive(Clone, Copy)]
+struct Plan {
+    /// The passes through the inputs that make a repetition.
+    passes: usize,
+    /// The repetitions.
+    rounds: usize,
+}
+
+/// The two inputs of a call.
+type Pair<'a> = (&'a [u8], &'a [u8]);
+
 fn main() {
-    println!(
-        "| Call | Entries | Input | Situation | Product, µs | Plain Rust, µs | Product / plain |"
-    );
-    println!("|---|---:|---|---|---:|---:|---:|");
+    print_heading();
     let mut chance = Chance::new(0x901d);
-    let models: Vec<Timed> = SHAPES
-        .iter()
-        .flat_map(|&shape| SIZES.map(|size| (size, shape)))
-        .map(|(size, shape)| Timed {
+    let models: Vec<Timed> = shaped(SIZES)
+        .map(|(shape, size)| Timed {
             size,
             input: shape_name(shape).to_string(),
             model: Model::new(size, shape, &mut chance),
@@ -75,14 +88,14 @@ fn main() {
     }
     one_link_rows();
     let (specimen, description) = single_links();
-    let times = fit_times(&specimen, &description, true);
+    let times = fit_times(&[(&specimen, &description)], true);
     print_row("fit", "2,016 and 65", SINGLE_LINK, "yes", times);
     for timed in &models {
         read_rows(timed);
     }
-    let times = read_times(product_specimen, plain_specimen, &specimen, 2016);
+    let times = specimen_times(&[&specimen], 2016);
     print_row("read specimen", "2,016", SINGLE_LINK, "accepted", times);
-    let times = read_times(product_specimen, plain_specimen, &one_cell(), 2016);
+    let times = specimen_times(&[&one_cell()], 2016);
     print_row(
         "read specimen",
         "2,016",
@@ -93,44 +106,105 @@ fn main() {
     listed::rows();
     named::rows();
     services::rows();
+    turns::rows();
 }
 
-/// The best times of two calls in nanoseconds; the two take turns.
-fn best<A, B>(mut product: impl FnMut() -> A, mut plain: impl FnMut() -> B) -> (f64, f64) {
-    let calls = (calls_for(&mut product), calls_for(&mut plain));
+/// Each shape with each of these sizes.
+fn shaped<const N: usize>(sizes: [usize; N]) -> impl Iterator<Item = (Shape, usize)> {
+    let shapes = SHAPES.into_iter();
+    shapes.flat_map(move |shape| sizes.map(|size| (shape, size)))
+}
+
+/// The times of two calls on the inputs in turn, with an output of this length. It first checks that on each input both give the
+/// same right answer and write the same bytes.
+fn checked_times<I, A: PartialEq + Debug>(
+    inputs: &[I],
+    length: usize,
+    right: impl Fn(&A) -> bool,
+    mut product: impl FnMut(&I, &mut [u8]) -> A,
+    mut plain: impl FnMut(&I, &mut [u8]) -> A,
+) -> (f64, f64) {
+    let mut outs = [vec![0; length], vec![0; length]];
+    let [ours, other] = &mut outs;
+    for input in inputs {
+        // What the input before left there could hide a byte that one side doesn't write.
+        ours.fill(0);
+        other.fill(0);
+        let answer = product(input, ours);
+        assert!(right(&answer));
+        assert_eq!(plain(input, other), answer);
+        assert!(ours == other);
+    }
+    best(
+        inputs,
+        |input| product(input, black_box(&mut ours[..])),
+        |input| plain(input, black_box(&mut other[..])),
+    )
+}
+
+/// The best times of two calls in nanoseconds, on the inputs in turn; the two sides take turns, too.
+fn best<I, A, B>(
+    inputs: &[I],
+    mut product: impl FnMut(&I) -> A,
+    mut plain: impl FnMut(&I) -> B,
+) -> (f64, f64) {
+    let plans = (plan(inputs, &mut product), plan(inputs, &mut plain));
     let mut best = (f64::MAX, f64::MAX);
     for _ in 0..TURNS {
-        best.0 = best.0.min(turn(&mut product, calls.0));
-        best.1 = best.1.min(turn(&mut plain, calls.1));
+        best.0 = best.0.min(turn(inputs, &mut product, plans.0));
+        best.1 = best.1.min(turn(inputs, &mut plain, plans.1));
     }
     best
 }
 
-fn turn<A>(call: &mut impl FnMut() -> A, calls: usize) -> f64 {
-    let rounds = (0..ROUNDS).map(|_| round(call, calls));
+/// One input is called again and again; many are gone through once in each repetition.
+fn plan<I, A>(inputs: &[I], call: &mut impl FnMut(&I) -> A) -> Plan {
+    match inputs {
+        [_] => Plan {
+            passes: passes_for(inputs, call, ROUND_NANOSECONDS),
+            rounds: ROUNDS,
+        },
+        _ => Plan {
+            passes: 1,
+            rounds: passes_for(inputs, call, TURN_NANOSECONDS).max(LEAST_ROUNDS),
+        },
+    }
+}
+
+fn turn<I, A>(inputs: &[I], call: &mut impl FnMut(&I) -> A, plan: Plan) -> f64 {
+    round(inputs, call, plan.passes);
+    let rounds = (0..plan.rounds).map(|_| round(inputs, call, plan.passes));
     rounds.fold(f64::MAX, f64::min)
 }
 
-/// The time of one call, as the mean of this many.
-fn round<A>(call: &mut impl FnMut() -> A, calls: usize) -> f64 {
+/// The time of one call, as the mean of this many passes through the inputs.
+fn round<I, A>(inputs: &[I], call: &mut impl FnMut(&I) -> A, passes: usize) -> f64 {
+    let each = (0..passes).flat_map(|_| inputs);
     let start = Instant::now();
-    for _ in 0..calls {
-        black_box(call());
-    }
-    start.elapsed().as_nanos() as f64 / calls as f64
+    each.for_each(|input| {
+        black_box(call(black_box(input)));
+    });
+    start.elapsed().as_nanos() as f64 / (passes * inputs.len()) as f64
 }
 
-/// Warms up, and answers how many calls make a repetition.
-fn calls_for<A>(call: &mut impl FnMut() -> A) -> usize {
-    let mut calls = 1;
+/// Warms up, and answers how many passes through the inputs take this long.
+fn passes_for<I, A>(inputs: &[I], call: &mut impl FnMut(&I) -> A, nanoseconds: u128) -> usize {
+    let mut passes = 1;
     loop {
         let start = Instant::now();
-        round(call, calls);
-        if start.elapsed().as_nanos() >= ROUND_NANOSECONDS {
-            return calls;
+        round(inputs, call, passes);
+        if start.elapsed().as_nanos() >= nanoseconds {
+            return passes;
         }
-        calls *= 2;
+        passes *= 2;
     }
+}
+
+fn print_heading() {
+    println!(
+        "| Call | Entries | Input | Situation | Product, µs | Plain Rust, µs | Product / plain |"
+    );
+    println!("|---|---:|---|---|---:|---:|---:|");
 }
 
 fn print_row(call: &str, size: &str, input: &str, situation: &str, times: (f64, f64)) {
@@ -175,19 +249,24 @@ fn sorted(entries: &[Entry]) -> Vec<u8> {
     out
 }
 
+/// The entries, of which the first asks for a property that no model has.
+fn failing_first(entries: &[Entry]) -> Vec<Entry> {
+    with_first(entry(1, 0, STRANGE, 0), entries)
+}
+
+/// The entries, of which the last asks this owner for a property that no model has.
+fn failing_last(owner: usize, entries: &[Entry]) -> Vec<Entry> {
+    with_last(entry(1, owner, STRANGE, 0), entries)
+}
+
 fn compare_rows(timed: &Timed, chance: &mut Chance) {
     let model = &timed.model;
     let (c, looser) = (model.description(), model.looser(chance));
-    let strange = |owner| entry(1, owner, STRANGE, 0);
-    let last = with_last(strange(model.last_place()), &looser);
+    let last = failing_last(model.last_place(), &looser);
     let cases = [
         ("contained", encode(&c), encode(&looser)),
         ("contained, sorted", sorted(&c), sorted(&looser)),
-        (
-            "failing first",
-            encode(&c),
-            encode(&with_first(strange(0), &looser)),
-        ),
+        ("failing first", encode(&c), encode(&failing_first(&looser))),
         ("failing last", encode(&c), encode(&last)),
         ("failing last, sorted", sorted(&c), encode(&last)),
     ];
@@ -195,21 +274,25 @@ fn compare_rows(timed: &Timed, chance: &mut Chance) {
         if timed.leaves_out(situation) {
             continue;
         }
-        let times = compare_times(&c, &d, situation.starts_with("contained"));
+        let times = compare_times(&[(&c, &d)], situation.starts_with("contained"));
         timed.print("compare", situation, times);
     }
 }
 
-fn compare_times(c: &[u8], d: &[u8], contained: bool) -> (f64, f64) {
-    let mut outs = (vec![0; c.len() + d.len()], vec![0; c.len() + d.len()]);
-    let product = goltximen::compare(c, d, &mut outs.0).expect("accepted");
-    let plain = plain::compare(c, d, &mut outs.1).expect("accepted");
-    assert_eq!(product == goltximen::Comparison::Contained, contained);
-    assert_eq!(plain == plain::Comparison::Contained, contained);
-    assert!(outs.0 == outs.1);
-    best(
-        || goltximen::compare(black_box(c), black_box(d), black_box(&mut outs.0[..])),
-        || plain::compare(black_box(c), black_box(d), black_box(&mut outs.1[..])),
+fn compare_times(pairs: &[Pair], contained: bool) -> (f64, f64) {
+    let lengths = pairs.iter().map(|(c, d)| c.len() + d.len());
+    checked_times(
+        pairs,
+        lengths.max().unwrap_or(0),
+        |&answer| answer == Some(contained),
+        |(c, d), out| {
+            let answer = goltximen::compare(c, d, out).ok();
+            answer.map(|answer| answer == goltximen::Comparison::Contained)
+        },
+        |(c, d), out| {
+            let answer = plain::compare(c, d, out).ok();
+            answer.map(|answer| answer == plain::Comparison::Contained)
+        },
     )
 }
 
@@ -219,45 +302,49 @@ fn normal_rows(timed: &Timed) {
         if timed.leaves_out(situation) {
             continue;
         }
-        let mut outs = (vec![0; d.len()], vec![0; d.len()]);
-        goltximen::normal_form(&d, &mut outs.0).expect("accepted");
-        plain::normal_form(&d, &mut outs.1).expect("accepted");
-        assert!(outs.0 == outs.1);
-        let times = best(
-            || goltximen::normal_form(black_box(&d), black_box(&mut outs.0[..])),
-            || plain::normal_form(black_box(&d), black_box(&mut outs.1[..])),
-        );
-        timed.print("normal form", situation, times);
+        timed.print("normal form", situation, normal_times(&[&d]));
     }
+}
+
+fn normal_times(descriptions: &[&[u8]]) -> (f64, f64) {
+    let lengths = descriptions.iter().map(|d| d.len());
+    checked_times(
+        descriptions,
+        lengths.max().unwrap_or(0),
+        Option::is_some,
+        |d, out| goltximen::normal_form(d, out).ok().map(usize::from),
+        |d, out| plain::normal_form(d, out).ok(),
+    )
 }
 
 fn fit_rows(timed: &Timed, chance: &mut Chance) {
     let model = &timed.model;
     let specimen = encode(&model.specimen());
     let looser = model.looser(chance);
-    let strange = |owner| entry(1, owner, STRANGE, 0);
+    let last = failing_last(model.last_place(), &looser);
     let cases = [
         ("yes", encode(&looser)),
         ("yes, sorted", sorted(&looser)),
-        ("no, entry first", encode(&with_first(strange(0), &looser))),
-        (
-            "no, entry last",
-            encode(&with_last(strange(model.last_place()), &looser)),
-        ),
+        ("no, entry first", encode(&failing_first(&looser))),
+        ("no, entry last", encode(&last)),
     ];
     for (situation, description) in cases {
-        let times = fit_times(&specimen, &description, situation.starts_with("yes"));
+        let times = fit_times(&[(&specimen, &description)], situation.starts_with("yes"));
         timed.print("fit", situation, times);
     }
 }
 
-fn fit_times(specimen: &[u8], description: &[u8], fits: bool) -> (f64, f64) {
-    let product = goltximen::fit(specimen, description).expect("accepted");
-    assert_eq!(product == goltximen::Fit::Yes, fits);
-    assert_eq!(plain::fit(specimen, description), Ok(fits));
-    best(
-        || goltximen::fit(black_box(specimen), black_box(description)),
-        || plain::fit(black_box(specimen), black_box(description)),
+/// Specimens, each beside a description.
+fn fit_times(pairs: &[Pair], fits: bool) -> (f64, f64) {
+    checked_times(
+        pairs,
+        0,
+        |&answer| answer == Some(fits),
+        |(s, d), _| {
+            let answer = goltximen::fit(s, d).ok();
+            answer.map(|answer| answer == goltximen::Fit::Yes)
+        },
+        |(s, d), _| plain::fit(s, d).ok(),
     )
 }
 
@@ -269,41 +356,38 @@ fn one_link_rows() {
         ("2,016 and 1,008", "worst case", worst_fit()),
     ];
     for (sizes, situation, (specimen, description)) in rows {
-        let times = fit_times(&specimen, &description, true);
+        let times = fit_times(&[(&specimen, &description)], true);
         print_row("fit", sizes, "one link", situation, times);
     }
 }
 
 fn read_rows(timed: &Timed) {
     let description = encode(&timed.model.description());
-    let times = read_times(
-        |bytes| goltximen::read_description(bytes).ok().map(usize::from),
-        |bytes| plain::read_description(bytes).ok(),
-        &description,
-        timed.size,
-    );
+    let times = description_times(&[&description], timed.size);
     timed.print("read description", "accepted", times);
     let specimen = encode(&timed.model.specimen());
-    let times = read_times(product_specimen, plain_specimen, &specimen, timed.size);
+    let times = specimen_times(&[&specimen], timed.size);
     timed.print("read specimen", "accepted", times);
 }
 
-fn product_specimen(bytes: &[u8]) -> Option<usize> {
-    goltximen::read_specimen(bytes).ok().map(usize::from)
+/// Both sides read each description, and find this many entries.
+fn description_times(descriptions: &[&[u8]], entries: usize) -> (f64, f64) {
+    checked_times(
+        descriptions,
+        0,
+        |&read| read == Some(entries),
+        |d, _| goltximen::read_description(d).ok().map(usize::from),
+        |d, _| plain::read_description(d).ok(),
+    )
 }
 
-fn plain_specimen(bytes: &[u8]) -> Option<usize> {
-    plain::read_specimen(bytes).ok()
-}
-
-/// Both sides read the bytes, and find this many entries.
-fn read_times(
-    product: impl Fn(&[u8]) -> Option<usize>,
-    plain: impl Fn(&[u8]) -> Option<usize>,
-    bytes: &[u8],
-    entries: usize,
-) -> (f64, f64) {
-    assert_eq!(product(bytes), Some(entries));
-    assert_eq!(plain(bytes), Some(entries));
-    best(|| product(black_box(bytes)), || plain(black_box(bytes)))
+/// The same for specimens.
+fn specimen_times(specimens: &[&[u8]], entries: usize) -> (f64, f64) {
+    checked_times(
+        specimens,
+        0,
+        |&read| read == Some(entries),
+        |s, _| goltximen::read_specimen(s).ok().map(usize::from),
+        |s, _| plain::read_specimen(s).ok(),
+    )
 }

@@ -10,7 +10,7 @@ use goltximen::{compare, Comparison, Under};
 use reference::encode;
 
 use crate::listed::writing;
-use crate::{grouped, print_row, shape_name, SHAPES, STRANGE};
+use crate::{grouped, print_row, shape_name, shaped, STRANGE};
 
 /// The entries of the supplier's description and of each service.
 const SIZES: [usize; 4] = [16, 40, 250, 1008];
@@ -22,10 +22,7 @@ const NAMED: [(usize, usize); 2] = [(4, 4), (63, 16)];
 
 pub fn rows() {
     let mut chance = Chance::new(0x1a17);
-    for (shape, size) in SHAPES
-        .iter()
-        .flat_map(|&shape| SIZES.map(|size| (shape, size)))
-    {
+    for (shape, size) in shaped(SIZES) {
         let sizes = format!("64 × {}", grouped(size));
         for (situation, strange) in SITUATIONS {
             let case = Case::new(size, shape, strange, &mut chance);
