@@ -88,16 +88,16 @@
  *
  * Stack. The most that each call took of the caller's stack, on the inputs that lead furthest down (`make stack` measures it):
  *
- *     gx_read_description   24,820 bytes
- *     gx_read_specimen      24,820 bytes
- *     gx_fit                70,244 bytes
- *     gx_fit_counted        70,196 bytes
- *     gx_normal             72,452 bytes
- *     gx_compare            69,204 bytes
+ *     gx_read_description   24,804 bytes
+ *     gx_read_specimen      24,804 bytes
+ *     gx_fit                70,228 bytes
+ *     gx_fit_counted        70,180 bytes
+ *     gx_normal             72,436 bytes
+ *     gx_compare            69,284 bytes
  *     gx_unfold             22,008 bytes
- *     gx_fit_with           79,604 bytes
- *     gx_normal_with        81,780 bytes
- *     gx_compare_with       93,828 bytes
+ *     gx_fit_with           79,588 bytes
+ *     gx_normal_with        81,764 bytes
+ *     gx_compare_with       86,868 bytes
  *     gx_catalogue          65,288 bytes
  *
  * The library calls memset and memcpy; a program that binds them at their first call took up to 1,072 bytes more there. A

@@ -1,7 +1,9 @@
 #!/usr/bin/env python3
-"""Brings the repository's own definitions and lemmas to today's spelling: words in snake case.
+"""Brings the repository's own definitions and lemmas to today's spelling: words in snake case. It checks nothing: it rewrites files.
 
-usage: python3 tools/spell.py     at the top, once, right after the kit's port.py
+usage: python3 tools/spell.py --write     at the top, once, right after the kit's port.py; docs/PORT.md has the commit
+
+Without --write it names the files that it would change, and changes none. It leaves out/, the check's own folders, alone.
 
 A lower-case name of antt with a capital inside, as entriesOf, or above-leafIf, becomes entries_of, above-leaf_if. Types, modules, functions of
 src/, strings, inputs and outputs keep their names. A lemma whose name would then be that of a definition gets _lem at its end.
@@ -10,6 +12,7 @@ It goes over the .antt and .rt files below crates/, the wrong programs beside th
 
 import glob
 import re
+import sys
 
 # lemmas that have the new name of a definition already, by the folder where they stand
 FALL_TOGETHER = {
@@ -44,6 +47,8 @@ def outside_strings(line):
 
 
 def respell(path, by_line):
+    if "/out/" in path:
+        return
     with open(path, encoding="utf-8") as f:
         old = f.read()
     new = old
@@ -53,9 +58,13 @@ def respell(path, by_line):
                 for lemma in lemmas:
                     new = re.sub(rf"(?<![\w'.-]){lemma}(?![\w'-])(?!/)", lemma + "_lem", new)
     new = "".join(by_line(line) for line in new.splitlines(keepends=True))
-    if new != old:
-        with open(path, "w", encoding="utf-8") as f:
-            f.write(new)
+    if new == old:
+        return
+    if "--write" not in sys.argv[1:]:
+        print(path)
+        return
+    with open(path, "w", encoding="utf-8") as f:
+        f.write(new)
 
 
 def main():

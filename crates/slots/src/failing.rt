@@ -135,7 +135,7 @@ fn judge_read(
         });
     }
     if n < 64 && m < 64 {
-        return judge::<64, 61>(exclusions, c, n, d, m, table);
+        return judge::<64, 251>(exclusions, c, n, d, m, table);
     }
     if n < 253 && m < 253 {
         return judge::<253, 4093>(exclusions, c, n, d, m, table);

@@ -67,7 +67,7 @@ fn settled_slots(
     ensures { Settled (under exclusions.entry.pairs.now) d.now result table.new bad.new full.new × Exact table.old table.new result }
 {
     if total < 64 {
-        return settled_within::<64, 61>(exclusions, d, total, table, bad, full);
+        return settled_within::<64, 251>(exclusions, d, total, table, bad, full);
     }
     if total < 253 {
         return settled_within::<253, 4093>(exclusions, d, total, table, bad, full);
