@@ -57,23 +57,20 @@ type Pair<'a> = (&'a [u8], &'a [u8]);
 
 fn main() {
     print_heading();
+    model_rows();
+    listed::rows();
+    named::rows();
+    services::rows();
+    turns::rows();
+}
+
+/// The rows of single calls with no list and no dictionary.
+fn model_rows() {
     let mut chance = Chance::new(0x901d);
-    let models: Vec<Timed> = shaped(SIZES)
-        .map(|(shape, size)| Timed {
-            size,
-            input: shape_name(shape).to_string(),
-            model: Model::new(size, shape, &mut chance),
-            sorted_too: true,
-        })
-        .collect();
+    let models = models(&mut chance);
     // Drawn apart, so that the inputs of the other rows stay.
     let mut apart = Chance::new(0x901e);
-    let single_models = SHAPES.map(|shape| Timed {
-        size: 1008,
-        input: format!("{}, links to one item", shape_name(shape)),
-        model: Model::single(1008, shape, &mut apart),
-        sorted_too: false,
-    });
+    let single_models = single_models(&mut apart);
     for timed in &models {
         compare_rows(timed, &mut chance);
     }
@@ -93,20 +90,32 @@ fn main() {
     for timed in &models {
         read_rows(timed);
     }
-    let times = specimen_times(&[&specimen], 2016);
-    print_row("read specimen", "2,016", SINGLE_LINK, "accepted", times);
-    let times = specimen_times(&[&one_cell()], 2016);
-    print_row(
-        "read specimen",
-        "2,016",
-        "links to one item",
-        "one cell",
-        times,
-    );
-    listed::rows();
-    named::rows();
-    services::rows();
-    turns::rows();
+    let row = |input, situation, specimen: &[u8]| {
+        let times = specimen_times(&[specimen], 2016);
+        print_row("read specimen", "2,016", input, situation, times);
+    };
+    row(SINGLE_LINK, "accepted", &specimen);
+    row("links to one item", "one cell", &one_cell());
+}
+
+fn models(chance: &mut Chance) -> Vec<Timed> {
+    let models = shaped(SIZES).map(|(shape, size)| Timed {
+        size,
+        input: shape_name(shape).to_string(),
+        model: Model::new(size, shape, chance),
+        sorted_too: true,
+    });
+    models.collect()
+}
+
+/// Models all of whose links lead to one item only.
+fn single_models(chance: &mut Chance) -> [Timed; 2] {
+    SHAPES.map(|shape| Timed {
+        size: 1008,
+        input: format!("{}, links to one item", shape_name(shape)),
+        model: Model::single(1008, shape, chance),
+        sorted_too: false,
+    })
 }
 
 /// Each shape with each of these sizes.
@@ -370,24 +379,36 @@ fn read_rows(timed: &Timed) {
     timed.print("read specimen", "accepted", times);
 }
 
-/// Both sides read each description, and find this many entries.
 fn description_times(descriptions: &[&[u8]], entries: usize) -> (f64, f64) {
-    checked_times(
+    read_times(
         descriptions,
-        0,
-        |&read| read == Some(entries),
-        |d, _| goltximen::read_description(d).ok().map(usize::from),
-        |d, _| plain::read_description(d).ok(),
+        entries,
+        |d| goltximen::read_description(d).ok().map(usize::from),
+        |d| plain::read_description(d).ok(),
     )
 }
 
-/// The same for specimens.
 fn specimen_times(specimens: &[&[u8]], entries: usize) -> (f64, f64) {
-    checked_times(
+    read_times(
         specimens,
+        entries,
+        |s| goltximen::read_specimen(s).ok().map(usize::from),
+        |s| plain::read_specimen(s).ok(),
+    )
+}
+
+/// Both sides read each input, and find this many entries.
+fn read_times(
+    inputs: &[&[u8]],
+    entries: usize,
+    product: impl Fn(&[u8]) -> Option<usize>,
+    plain: impl Fn(&[u8]) -> Option<usize>,
+) -> (f64, f64) {
+    checked_times(
+        inputs,
         0,
         |&read| read == Some(entries),
-        |s, _| goltximen::read_specimen(s).ok().map(usize::from),
-        |s, _| plain::read_specimen(s).ok(),
+        |bytes, _| product(bytes),
+        |bytes, _| plain(bytes),
     )
 }

@@ -41,8 +41,8 @@ pub roomy : (c : List ℕ) (k : ℕ) → 63 * min (length c) 8192 < 512 * k → 
 roomy c k h n e = let a = accepted-counted 1 c e in omega (arith, a.few, a.short, length-replicate {A = ℕ} k 0)
 
 -- two descriptions of at most so many bytes each, by a test that was made
-pub small-both : (c d : List ℕ) (most : ℕ) {b : Bool} → b ≡ (leb (length c) most && leb (length d) most) → b ≡ true → (length c ≤ most) × (length d ≤ most)
-small-both c d most e h =
+pub both-within : (c d : List ℕ) (most : ℕ) {b : Bool} → b ≡ (leb (length c) most && leb (length d) most) → b ≡ true → (length c ≤ most) × (length d ≤ most)
+both-within c d most e h =
     let both = sym e ∙ h in
     (leb-le (and_left (leb (length c) most) (leb (length d) most) both), leb-le (and_right (leb (length c) most) (leb (length d) most) both))
 

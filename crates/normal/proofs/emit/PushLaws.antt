@@ -91,15 +91,6 @@ kinds-step a o (cell j b n lo hi) q = bool_cases (same_class b (is_link a)) (λ 
 stored-beyond : {rows : List ℕ} {n : ℕ} (x : ℕ) → Filled (length rows) rows n [] (set rows n x) (n + 0)
 stored-beyond {rows} {n} x = record { size = length-set rows n x; total = refl; held = rw (add-zero n) (take-set rows n x ∙ sym (append-nil (take n rows))) }
 
--- where there is no room, nothing is listed
-pub atom-full : (a : Kind) (o : ℕ) (c : Cell) {rows : List ℕ} {n : ℕ} → n + length (rows_if a o (cell_name c) (cell_value a c)) ≤ length rows → length rows ≤ n
-    → Pushed (length rows) rows n (rows_if a o (cell_name c) (cell_value a c)) rows n
-atom-full a o c {rows} {n} l h = listed (cell_value a c) l
-  where
-    listed : (w : Option ℕ) → n + length (rows_if a o (cell_name c) w) ≤ length rows → Pushed (length rows) rows n (rows_if a o (cell_name c) w) rows n
-    listed none k = filled_none refl
-    listed (some m) k = absurd (omega (arith, k, h))
-
 -- A row that is stored counts where its cell lists a number.
 pub atom-stored : (a : Kind) (o : ℕ) (c : Cell) {rows : List ℕ} {n x : ℕ} {v : code.Option ℕ} → v ≡ value_number (cell_value a c) → n < length rows
     → x ≡ packed_of (rank a) o (cell_name c) (unwrap_or v 0)

@@ -1,20 +1,20 @@
 -- `show` meets its contract: the specimen can be shown in tables of each size, and is the one that is promised.
 use native.Mathlib.Omega.{arith}
-use Rattle.compare.proofs.verdict.RoomLaws.{small-both}
+use Rattle.compare.proofs.verdict.RoomLaws.{both-within}
 use Rattle.compare.proofs.verdict.ShownLaws.{failed-few, failed-many, failed-shown, failed-small}
 use Rattle.compare.proofs.verdict.show.Goals.{else-are_within+else-are_within-2, else-are_within+then-are_within-2, then-are_within}
 use Rattle.compare.proofs.verdict.show.Goals as goal
 
 pub show_sized-count-requires : goal.show_sized-count-requires
 show_sized-count-requires c =
-    let small = small-both c.args.c.now c.args.d.now 512 c.are_within.ensures c.if-are_within.true in
-    let f = failed-few c.requires.0.ruled c.requires.0.failed _ c.requires.1 1 (omega arith) small.0 small.1 in
+    let within = both-within c.args.c.now c.args.d.now 512 c.are_within.ensures c.if-are_within.true in
+    let f = failed-few c.requires.0.ruled c.requires.0.failed _ c.requires.1 1 (omega arith) within.0 within.1 in
     (f.0, f.1, omega arith, omega arith, omega arith)
 
 pub show_sized-requires : goal.show_sized-requires
 show_sized-requires c =
-    let small = small-both c.args.c.now c.args.d.now 2048 c.are_within-else-are_within.ensures c.if-are_within-2.true in
-    let f = failed-few c.requires.0.ruled c.requires.0.failed _ c.requires.1 4 (omega arith) small.0 small.1 in
+    let within = both-within c.args.c.now c.args.d.now 2048 c.are_within-else-are_within.ensures c.if-are_within-2.true in
+    let f = failed-few c.requires.0.ruled c.requires.0.failed _ c.requires.1 4 (omega arith) within.0 within.1 in
     (f.0, f.1, omega arith, omega arith, omega arith)
 
 pub show_sized-requires-else-are_within-2 : goal.show_sized-requires-else-are_within-2
