@@ -5,8 +5,8 @@ use crate::blocks::Entry;
 use crate::compare::first_that_fails;
 use crate::dictionary::Dictionary;
 use crate::list::cut;
-use crate::normal::normal_place;
 use crate::refusal::{Refusal, LENGTH};
+use crate::rules::normal_place;
 use crate::tree::top_place;
 
 /// The input number of the supplier's description.

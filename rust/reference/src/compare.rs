@@ -4,10 +4,10 @@ use std::collections::{BTreeMap, BTreeSet};
 
 use crate::background::Background;
 use crate::blocks::{length_in_blocks, write, Entry};
-use crate::normal::normal_place;
 use crate::order::{in_order, Row};
 use crate::pairs::Pairs;
 use crate::refusal::Refusal;
+use crate::rules::normal_place;
 use crate::tree::{top_place, Fact, Link, Place, Property};
 
 /// The answer of the comparison.

@@ -31,6 +31,7 @@ mod program;
 mod reading;
 pub mod record;
 mod refusal;
+mod rules;
 mod specimen;
 mod tree;
 mod unfolding;
