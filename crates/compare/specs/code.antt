@@ -6,8 +6,6 @@ pub mod Asked
 pub mod Codes
 -- The names of one place and class in order, as tags.
 pub mod Tags
--- A tree by its places: each place has a code, and lists its leaves and then its nodes, each with the code of the place below it.
-pub mod Laying
 -- What is known where an entry fails: two descriptions, the slots of the first, and room.
 pub mod Prepared
 -- A code of places, one for each.

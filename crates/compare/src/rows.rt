@@ -10,7 +10,7 @@ ghost use Rattle.logic.specs.SpecimenTree.{group};
 ghost use Rattle.slots.specs.code.TablePlaces.{below_in, least_in};
 ghost use Rattle.meaning.specs.SpecimenFor.{row_entry};
 ghost use Rattle.compare.specs.code.Codes.{specimen_number};
-ghost use Rattle.compare.specs.code.Laying.{codes, joint_rows, leaf_rows};
+ghost use Rattle.logic.specs.Laying.{codes, joint_rows, leaf_rows};
 ghost use Rattle.compare.specs.code.Tags.{Tagged, group_of, tag_name, tag_slot};
 ghost use Rattle.slots.specs.code.States.{nowhere};
 

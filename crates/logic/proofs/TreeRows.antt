@@ -8,3 +8,7 @@ pub mod AllEntries
 pub mod MergedRows
 -- Laws of tables that are filled row by row, and of the jobs that they stand for.
 pub mod FillLaws
+-- How a place by its code is laid out, its leaves and then its nodes, and the steps that it takes.
+pub mod LaidLaws
+-- The walk over the rows of a tree that is written by the codes of its places, and how many rows it has at least where room runs out.
+pub mod LaidWalk

@@ -24,3 +24,5 @@ pub mod Witness
 pub mod Layout
 -- Tables that are filled row by row, with a code noted for each row that leads to a place, and the jobs that such a table stands for.
 pub mod Filling
+-- A tree by its places: each place has a code, and lists its leaves and then its nodes, each with the code of the place below it.
+pub mod Laying

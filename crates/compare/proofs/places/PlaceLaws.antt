@@ -8,12 +8,12 @@ use native.Mathlib.Omega.{arith}
 use Rattle.base.proofs.Elements.{member-at}
 use Rattle.base.proofs.Tests.{eq-cases, eq-eqb, lt-cases, ne_eqb}
 use Rattle.blocks.specs.declared.Entry.{Entry}
-use Rattle.compare.proofs.specimen.LaidLaws.{leaf-length}
-use Rattle.compare.proofs.specimen.LaidWalk.{numbers-length}
+use Rattle.logic.proofs.TreeRows.LaidLaws.{leaf-length}
+use Rattle.logic.proofs.TreeRows.LaidWalk.{numbers-length}
 use Rattle.compare.proofs.specimen.SpecimenPlaces.{slot-within}
 use Rattle.compare.specs.code.Asked.{code_asked, least_asked}
 use Rattle.compare.specs.code.Codes.{PlacedBy, group_by, joints_by, numbers_by, properties_by, specimen_number, target_below, target_by, up_from}
-use Rattle.compare.specs.code.Laying.{Joint, codes, joint_rows, leaf_rows}
+use Rattle.logic.specs.Laying.{Joint, codes, joint_rows, leaf_rows}
 use Rattle.compare.specs.code.Tags.{Run, Tagged, group_of, tag_name}
 use Rattle.compare.specs.declared.items.Items.{Items}
 use Rattle.std.specs.Prelude.{Option}

@@ -7,9 +7,9 @@ use mathlib.Core.List.{List, [], ◌++◌, ◌∷◌, map, map-append}
 use mathlib.Core.Path.{◌≡◌, refl}
 use native.Mathlib.Numerals.{add-one}
 use native.Mathlib.Omega.{arith}
-use Rattle.compare.proofs.specimen.LaidLaws.{codes-length, joint-length}
+use Rattle.logic.proofs.TreeRows.LaidLaws.{codes-length, joint-length}
 use Rattle.compare.specs.code.Codes.{specimen_number}
-use Rattle.compare.specs.code.Laying.{Joint, codes, joint, joint_rows, leaf_rows}
+use Rattle.logic.specs.Laying.{Joint, codes, joint, joint_rows, leaf_rows}
 use Rattle.compare.specs.code.Asked.{code_asked, least_asked}
 use Rattle.compare.specs.code.Tags.{group_of, tag_name, tag_slot}
 use Rattle.compare.specs.declared.items.Items.{Items}

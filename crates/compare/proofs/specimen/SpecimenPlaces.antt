@@ -14,7 +14,7 @@ use Rattle.base.proofs.Tests.{and_left, bool_cases, eq-cases, eq-eqb, eqb-self, 
 use Rattle.blocks.specs.declared.Entry.{Entry}
 use Rattle.compare.proofs.path.PathLaws.{length_up}
 use Rattle.compare.specs.code.Codes.{OnPath, code_by, count_by, group_by, joints_by, properties_by, target_at, target_below, target_by, tree_by, up_from}
-use Rattle.compare.specs.code.Laying.{codes, joint, joints, leaves}
+use Rattle.logic.specs.Laying.{codes, joint, joints, leaves}
 use Rattle.logic.proofs.SpecimenTrees.Names.{member-names}
 use Rattle.logic.proofs.SpecimenTrees.WitnessTree.{below-witness}
 use Rattle.logic.proofs.TreeRows.FillLaws.{Codes}

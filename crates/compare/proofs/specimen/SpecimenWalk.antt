@@ -8,10 +8,10 @@ use mathlib.Core.Path.{◌≡◌}
 use native.Mathlib.Omega.{arith}
 use Rattle.base.proofs.Tests.{eq-cases}
 use Rattle.blocks.specs.declared.Entry.{Entry}
-use Rattle.compare.proofs.specimen.LaidWalk.{Walking, top-room, walking-done, walking-next, walking-place, walking-room, walking_start}
+use Rattle.logic.proofs.TreeRows.LaidWalk.{Walking, top-least, walking-done, walking-least, walking-next, walking-place, walking_start}
 use Rattle.compare.proofs.specimen.SpecimenPlaces.{codes-good, tree_places}
 use Rattle.compare.specs.code.Codes.{OnPath, PlacedBy, Stepped, Writable, joints_by, numbers_by, properties_by, specimen_number, tree_by}
-use Rattle.compare.specs.code.Laying.{Joint, codes, joints, leaves}
+use Rattle.logic.specs.Laying.{Joint, codes, joints, leaves}
 use Rattle.logic.proofs.TreeRows.FillLaws.{Codes}
 use Rattle.logic.specs.Layout.{write}
 use Rattle.logic.specs.SpecimenTree.{Group, SpecimenTree}
@@ -43,19 +43,19 @@ module _ {t links : List ℕ} {m : ℕ} {e : Entry} {cap : ℕ} (w : Writable t 
   few : length (map specimen_number (write (T 1024))) ≤ cap
   few = omega (arith, length-map (write (T 1024)) specimen_number, w.room)
 
-  -- the top's place
+  -- the top's place, which has room since the whole has
   pub walk_top : OnPath m 1024 × (0 + length (numbers_by t links m e 0 1024) ≤ cap)
-  walk_top = (top, top-room cap T L N (OnPath m) unfolds good specimen_number 1024 top w.room)
+  walk_top = (top, omega (arith, top-least cap T L N (OnPath m) unfolds good specimen_number 1024 top, few))
 
   pub walk_start : {rows rows' : List ℕ} {count : ℕ} {below below' : List ℕ} → below ≡ replicate (cap + 1) 0
       → PlacedBy t links m e cap 0 1024 rows 0 below rows' count below' → Walk t links m e cap 1 rows' count below'
-  walk_start z p = walking_start cap T L N (OnPath m) unfolds good specimen_number 1024 top z w.room p
+  walk_start z p = walking_start cap T L N (OnPath m) unfolds good specimen_number 1024 top z walk_top.1 p
 
   module _ {i : ℕ} {rows : List ℕ} {count : ℕ} {below : List ℕ} (h : Walk t links m e cap i rows count below) where
-    -- the place that row i leads to
+    -- the place that row i leads to, which has room since the whole has
     pub walk-room : i ≤ count → get_or below i 0 ≢ 0
         → OnPath m (get_or below i 0) × (count + length (numbers_by t links m e i (get_or below i 0)) ≤ cap)
-    walk-room l z = (h.goods i z, walking-room cap T L N (OnPath m) unfolds good specimen_number h l z few)
+    walk-room l z = (h.goods i z, omega (arith, walking-least cap T L N (OnPath m) unfolds good specimen_number h l z, few))
 
     -- row i is done
     pub walk_step : {rows' : List ℕ} {count' : ℕ} {below' : List ℕ} → i ≤ count → Stepped t links m e cap i rows count below rows' count' below'
@@ -65,7 +65,7 @@ module _ {t links : List ℕ} {m : ℕ} {e : Entry} {cap : ℕ} (w : Writable t 
         (λ z.
         let p = s.passed z in
         rw (p.0, p.1, p.2) (walking-next cap T L N (OnPath m) unfolds good specimen_number h l z))
-        (λ z. walking-place cap T L N (OnPath m) unfolds good specimen_number h l z few (s.placed z))
+        (λ z. walking-place cap T L N (OnPath m) unfolds good specimen_number h l z (walk-room l z).1 (s.placed z))
 
     -- all rows are done
     pub walk-done : count < i → take count rows ≡ map specimen_number (write (tree_by t links m e 1024))

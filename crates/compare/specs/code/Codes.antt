@@ -4,7 +4,7 @@
 use Rattle.std.specs.Prelude.{◌%◌, ◌*◌, ◌+◌, ◌/◌, ◌≤◌, max, pred, suc, zero, ℕ, eqb, ltb, drop, get_or, length, ◌&&◌, cond, true, List, [], ◌∷◌, map, ◌≢◌, ◌≡◌}
 use Rattle.blocks.specs.Entries.{packed}
 use Rattle.blocks.specs.declared.Entry.{Entry}
-use Rattle.compare.specs.code.Laying.{Joint, codes, joint, place_numbers}
+use Rattle.logic.specs.Laying.{Joint, codes, joint, place_numbers}
 use Rattle.logic.specs.Filling.{Joined}
 use Rattle.logic.specs.Layout.{write}
 use Rattle.logic.specs.Place.{Atom, has, least}

@@ -4,7 +4,7 @@
 use Rattle.std.specs.Prelude.{◌%◌, ◌*◌, ◌+◌, ◌/◌, ◌<◌, max, pred, ℕ, eqb, get_or, length, Bool, cond, false, true, Option, ◌≡◌}
 use mathlib.Core.List.{List, Memᴰ, [], ◌∷◌, map}
 use Rattle.compare.specs.code.Asked.{code_asked, least_asked}
-use Rattle.compare.specs.code.Laying.{Joint, joint}
+use Rattle.logic.specs.Laying.{Joint, joint}
 use Rattle.compare.specs.declared.items.Items.{Items}
 use Rattle.logic.specs.Place.{Kind, has, least}
 use Rattle.logic.specs.SpecimenTree.{Group, group}

@@ -40,7 +40,7 @@ module _ {b : Background} (law : LawfulBackground b) where
   alive t (inr c) h = c
 
   -- a normal place with the place s below it by a link that had none
-  canonical-below : (l : ℕ) (s t : Place) → Canonical b t → Canonical b s → is_end s ≡ false → supports b t (atom most l 0) ≡ false
+  pub canonical-below : (l : ℕ) (s t : Place) → Canonical b t → Canonical b s → is_end s ≡ false → supports b t (atom most l 0) ≡ false
       → Canonical b (put_every l s (remove_every l t))
   canonical-below l s t (canonical a c d below) h w y =
       let u : Place = put_every l s (remove_every l t) in

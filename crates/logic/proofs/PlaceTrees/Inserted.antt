@@ -30,13 +30,13 @@ clash-stored b t nothing n m = refl
 
 module _ {b : Background} (law : LawfulBackground b) (t : Place) (k : Kind) (n m : ℕ) (asc : Ascending t) where
   -- the atom as it is listed; the place without what it replaces and makes idle; and that place with it
-  abbrev new : Atom
+  abbrev pub new : Atom
   new = atom k n (stored k m)
 
-  abbrev less : Place
+  abbrev pub less : Place
   less = remove k n (clear b (atom k n m) t)
 
-  abbrev more : Place
+  abbrev pub more : Place
   more = put k n (stored k m) less
 
   cleared : Thinner (clear b (atom k n m) t) t
@@ -65,7 +65,7 @@ module _ {b : Background} (law : LawfulBackground b) (t : Place) (k : Kind) (n m
   listed-old k' n' q z e = listed-thinner cleared asc k' n' q (listed-cleared k' n' q z e)
 
   -- what is listed now was listed, or is the atom
-  from_more : FromEither more t (only new)
+  pub from_more : FromEither more t (only new)
   unfolding find
   from_more =
       record {
@@ -80,7 +80,7 @@ module _ {b : Background} (law : LawfulBackground b) (t : Place) (k : Kind) (n m
   owned-cleared : (l : ℕ) → is_end (sub l more) ≡ false → sub l more ≡ sub l (clear b (atom k n m) t)
   owned-cleared l e = let z = sub-put k n (stored k m) l less in z ∙ owned-thinner removed asc-clear l (rw z at e)
 
-  owned-old : (l : ℕ) → is_end (sub l more) ≡ false → sub l more ≡ sub l t
+  pub owned-old : (l : ℕ) → is_end (sub l more) ≡ false → sub l more ≡ sub l t
   owned-old l e = let z = owned-cleared l e in z ∙ owned-thinner cleared asc l (rw z at e)
 
   module _ (c : Clean b t) (e : supports b t (atom k n m) ≡ false) (f : clash b t (atom k n m) ≡ false) where

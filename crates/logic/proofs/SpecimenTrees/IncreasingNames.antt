@@ -71,7 +71,7 @@ put-increasing b x (y ∷ ys) l m h =
     (λ q. rw q (l, (omega tests, h.1)))
     (λ q. rw q (h.0, put-increasing (suc y) x ys (omega tests) (neither_right (eqb x y) (member x ys) m) h.1))
 
-once-increasing : (x : ℕ) (ys : List ℕ) → Increasing 0 ys → Increasing 0 (once x ys)
+pub once-increasing : (x : ℕ) (ys : List ℕ) → Increasing 0 ys → Increasing 0 (once x ys)
 unfolding once
 once-increasing x ys h = bool_cases (member x ys) (λ q. rw q h) (λ q. rw q (put-increasing 0 x ys (omega arith) q h))
 

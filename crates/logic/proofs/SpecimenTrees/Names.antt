@@ -20,7 +20,7 @@ member-put x y (a ∷ ys) =
     (λ h. rw h)
     (λ h. rw (h, member-put x y ys) (or_swap (eqb x a) (eqb x y) (member x ys)))
 
-member-once : (x y : ℕ) (ys : List ℕ) → member x (once y ys) ≡ eqb x y || member x ys
+pub member-once : (x y : ℕ) (ys : List ℕ) → member x (once y ys) ≡ eqb x y || member x ys
 unfolding once
 member-once x y ys =
     bool_cases (member y ys)

@@ -33,7 +33,7 @@ use Rattle.meaning.specs.RowEntries.{row_entry}
 
 -- ---- rows as entries
 
-description-rows : EntryRows Description row_entry
+pub description-rows : EntryRows Description row_entry
 description-rows = record { owner = owners; owning = λ o l. refl }
   where
     owners : (r : Row Atom ℕ) → (row_entry r).owner ≡ row_owner r
@@ -41,7 +41,7 @@ description-rows = record { owner = owners; owning = λ o l. refl }
     owners (node_row o l) = refl
 
 -- a row of a normal form has an allowed form
-row-form : (r : Row Atom ℕ) → OfRow (Stored Positive Any) Positive r → form_ok Description (row_entry r) ≡ true
+pub row-form : (r : Row Atom ℕ) → OfRow (Stored Positive Any) Positive r → form_ok Description (row_entry r) ≡ true
 unfolding form_ok name_ok number_ok
 row-form (leaf_row o (atom has n m)) h = rw (lt-ltb h.0, eq-eqb h.1)
 row-form (leaf_row o (atom lacks n m)) h = rw (lt-ltb h.0, eq-eqb h.1)

@@ -40,7 +40,7 @@ before-other false n true n' e = refl
 before-other false n false n' e = before-cases 0 n 0 n' e (λ h. absurd (omega arith)) (λ i h. omega tests)
 
 -- cells after another have other names
-after-lookup : (j : ℕ) (b : Bool) (n lo : ℕ) (hi : Option ℕ) (q : List Cell) → AllAfter before_cell (cell j b n lo hi) q → lookup q b n ≡ none
+pub after-lookup : (j : ℕ) (b : Bool) (n lo : ℕ) (hi : Option ℕ) (q : List Cell) → AllAfter before_cell (cell j b n lo hi) q → lookup q b n ≡ none
 unfolding lookup
 after-lookup j b n lo hi [] h = refl
 after-lookup j b n lo hi (cell j' b' n' lo' hi' ∷ q) h = rw (before-other b n b' n' h.0) (after-lookup j b n lo hi q h.1)

@@ -3,7 +3,7 @@ use lib.ListN.{length}
 use mathlib.Core.Path.{◌∙◌, ap, refl}
 use native.Mathlib.Omega.{arith}
 use Rattle.compare.proofs.rows.RowLaws.{groups-more}
-use Rattle.compare.specs.code.Laying.{codes, joint_rows}
+use Rattle.logic.specs.Laying.{codes, joint_rows}
 use Rattle.compare.specs.code.Tags.{group_of}
 use Rattle.logic.proofs.TreeRows.FillLaws.{joined-none, noted-length}
 use Rattle.compare.proofs.rows.push_groups.Goals as goal

@@ -4,7 +4,7 @@ use lib.ListN.{length, take}
 use mathlib.Core.List.{map}
 use mathlib.Core.Path.{◌≡◌}
 use Rattle.compare.specs.code.Codes.{specimen_number}
-use Rattle.compare.specs.code.Laying.{codes, joint_rows}
+use Rattle.logic.specs.Laying.{codes, joint_rows}
 use Rattle.compare.specs.code.Tags.{group_of}
 use Rattle.logic.specs.Filling.{Joined}
 use Rattle.compare.proofs.rows.push_groups.Given as goal

@@ -2,7 +2,7 @@
 use mathlib.Core.Path.{refl}
 use native.Mathlib.Omega.{arith}
 use Rattle.compare.proofs.rows.RowLaws.{properties-more}
-use Rattle.compare.specs.code.Laying.{leaf_rows}
+use Rattle.logic.specs.Laying.{leaf_rows}
 use Rattle.logic.proofs.TreeRows.FillLaws.{filled_none}
 use Rattle.compare.proofs.rows.push_properties.Goals as goal
 

@@ -4,7 +4,7 @@ use lib.ListN.{length, take}
 use mathlib.Core.List.{map}
 use mathlib.Core.Path.{◌≡◌}
 use Rattle.compare.specs.code.Codes.{specimen_number}
-use Rattle.compare.specs.code.Laying.{leaf_rows}
+use Rattle.logic.specs.Laying.{leaf_rows}
 use Rattle.compare.specs.code.Tags.{tag_name}
 use Rattle.logic.specs.Filling.{Filled}
 use Rattle.compare.proofs.rows.push_properties.Given as goal

@@ -8,8 +8,8 @@ use mathlib.Core.Logic.{◌≢◌}
 use mathlib.Core.Path.{◌∙◌, ◌≡◌, ap, refl, sym}
 use native.Mathlib.Omega.{arith}
 use Rattle.base.proofs.Lists.{zeros-read}
-use Rattle.compare.proofs.specimen.LaidLaws.{codes-length, done-laid, joint-length, leaf-length, place-laid, place-load}
-use Rattle.compare.specs.code.Laying.{Joint, codes, joints, leaves, place_numbers}
+use Rattle.logic.proofs.TreeRows.LaidLaws.{codes-length, done-laid, joint-length, leaf-length, place-laid, place-load}
+use Rattle.logic.specs.Laying.{Joint, codes, joints, leaves, place_numbers}
 use Rattle.logic.proofs.TreeRows.FillLaws.{Codes, noted-after, noted-good, noted-length, queue-each, queue-next, queue-none, queue-past}
 use Rattle.logic.proofs.TreeRows.LayoutLaws.{load}
 use Rattle.logic.specs.Filling.{Joined, later_each, queue_from}
@@ -59,28 +59,27 @@ module _ {A B : Type 0} (cap : ℕ) (T : ℕ → Tree A B) (L : ℕ → List A) 
       ≡ place_numbers num o (L c) (N c) ++ map num (lay f (k + length (L c) + length (N c)) (later_each T Q (k + length (L c)) (codes (N c))))
   place-parts c f fuel k o Q g e = rw (unfolds c g) (place-numbers T num (L c) (N c) f fuel k o Q e)
 
-  -- a place has room if the whole has
-  place-room : (c fuel k o : ℕ) (Q : Queue (Tree A B)) {whole : List ℕ} (front : List ℕ) {count : ℕ} → Good c → load (job o (T c) Q) ≤ fuel
-      → whole ≡ front ++ map num (lay fuel k (job o (T c) Q)) → length front ≡ count → length whole ≤ cap
-      → count + length (place_numbers num o (L c) (N c)) ≤ cap
-  place-room c fuel k o Q {whole} front {count} g en e l few =
+  -- the whole has at least the rows that are there and those of a place that is still to do
+  place-least : (c fuel k o : ℕ) (Q : Queue (Tree A B)) {whole : List ℕ} (front : List ℕ) {count : ℕ} → Good c → load (job o (T c) Q) ≤ fuel
+      → whole ≡ front ++ map num (lay fuel k (job o (T c) Q)) → length front ≡ count → count + length (place_numbers num o (L c) (N c)) ≤ length whole
+  place-least c fuel k o Q {whole} front {count} g en e l =
       let P = place_numbers num o (L c) (N c) in
       let f : ℕ = fuel - (length (L c) + suc (length (N c))) in
       let h : fuel ≡ length (L c) + (suc (length (N c)) + f) = omega (arith, place-fuel c fuel k o Q g en) in
       let R = map num (lay f (k + length (L c) + length (N c)) (later_each T Q (k + length (L c)) (codes (N c)))) in
       let w : length whole ≡ length front + (length P + length R) =
       ap length (e ∙ ap (λ (l : List ℕ). front ++ l) (place-parts c f fuel k o Q g h)) ∙ length-append front (P ++ R) ∙ ap (λ (n : ℕ). length front + n) (length-append P R) in
-      omega (arith, w, l, few)
+      omega (arith, w, l)
 
-  -- a place is done
+  -- a place is done, which had room
   place-step : (c fuel k o : ℕ) {whole rows rows' below below' : List ℕ} {count count' : ℕ} → Good c → 1 ≤ k → k ≤ count + 1
       → load (job o (T c) (queue_from T below k (count + 1 - k))) ≤ fuel
       → whole ≡ take count rows ++ map num (lay fuel (count + 1) (job o (T c) (queue_from T below k (count + 1 - k))))
-      → length (take count rows) ≡ count → length whole ≤ cap
+      → length (take count rows) ≡ count → count + length (place_numbers num o (L c) (N c)) ≤ cap
       → length below ≡ cap + 1 → ((j : ℕ) → count < j → get_or below j 0 ≡ 0) → ((j : ℕ) → get_or below j 0 ≢ 0 → Good (get_or below j 0))
       → Joined cap rows count (place_numbers num o (L c) (N c)) below (count + length (L c) + 1) (codes (N c)) rows' count' below'
       → Walking cap T num Good whole k rows' count' below'
-  place-step c fuel k o {whole} {rows} {rows'} {below} {below'} {count} {count'} g fr to en e l few wi ze go p =
+  place-step c fuel k o {whole} {rows} {rows'} {below} {below'} {count} {count'} g fr to en e l room wi ze go p =
       let la = length (L c) in
       let lb = length (N c) in
       let cs = codes (N c) in
@@ -92,7 +91,6 @@ module _ {A B : Type 0} (cap : ℕ) (T : ℕ → Tree A B) (L : ℕ → List A) 
       let h : fuel ≡ la + (suc lb + f) = omega (arith, steps) in
       let lc : length cs ≡ lb = codes-length (N c) in
       let lp : length P ≡ la + lb = numbers-length num o (L c) (N c) in
-      let room : count + length P ≤ cap = place-room c fuel (count + 1) o Q (take count rows) g en e l few in
       let total : count' ≡ count + la + length cs = omega (arith, p.pushed.total, lc, lp) in
       let at : k + (n + la) ≡ count + la + 1 = omega (arith, fr, to) in
       let at' : count + 1 + la ≡ count + la + 1 = omega arith in
@@ -121,18 +119,18 @@ module _ {A B : Type 0} (cap : ℕ) (T : ℕ → Tree A B) (L : ℕ → List A) 
   unfolding load
   top-load c = omega arith
 
-  -- the top's place has room
-  pub top-room : (c : ℕ) → Good c → length (write (T c)) ≤ cap → 0 + length (place_numbers num 0 (L c) (N c)) ≤ cap
+  -- the whole has at least the rows of the top's place
+  pub top-least : (c : ℕ) → Good c → 0 + length (place_numbers num 0 (L c) (N c)) ≤ length (map num (write (T c)))
   unfolding write
-  top-room c g few = place-room c (weight (T c)) 1 0 done [] g (top-load c) refl refl (rw (length-map (write (T c)) num) few)
+  top-least c g = place-least c (weight (T c)) 1 0 done [] g (top-load c) refl refl
 
   -- the top's place is done
-  pub walking_start : (c : ℕ) {rows rows' : List ℕ} {count : ℕ} {below below' : List ℕ} → Good c → below ≡ replicate (cap + 1) 0 → length (write (T c)) ≤ cap
+  pub walking_start : (c : ℕ) {rows rows' : List ℕ} {count : ℕ} {below below' : List ℕ} → Good c → below ≡ replicate (cap + 1) 0 → 0 + length (place_numbers num 0 (L c) (N c)) ≤ cap
       → Joined cap rows 0 (place_numbers num 0 (L c) (N c)) below (0 + length (L c) + 1) (codes (N c)) rows' count below'
       → Walking cap T num Good (map num (write (T c))) 1 rows' count below'
   unfolding write queue_from
   walking_start c g e few p =
-      place-step c (weight (T c)) 1 0 g (omega arith) (omega arith) (top-load c) refl refl (rw (length-map (write (T c)) num) few)
+      place-step c (weight (T c)) 1 0 g (omega arith) (omega arith) (top-load c) refl refl few
       (ap length e ∙ length-replicate {A = ℕ} (cap + 1) 0) (λ j b. zeros-read (cap + 1) e j) (λ j z. absurd (z (zeros-read (cap + 1) e j))) p
 
   -- ---- row k
@@ -155,25 +153,26 @@ module _ {A B : Type 0} (cap : ℕ) (T : ℕ → Tree A B) (L : ℕ → List A) 
         goods = w.goods;
       }
 
-  -- the place that row k leads to has room
-  pub walking-room : {whole : List ℕ} {k : ℕ} {rows : List ℕ} {count : ℕ} {below : List ℕ}
-      → Walking cap T num Good whole k rows count below → k ≤ count → get_or below k 0 ≢ 0 → length whole ≤ cap
-      → count + length (place_numbers num k (L (get_or below k 0)) (N (get_or below k 0))) ≤ cap
-  walking-room {k = k} {rows} {count} {below} w l z few =
+  -- the whole has at least the rows that are there and those of the place that row k leads to
+  pub walking-least : {whole : List ℕ} {k : ℕ} {rows : List ℕ} {count : ℕ} {below : List ℕ}
+      → Walking cap T num Good whole k rows count below → k ≤ count → get_or below k 0 ≢ 0
+      → count + length (place_numbers num k (L (get_or below k 0)) (N (get_or below k 0))) ≤ length whole
+  walking-least {k = k} {rows} {count} {below} w l z =
       let q = queue-next T below k count l z in
       let Q = queue_from T below (k + 1) (count + 1 - (k + 1)) in
-      place-room (get_or below k 0) w.fuel (count + 1) k Q (take count rows) (w.goods k z) (rw (← q) w.enough) (w.parts ∙ rw q)
-      (length-take-le count rows (omega arith)) few
+      place-least (get_or below k 0) w.fuel (count + 1) k Q (take count rows) (w.goods k z) (rw (← q) w.enough) (w.parts ∙ rw q)
+      (length-take-le count rows (omega (arith, w.size, w.few)))
 
   -- the place that row k leads to is done
   pub walking-place : {whole : List ℕ} {k : ℕ} {rows : List ℕ} {count : ℕ} {below rows' : List ℕ} {count' : ℕ} {below' : List ℕ}
-      → Walking cap T num Good whole k rows count below → k ≤ count → get_or below k 0 ≢ 0 → length whole ≤ cap
+      → Walking cap T num Good whole k rows count below → k ≤ count → get_or below k 0 ≢ 0
+      → count + length (place_numbers num k (L (get_or below k 0)) (N (get_or below k 0))) ≤ cap
       → Joined cap rows count (place_numbers num k (L (get_or below k 0)) (N (get_or below k 0))) below (count + length (L (get_or below k 0)) + 1) (codes (N (get_or below k 0))) rows' count' below'
       → Walking cap T num Good whole (k + 1) rows' count' below'
   walking-place {k = k} {rows} {count} {below} w l z few p =
       let q = queue-next T below k count l z in
       place-step (get_or below k 0) w.fuel (k + 1) k (w.goods k z) (omega arith) (omega arith) (rw (← q) w.enough) (w.parts ∙ rw q)
-      (length-take-le count rows (omega arith)) few w.width w.zeros w.goods p
+      (length-take-le count rows (omega (arith, w.size, w.few))) few w.width w.zeros w.goods p
 
   -- all rows are done
   pub walking-done : {whole : List ℕ} {k : ℕ} {rows : List ℕ} {count : ℕ} {below : List ℕ}

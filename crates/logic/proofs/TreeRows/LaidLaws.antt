@@ -6,7 +6,7 @@ use mathlib.Core.List.{List, [], ◌++◌, ◌∷◌}
 use mathlib.Core.Path.{◌∙◌, ◌≡◌, ap, refl}
 use native.Mathlib.Nat.{add-zero}
 use native.Mathlib.Omega.{arith}
-use Rattle.compare.specs.code.Laying.{Joint, codes, joint, joint_rows, joints, leaf_rows, leaves}
+use Rattle.logic.specs.Laying.{Joint, codes, joint, joint_rows, joints, leaf_rows, leaves}
 use Rattle.logic.proofs.TreeRows.LayoutLaws.{load, load-later}
 use Rattle.logic.specs.Filling.{later_each}
 use Rattle.logic.specs.Layout.{Queue, done, job, later, lay, weight}
