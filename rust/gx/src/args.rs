@@ -75,6 +75,7 @@ impl Command {
                 "--names",
                 "--dictionary",
                 "--json",
+                "--recursive",
                 "--from",
                 "--sort",
                 "--to",
@@ -85,6 +86,7 @@ impl Command {
                 "--names",
                 "--dictionary",
                 "--json",
+                "--recursive",
                 "--from",
                 "--sort",
                 "--out",
@@ -94,6 +96,7 @@ impl Command {
                 "--pairs",
                 "--dictionary",
                 "--json",
+                "--recursive",
                 "--from",
                 "--sort",
             ],
@@ -101,6 +104,7 @@ impl Command {
                 "--names",
                 "--dictionary",
                 "--json",
+                "--recursive",
                 "--from",
                 "--to",
                 "--numbers",
@@ -111,19 +115,26 @@ impl Command {
                 "--pairs",
                 "--dictionary",
                 "--json",
+                "--recursive",
                 "--from",
                 "--to",
                 "--numbers",
                 "--out",
             ],
-            Command::Fit | Command::Catalogue => {
-                &["--names", "--pairs", "--dictionary", "--json", "--from"]
-            }
+            Command::Fit | Command::Catalogue => &[
+                "--names",
+                "--pairs",
+                "--dictionary",
+                "--json",
+                "--recursive",
+                "--from",
+            ],
             Command::Compare => &[
                 "--names",
                 "--pairs",
                 "--dictionary",
                 "--json",
+                "--recursive",
                 "--from",
                 "--svg",
                 "--html",
@@ -135,12 +146,14 @@ impl Command {
                 "--pairs",
                 "--dictionary",
                 "--json",
+                "--recursive",
                 "--from",
                 "--out",
             ],
             Command::FromOwl => &[
                 "--names",
                 "--json",
+                "--recursive",
                 "--class",
                 "--sort",
                 "--to",
@@ -217,6 +230,8 @@ pub struct Options {
     pub whole: bool,
     /// The class that is read from OWL.
     pub class: Option<String>,
+    /// Folders stand for the files in their folders too.
+    pub recursive: bool,
 }
 
 /// A command line that makes sense.
@@ -339,6 +354,7 @@ impl<'a> Line<'a> {
             "--json" => Some(&mut self.options.json),
             "--numbers" => Some(&mut self.options.numbers),
             "--whole" => Some(&mut self.options.whole),
+            "--recursive" => Some(&mut self.options.recursive),
             _ => None,
         };
         if let Some(flag) = flag {

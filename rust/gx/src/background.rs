@@ -3,6 +3,7 @@
 use goltximen::Under;
 
 use crate::dictionary::Dictionary;
+use crate::names::Names;
 use crate::pairs::List;
 
 /// A list and a dictionary; the default has no pairs and no descriptions.
@@ -12,6 +13,8 @@ pub struct Background {
     pub list: List,
     /// The named descriptions.
     pub dictionary: Dictionary,
+    /// The words of both.
+    pub names: Names,
 }
 
 impl Background {

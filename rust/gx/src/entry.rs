@@ -53,12 +53,11 @@ impl Sort {
         }
     }
 
-    /// The sort that these entries are of, where nobody says it: a specimen if they are all of kinds 1 and 7 and one is a group,
-    /// or if they are more than a description holds; otherwise a description.
+    /// The sort that these entries are of, where nobody says it: a specimen if they are all of kinds 1 and 7 and one is a group;
+    /// otherwise a description.
     pub fn guess(entries: &[Entry]) -> Sort {
         let specimen_kinds = entries.iter().all(|e| e.kind == 1 || e.kind == 7);
-        let told = entries.iter().any(|e| e.kind == 7) || entries.len() > 1008;
-        if specimen_kinds && told {
+        if specimen_kinds && entries.iter().any(|e| e.kind == 7) {
             Sort::Specimen
         } else {
             Sort::Description

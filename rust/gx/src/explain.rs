@@ -7,7 +7,6 @@ use crate::background::Background;
 use crate::entry::{Entry, Link, Property, Says};
 use crate::input::Input;
 use crate::library::{self, Compared};
-use crate::names::Names;
 use crate::pairs::List;
 use crate::tree::{owners, places, way, Tree};
 use crate::words::{grouped, listed, Words};
@@ -341,13 +340,5 @@ impl Failure {
     fn several_at_end(&self) -> bool {
         let last = self.specimen.path.last();
         last.is_some_and(|&group| self.specimen.entries[group - 1].number > 0)
-    }
-
-    /// The names of both descriptions: those given first, then the service's own, then the supplier's, then the list's.
-    pub fn names(list: &List, supplier: &Input, service: &Input) -> Names {
-        let mut names = service.names.clone();
-        names.join(&supplier.names);
-        names.join(&list.names);
-        names
     }
 }

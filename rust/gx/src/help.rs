@@ -164,6 +164,7 @@ fn option_help(command: Command, option: &str) -> &'static str {
         ("--pairs", _) => "  --pairs FILE        the list of properties that exclude each other\n",
         ("--dictionary", _) => "  --dictionary FILE   the dictionary of the descriptions that are named\n",
         ("--json", _) => "  --json              the answer for programs, one object on a line\n",
+        ("--recursive", _) => "  --recursive         a folder stands for the files in its folders too\n",
         ("--from", _) => "  --from FORM         the inputs are 'blocks' or 'text', whatever they look like\n",
         ("--sort", Command::FromOwl) => "  --sort SORT         write the 'description' (without this option) or the 'pairs'\n",
         ("--sort", _) => "  --sort SORT         the input is a 'description', a 'specimen', a list of 'pairs' or a 'dictionary'\n",
@@ -185,7 +186,8 @@ Every answer is that of the proved library; gx reads, writes, draws and words it
 Inputs are files, or standard input as -, also where no FILE is given. They are blocks or text, told apart by their bytes: an
 input with a zero byte, or an empty one, is blocks (the second byte of all accepted blocks is zero); any other is text. --from
 says it where that is wrong. A folder stands for its files, without hidden ones, names files (*.names), lists of pairs (*.pairs),
-dictionaries (*.dictionary) and folders: each gets a line, and one bad file stops none of the others. So it is for several files.
+dictionaries (*.dictionary), settings (*.gx) and folders: each gets a line, and one bad file stops none of the others. So it is for
+several files. A folder without an input is an error; folders in it are told, and read with --recursive.
 With two folders each file of the first goes with each of the second.
 
 A text has an entry on each line, or divides them by ';':
@@ -207,6 +209,9 @@ or, as at the desk, kind,name,number: 5,1 [3,2,1; 4,2,1]. After a number may com
 the number where the names file, or the text before, knows it: at least 1 core. Entries are numbered as they are written, from 1;
 #12 before an entry gives it the number 12, and those after it count on. The word 'description' or 'specimen' may come first; a
 text without entries needs it. // begins a remark.
+
+In all inputs of an answer a word stands for one number, and a number has one word; else both places are told. Only the names file
+settles it: its word is shown, and the answer tells which other one was sent.
 
 Links from 32768 up, such as 'taken from field', lead to one item only. No record has two items by one: a group that brings its
 owner a second one is refused (9), at least 2 is impossible, and every item meets at most 1 or more.
@@ -247,8 +252,9 @@ A names file has lines like
     description 1 \"sealed core\"
 where the second word is the plural of a link's word.
 
-Exit status: 0 yes, contained, accepted or done; 1 no or not contained; 2 refused or a mistake in the input; 64 wrong usage. For
-several files it is the highest of theirs.
+Exit status: 0 yes, contained, accepted or done; 1 no or not contained; 2 refused or a mistake in the input; 64 wrong usage,
+or an output that would replace an input; 70 an error of gx. For several files it is the highest of theirs. Files are written whole
+or not at all. What is shown is read back before.
 
 gx COMMAND --help tells the options. gx --version tells the version.
 ";

@@ -2,6 +2,8 @@
 
 use std::fmt;
 
+use crate::shown::turns;
+
 /// A value of JSON.
 #[derive(Clone, Debug, PartialEq, Eq)]
 pub enum Json {
@@ -79,7 +81,7 @@ fn write_text(f: &mut fmt::Formatter<'_>, text: &str) -> fmt::Result {
             '"' => f.write_str("\\\"")?,
             '\\' => f.write_str("\\\\")?,
             '\n' => f.write_str("\\n")?,
-            sign if sign.is_control() => write!(f, "\\u{:04x}", u32::from(sign))?,
+            sign if sign.is_control() || turns(sign) => write!(f, "\\u{:04x}", u32::from(sign))?,
             sign => write!(f, "{sign}")?,
         }
     }

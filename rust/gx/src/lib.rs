@@ -10,7 +10,7 @@
 //! | [`names`], [`text`] | the words of properties, links and descriptions; descriptions, specimens, lists and dictionaries as text |
 //! | [`input`], [`trouble`], [`refused`] | inputs, what keeps one from an answer, a refusal in words |
 //! | [`library`] | the calls of the proved library |
-//! | [`words`], [`whereabouts`] | sentences, and where an entry stands |
+//! | [`words`], [`whereabouts`], [`shown`], [`readback`] | sentences, and where an entry stands |
 //! | [`explain`], [`specimen`] | a no explained, a specimen as a tree of lines |
 //! | [`svg`], [`page`] | the drawing and the page |
 //! | [`owl`] | the question in OWL, and descriptions from it |
@@ -34,8 +34,10 @@ pub mod names;
 pub mod owl;
 pub mod page;
 pub mod pairs;
+pub mod readback;
 pub mod refused;
 pub mod run;
+pub mod shown;
 pub mod specimen;
 pub mod svg;
 pub mod text;

@@ -1,8 +1,12 @@
-//! What keeps an input from an answer: it cannot be read, its text has a mistake, or the library refuses it.
+//! What keeps an input from an answer: it cannot be read, its text has a mistake, or the library refuses it; and what keeps an
+//! answer from being shown.
 
 use goltximen::Refusal;
 
+use crate::commands::Status;
 use crate::json::Json;
+use crate::names::Conflict;
+use crate::shown::file_name;
 use crate::text::{Mistake, Position};
 
 /// Why there is no answer for an input.
@@ -31,6 +35,22 @@ pub enum Trouble {
         /// The line with a sign under it.
         shown: String,
     },
+    /// Two words of one number, or one of two, in the inputs of a call.
+    Words(Box<Conflict>),
+    /// A folder without an input.
+    Empty {
+        /// The folder as it was named.
+        file: String,
+        /// What is in it and was passed over.
+        passed: String,
+    },
+    /// What would be shown is not what is there: an error of this program.
+    Fault {
+        /// The file as it was named.
+        file: String,
+        /// What is wrong.
+        why: String,
+    },
     /// The library refuses the input.
     Refused {
         /// The file as it was named.
@@ -53,6 +73,14 @@ impl Trouble {
             Trouble::File { why, .. } => format!("cannot be read: {why}"),
             Trouble::Unwritten { why, .. } => format!("cannot be written: {why}"),
             Trouble::Mistake { mistake, .. } => format!("mistake: {mistake}"),
+            Trouble::Words(conflict) => {
+                let Position { line, column } = conflict.other.place.at;
+                format!("mistake: line {line}, column {column}: {}", conflict.line())
+            }
+            Trouble::Empty { passed, .. } => format!("no input in this folder{passed}"),
+            Trouble::Fault { why, .. } => {
+                format!("an error of gx, not of the input: {why}; nothing is shown")
+            }
             Trouble::Refused {
                 refusal, why, at, ..
             } => {
@@ -68,13 +96,16 @@ impl Trouble {
             Trouble::File { file, .. }
             | Trouble::Unwritten { file, .. }
             | Trouble::Mistake { file, .. }
+            | Trouble::Empty { file, .. }
+            | Trouble::Fault { file, .. }
             | Trouble::Refused { file, .. } => file,
+            Trouble::Words(conflict) => &conflict.other.place.file,
         }
     }
 
     /// On several lines, with the file and what stands around the place.
     pub fn lines(&self) -> String {
-        format!("{}: {}", self.file(), self.told())
+        format!("{}: {}", file_name(self.file()), self.told())
     }
 
     /// The file's name without its folder.
@@ -84,41 +115,55 @@ impl Trouble {
 
     /// The same with the file's name without its folder, for what is not to depend on where the file lies.
     pub fn titled_lines(&self) -> String {
-        format!("{}: {}", self.title(), self.told())
+        format!("{}: {}", file_name(self.title()), self.told())
     }
 
     fn told(&self) -> String {
         let line = self.line();
         match self {
-            Trouble::File { .. } | Trouble::Unwritten { .. } => format!("{line}\n"),
+            Trouble::File { .. }
+            | Trouble::Unwritten { .. }
+            | Trouble::Empty { .. }
+            | Trouble::Fault { .. } => format!("{line}\n"),
+            Trouble::Words(conflict) => format!("{line}\n{}", conflict.shown()),
             Trouble::Mistake { shown, .. } => format!("{line}\n{shown}\n"),
             Trouble::Refused { shown, .. } if shown.is_empty() => format!("{line}\n"),
             Trouble::Refused { shown, .. } => format!("{line}\n\n{shown}"),
         }
     }
 
+    /// The exit status that it makes.
+    pub fn status(&self) -> Status {
+        match self {
+            Trouble::Fault { .. } => Status::Fault,
+            _ => Status::Bad,
+        }
+    }
+
     /// For programs. Of a refusal the number of the input tells which file it is about; of anything else its name does.
     pub fn json(&self) -> Vec<(&'static str, Json)> {
         let of = ("of", Json::text(self.title()));
+        let with = |answer: &str, words: &str| {
+            let words = ("words", Json::text(words));
+            vec![("answer", Json::text(answer)), of.clone(), words]
+        };
         match self {
-            Trouble::File { why, .. } => vec![
-                ("answer", Json::text("unreadable")),
-                of,
-                ("words", Json::text(why)),
-            ],
-            Trouble::Unwritten { why, .. } => vec![
-                ("answer", Json::text("unwritten")),
-                of,
-                ("words", Json::text(why)),
-            ],
-            Trouble::Mistake { mistake, .. } => vec![
-                ("answer", Json::text("mistake")),
-                of,
-                ("line", Json::number(mistake.at.line)),
-                ("column", Json::number(mistake.at.column)),
-                ("expected", Json::text(&mistake.expected)),
-                ("found", Json::text(&mistake.found)),
-            ],
+            Trouble::File { why, .. } => with("unreadable", why),
+            Trouble::Unwritten { why, .. } => with("unwritten", why),
+            Trouble::Empty { .. } => with("no input", &self.line()),
+            Trouble::Fault { why, .. } => with("error", why),
+            Trouble::Mistake { mistake, .. } => {
+                let mut fields = vec![("answer", Json::text("mistake")), of.clone()];
+                fields.extend(mistake.json());
+                fields
+            }
+            Trouble::Words(conflict) => {
+                let mut fields = vec![("answer", Json::text("mistake")), of.clone()];
+                fields.extend(conflict.other.place.at.json());
+                fields.push(("words", Json::text(conflict.line())));
+                fields.push(("clash", Json::Object(conflict.json())));
+                fields
+            }
             Trouble::Refused {
                 refusal, why, at, ..
             } => {

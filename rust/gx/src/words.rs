@@ -7,7 +7,12 @@ use crate::names::Names;
 #[derive(Clone, Copy, Debug)]
 pub struct Words<'a> {
     names: &'a Names,
+    /// Each word of the names stands between two signs that keep its direction from what is around it.
+    apart: bool,
 }
+
+/// The sign before a word that is kept apart, and the one after it. No word of a text has them.
+pub const APART: [char; 2] = ['\u{2068}', '\u{2069}'];
 
 /// A way with more links than this is not told as 'of every ... of every ...'.
 const LONG_WAY: usize = 3;
@@ -15,7 +20,28 @@ const LONG_WAY: usize = 3;
 impl<'a> Words<'a> {
     /// The words with these names.
     pub fn new(names: &'a Names) -> Words<'a> {
-        Words { names }
+        Words {
+            names,
+            apart: false,
+        }
+    }
+
+    /// The same, with each word kept apart, as pages have them.
+    pub fn apart(names: &'a Names) -> Words<'a> {
+        Words { names, apart: true }
+    }
+
+    /// The same without signs between words.
+    pub fn plain(self) -> Words<'a> {
+        Words::new(self.names)
+    }
+
+    /// A word of the names.
+    fn own(self, word: &str) -> String {
+        match (self.apart, APART) {
+            (true, [before, after]) => format!("{before}{word}{after}"),
+            (false, _) => word.into(),
+        }
     }
 
     /// The names.
@@ -26,7 +52,7 @@ impl<'a> Words<'a> {
     /// One item by a link: "sample", or "item by link 1".
     pub fn item(self, link: Link) -> String {
         match self.names.link(link) {
-            Some(word) => word.into(),
+            Some(word) => self.own(word),
             None => format!("item by link {}", link.0),
         }
     }
@@ -35,7 +61,7 @@ impl<'a> Words<'a> {
     pub fn items(self, count: u32, link: Link) -> String {
         let items = if count == 1 { "item" } else { "items" };
         match self.names.links(link, count) {
-            Some(word) => format!("{} {word}", grouped(count)),
+            Some(word) => format!("{} {}", grouped(count), self.own(word)),
             None => format!("{} {items} by link {}", grouped(count), link.0),
         }
     }
@@ -48,13 +74,13 @@ impl<'a> Words<'a> {
     /// A property without that word.
     pub fn property_word(self, property: Property) -> String {
         let word = self.names.property(property);
-        word.map_or_else(|| property.0.to_string(), String::from)
+        word.map_or_else(|| property.0.to_string(), |word| self.own(word))
     }
 
     /// A description of a dictionary: "description sealed core", or "description 3".
     pub fn description(self, named: Named) -> String {
         match self.names.description(named) {
-            Some(word) => format!("description {word}"),
+            Some(word) => format!("description {}", self.own(word)),
             None => format!("description {}", named.0),
         }
     }
@@ -92,7 +118,7 @@ impl<'a> Words<'a> {
 
     fn step(self, link: Link) -> String {
         match self.names.link(link) {
-            Some(word) => word.into(),
+            Some(word) => self.own(word),
             None => format!("link {}", link.0),
         }
     }

@@ -2,10 +2,11 @@
 
 use std::path::PathBuf;
 
-use super::Context;
+use super::{words_of, Context};
 use crate::dictionary::split;
 use crate::input::{accepted_services, bytes_of, not_refused, title, Form, Input};
 use crate::library::{self, MOST_SERVICES};
+use crate::names::Conflict;
 use crate::trouble::Trouble;
 
 /// A service: a file, or a part of a file that is a list of them.
@@ -13,6 +14,8 @@ use crate::trouble::Trouble;
 pub struct Service {
     /// The file.
     file: PathBuf,
+    /// The name on its line: the file's without its folder, or the way from the folder that is given.
+    pub name: String,
     /// The bytes, where they are read already.
     bytes: Option<Vec<u8>>,
     /// The number in the list, from 1, where it is a part of one.
@@ -20,21 +23,19 @@ pub struct Service {
 }
 
 impl Service {
-    /// Each of these files is a service, and is read when its turn comes.
-    pub fn of_files(files: Vec<PathBuf>) -> Vec<Service> {
-        let service = |file| Service {
+    /// This file is a service, and is read when its turn comes.
+    pub fn of_file(file: PathBuf, name: String) -> Service {
+        Service {
             file,
+            name,
             bytes: None,
             number: None,
-        };
-        files.into_iter().map(service).collect()
-    }
-
-    /// The file's name without its folder.
-    pub fn title(&self) -> String {
-        title(&self.file)
+        }
     }
 }
+
+/// Whether one service contains the description, and the words of both that the names file settles.
+pub type Contained = Result<(bool, Vec<Conflict>), Trouble>;
 
 impl Context {
     /// The services of a file: those of a list, which is blocks with more than one numbered 1, or the file itself.
@@ -47,6 +48,7 @@ impl Context {
         let parts = split(&bytes);
         if self.reading.form_of(&bytes) == Form::Text || parts.len() < 2 {
             return Ok(vec![Service {
+                name: title(&file),
                 file,
                 bytes: Some(bytes),
                 number: None,
@@ -56,6 +58,7 @@ impl Context {
         let numbered = (1..).zip(parts);
         let services = numbered.map(|(number, part)| Service {
             file: file.clone(),
+            name: title(&file),
             bytes: Some(part.to_vec()),
             number: Some(number),
         });
@@ -64,10 +67,10 @@ impl Context {
 
     /// Whether the supplier's description is contained in each of these services, at most [`MOST_SERVICES`]: one call for all that
     /// are accepted. The n-th is the call's input 1 + n, whether those before it are accepted or not.
-    pub fn catalogue(&self, supplier: &Input, services: &[Service]) -> Vec<Result<bool, Trouble>> {
+    pub fn catalogue(&self, supplier: &Input, services: &[Service]) -> Vec<Contained> {
         let inputs = (2..).zip(services.iter().take(MOST_SERVICES));
         let read: Vec<Result<Input, Trouble>> = inputs
-            .map(|(input, service)| self.service(service, input))
+            .map(|(input, service)| self.service(supplier, service, input))
             .collect();
         let accepted = read.iter().flatten();
         let bytes: Vec<&[u8]> = accepted.map(|input| input.bytes.as_slice()).collect();
@@ -78,16 +81,16 @@ impl Context {
         };
         let mut answers = answers.map(Vec::into_iter);
         let answer = |(service, input): (&Service, Result<Input, Trouble>)| {
-            input?;
+            let notes = input?.names.settled().to_vec();
             match &mut answers {
-                Ok(answers) => Ok(answers.next().unwrap_or(false)),
+                Ok(answers) => Ok((answers.next().unwrap_or(false), notes)),
                 Err(refusal) => Err(not_refused(&service.file, *refusal)),
             }
         };
         services.iter().zip(read).map(answer).collect()
     }
 
-    fn service(&self, service: &Service, input: u16) -> Result<Input, Trouble> {
+    fn service(&self, supplier: &Input, service: &Service, input: u16) -> Result<Input, Trouble> {
         let bytes = match &service.bytes {
             Some(bytes) => bytes.clone(),
             None => bytes_of(&service.file)?,
@@ -97,6 +100,8 @@ impl Context {
             // A part that is damaged may look like a text.
             reading.form = Some(Form::Blocks);
         }
-        self.description_of(&reading, &service.file, bytes, input)
+        let read = self.description_of(&reading, &service.file, bytes, input)?;
+        let names = words_of(supplier, &read)?;
+        Ok(Input { names, ..read })
     }
 }

@@ -51,5 +51,6 @@ pub(super) fn check(context: &Context, file: &Path) -> Result<Answer, Trouble> {
         ending: "txt",
         json,
         extras: Vec::new(),
+        notes: input.names.settled().to_vec(),
     })
 }

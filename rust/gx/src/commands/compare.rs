@@ -2,7 +2,7 @@
 
 use std::path::Path;
 
-use super::{entries_json, Answer, Context, Extra, Status};
+use super::{entries_json, words_of, Answer, Context, Extra, Status};
 use crate::blocks::encode;
 use crate::explain::{compared, Explained, Failure};
 use crate::input::{not_refused, Input};
@@ -20,16 +20,16 @@ use crate::{page, svg};
 pub(super) fn compare(context: &Context, c: &Path, d: &Path) -> Result<Answer, Trouble> {
     let supplier = context.description(c, 1)?;
     let service = context.description(d, 2)?;
+    let names = words_of(&supplier, &service)?;
     let list = &context.background.list;
     let explained = compared(&context.background, &supplier, &service);
     let explained = explained.map_err(|refusal| not_refused(d, refusal))?;
-    let names = Failure::names(list, &supplier, &service);
     let mut answer = match &explained {
         Explained::Contained => contained(list),
         Explained::NotContained(failure) => not_contained(failure, &supplier, &service, &names),
     };
-    answer.extras = extras(context, &explained, &supplier, &service, &names);
-    Ok(answer)
+    answer.extras = extras(context, &explained, &supplier, &service, &names)?;
+    Ok(answer.noted(&names))
 }
 
 /// The files beside the answer. They are written for each answer, so that no older one is taken for this one's.
@@ -39,7 +39,7 @@ fn extras(
     supplier: &Input,
     service: &Input,
     names: &Names,
-) -> Vec<(Extra, Vec<u8>)> {
+) -> Result<Vec<(Extra, Vec<u8>)>, Trouble> {
     let options = &context.options;
     let words = Words::new(names);
     let mut extras = Vec::new();
@@ -52,13 +52,20 @@ fn extras(
     }
     if options.html.is_some() {
         let list = &context.background.list;
-        let page = page::page(explained, list, supplier, service, words, options.whole);
+        let page = page::page(page::Sheet {
+            explained,
+            list,
+            supplier,
+            service,
+            names,
+            whole: options.whole,
+        })?;
         extras.push((Extra::Html, page.into_bytes()));
     }
     if let (Explained::NotContained(failure), true) = (explained, options.specimen.is_some()) {
         extras.push((Extra::Specimen, encode(&failure.specimen.entries)));
     }
-    extras
+    Ok(extras)
 }
 
 fn contained(list: &List) -> Answer {
@@ -74,6 +81,7 @@ fn contained(list: &List) -> Answer {
         ending: "txt",
         json: vec![("answer", Json::text("contained"))],
         extras: Vec::new(),
+        notes: Vec::new(),
     }
 }
 
@@ -124,6 +132,7 @@ fn not_contained(failure: &Failure, c: &Input, d: &Input, names: &Names) -> Answ
         ending: "txt",
         json,
         extras: Vec::new(),
+        notes: Vec::new(),
     }
 }
 

@@ -5,27 +5,29 @@ use crate::args::To;
 use crate::dictionary::Dictionary;
 use crate::entry::Named;
 use crate::json::Json;
+use crate::readback;
 use crate::text;
+use crate::trouble::Trouble;
 use crate::words;
 
 /// What a file of a dictionary is called after its input, where it holds bytes.
 const ENDING: &str = "dictionary";
 
-pub(super) fn show(context: &Context, of: &Dictionary) -> Answer {
-    let desk = text::desk_dictionary(&of.parts);
+pub(super) fn show(context: &Context, of: &Dictionary) -> Result<Answer, Trouble> {
+    let desk = readback::dictionary(text::desk_dictionary(&of.parts), of)?;
     let (full, ending) = match context.options.to.unwrap_or(To::Text) {
         To::Text => {
             let text = text::dictionary(&of.parts, &of.names, context.numbers());
-            (text.into_bytes(), "txt")
+            (readback::dictionary(text, of)?.into_bytes(), "txt")
         }
         To::Desk => (format!("{desk}\n").into_bytes(), "txt"),
         To::Blocks => (of.bytes.clone(), ENDING),
     };
-    Answer {
+    Ok(Answer {
         full,
         ending,
         ..answer(desk, of)
-    }
+    })
 }
 
 pub(super) fn write(of: &Dictionary) -> Answer {
@@ -68,5 +70,6 @@ fn answer(line: String, of: &Dictionary) -> Answer {
             ("descriptions", Json::List(parts.collect())),
         ],
         extras: Vec::new(),
+        notes: of.names.settled().to_vec(),
     }
 }

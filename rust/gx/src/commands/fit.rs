@@ -2,13 +2,14 @@
 
 use std::path::Path;
 
-use super::{Answer, Context, Status};
+use super::{words_of, Answer, Context, Status};
 use crate::blocks::encode;
 use crate::dictionary::Naming;
 use crate::entry::{Entry, Sort};
 use crate::input::{keeping, not_refused, Input};
 use crate::json::Json;
 use crate::library::{self, Refusal, Under};
+use crate::names::Names;
 use crate::tree::{owners, way};
 use crate::trouble::Trouble;
 use crate::whereabouts;
@@ -17,16 +18,17 @@ use crate::words::Words;
 pub(super) fn fit(context: &Context, specimen: &Path, file: &Path) -> Result<Answer, Trouble> {
     let reading = &context.reading;
     let shown = reading.input(specimen, Some(Sort::Specimen), 1, Naming::Nothing)?;
-    let shown = keeping(specimen, shown, &context.background.list)?;
+    let shown = keeping(specimen, context.worded(shown)?, &context.background.list)?;
     let description = context.description(file, 2)?;
+    let names = words_of(&description, &shown)?;
     let under = context.background.under();
     let fits = library::fits(under, &shown.bytes, &description.bytes);
     if fits.map_err(|refusal| not_refused(file, refusal))? {
-        return Ok(yes());
+        return Ok(yes().noted(&names));
     }
     let unmet = first_unmet(under, &shown, &description);
     let unmet = unmet.map_err(|refusal| not_refused(file, refusal))?;
-    Ok(no(&shown, &description, unmet))
+    Ok(no(&description, unmet, &names).noted(&names))
 }
 
 fn yes() -> Answer {
@@ -38,19 +40,18 @@ fn yes() -> Answer {
         ending: "txt",
         json: vec![("answer", Json::text("yes"))],
         extras: Vec::new(),
+        notes: Vec::new(),
     }
 }
 
-fn no(specimen: &Input, description: &Input, unmet: Option<usize>) -> Answer {
-    let mut names = description.names.clone();
-    names.join(&specimen.names);
+fn no(description: &Input, unmet: Option<usize>, names: &Names) -> Answer {
     let says = unmet.map(|entry| {
         let says = description.entries[entry - 1].says();
-        Words::new(&names).asks(&way(&description.entries, entry), says)
+        Words::new(names).asks(&way(&description.entries, entry), says)
     });
     let line = match (unmet, &says) {
         (Some(entry), Some(says)) => {
-            let from = whereabouts::of_origin(description, entry, &names);
+            let from = whereabouts::of_origin(description, entry, names);
             format!("no: the specimen does not meet entry {entry} of the description{from}: {says}")
         }
         _ => "no: the top item of the specimen does not fit the description".into(),
@@ -66,6 +67,7 @@ fn no(specimen: &Input, description: &Input, unmet: Option<usize>) -> Answer {
             ("asks", says.as_deref().into()),
         ],
         extras: Vec::new(),
+        notes: Vec::new(),
     }
 }
 

@@ -5,23 +5,29 @@ use crate::args::To;
 use crate::json::Json;
 use crate::names::Names;
 use crate::pairs::{List, Pair};
+use crate::readback;
 use crate::text;
+use crate::trouble::Trouble;
 use crate::words;
 
 /// What a file of pairs is called after its input, where it holds bytes.
 const ENDING: &str = "pairs";
 
-pub(super) fn show(context: &Context, list: &List) -> Answer {
+pub(super) fn show(context: &Context, list: &List) -> Result<Answer, Trouble> {
+    let desk = readback::pairs(text::desk_pairs(&list.pairs), list)?;
     let (full, ending) = match context.options.to.unwrap_or(To::Text) {
-        To::Text => (text::pairs(&list.pairs, &list.names).into_bytes(), "txt"),
-        To::Desk => ((text::desk_pairs(&list.pairs) + "\n").into_bytes(), "txt"),
+        To::Text => {
+            let text = text::pairs(&list.pairs, &list.names);
+            (readback::pairs(text, list)?.into_bytes(), "txt")
+        }
+        To::Desk => (format!("{desk}\n").into_bytes(), "txt"),
         To::Blocks => (list.bytes.clone(), ENDING),
     };
-    Answer {
+    Ok(Answer {
         full,
         ending,
-        ..answer(text::desk_pairs(&list.pairs), list)
-    }
+        ..answer(desk, list)
+    })
 }
 
 pub(super) fn write(list: &List) -> Answer {
@@ -56,6 +62,7 @@ fn answer(line: String, list: &List) -> Answer {
             ("pairs", pairs_json(&list.pairs, &list.names)),
         ],
         extras: Vec::new(),
+        notes: list.names.settled().to_vec(),
     }
 }
 

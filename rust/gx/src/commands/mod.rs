@@ -19,12 +19,13 @@ use crate::dictionary::{Dictionary, Naming};
 use crate::entry::{Entry, Sort};
 use crate::input::{bytes_of, not_refused, Input, Reading};
 use crate::json::Json;
-use crate::names::Names;
+use crate::names::{Conflict, Names};
 use crate::pairs::List;
+use crate::readback;
 use crate::text::{self, Numbers};
 use crate::trouble::Trouble;
 
-pub use catalogue::Service;
+pub use catalogue::{Contained, Service};
 
 /// How an answer ends the program.
 #[derive(Clone, Copy, Debug, PartialEq, Eq, PartialOrd, Ord)]
@@ -35,6 +36,8 @@ pub enum Status {
     No,
     /// Refused, or a mistake in the input.
     Bad,
+    /// An error of this program.
+    Fault,
 }
 
 impl Status {
@@ -44,6 +47,7 @@ impl Status {
             Status::Yes => 0,
             Status::No => 1,
             Status::Bad => 2,
+            Status::Fault => 70,
         }
     }
 }
@@ -74,6 +78,16 @@ pub struct Answer {
     pub json: Vec<(&'static str, Json)>,
     /// What goes into files of its own.
     pub extras: Vec<(Extra, Vec<u8>)>,
+    /// The words in place of which those of the names file are shown.
+    pub notes: Vec<Conflict>,
+}
+
+impl Answer {
+    /// The answer, with what these names settled.
+    fn noted(mut self, names: &Names) -> Answer {
+        self.notes = names.settled().to_vec();
+        self
+    }
 }
 
 /// What a command is to know.
@@ -152,8 +166,8 @@ impl Context {
             Some(_) => Naming::All(&self.background.dictionary),
             None => naming,
         };
-        let read = reading.input_of(file, bytes, sort, 1, naming);
-        read.map(Alone::Entries)
+        let read = reading.input_of(file, bytes, sort, 1, naming)?;
+        self.worded(read).map(Alone::Entries)
     }
 
     /// A description, the call's input of this number, once unfolded.
@@ -176,8 +190,16 @@ impl Context {
         let dictionary = &self.background.dictionary;
         let sort = Some(Sort::Description);
         let read = reading.input_of(file, bytes, sort, input, Naming::All(dictionary))?;
+        let read = self.worded(read)?;
         let unfolded = read.unfolded(dictionary);
         unfolded.map_err(|refusal| not_refused(file, refusal))
+    }
+
+    /// The input with the words of the list and of the dictionary, if these go with its own.
+    fn worded(&self, mut input: Input) -> Result<Input, Trouble> {
+        let joined = input.names.join(&self.background.names);
+        joined.map_err(Trouble::Words)?;
+        Ok(input)
     }
 
     /// Which entries are written with their numbers.
@@ -189,20 +211,54 @@ impl Context {
     }
 
     /// Entries in the form that the options ask for, and the ending of a file that holds it.
-    fn written(&self, sort: Sort, entries: &[Entry], names: &Names) -> (Vec<u8>, &'static str) {
-        let numbers = self.numbers();
-        match self.options.to.unwrap_or(To::Text) {
+    fn written(&self, of: Written<'_>) -> Result<(Vec<u8>, &'static str), Trouble> {
+        Ok(match self.options.to.unwrap_or(To::Text) {
             To::Text => {
-                let text = text::text(sort, entries, names, numbers);
-                (text.into_bytes(), "txt")
+                let text = text::text(of.sort, of.entries, of.names, self.numbers());
+                (of.read_back(text)?.into_bytes(), "txt")
             }
-            To::Desk => {
-                let line = text::desk(sort, entries) + "\n";
-                (line.into_bytes(), "txt")
-            }
-            To::Blocks => (crate::blocks::encode(entries), "blocks"),
+            To::Desk => ((of.desk()? + "\n").into_bytes(), "txt"),
+            To::Blocks => (crate::blocks::encode(of.entries), "blocks"),
+        })
+    }
+}
+
+/// Entries that are written.
+#[derive(Clone, Copy)]
+struct Written<'a> {
+    sort: Sort,
+    entries: &'a [Entry],
+    names: &'a Names,
+    /// The file that they come from.
+    title: &'a str,
+}
+
+impl<'a> Written<'a> {
+    /// The entries of an input.
+    fn of(input: &'a Input) -> Written<'a> {
+        Written {
+            sort: input.sort,
+            entries: &input.entries,
+            names: &input.names,
+            title: &input.title,
         }
     }
+
+    /// The line in desk notation.
+    fn desk(self) -> Result<String, Trouble> {
+        self.read_back(text::desk(self.sort, self.entries))
+    }
+
+    fn read_back(self, text: String) -> Result<String, Trouble> {
+        readback::entries(text, self.sort, self.entries, self.names, self.title)
+    }
+}
+
+/// The words of two inputs of a call, if they go together.
+fn words_of(one: &Input, other: &Input) -> Result<Names, Trouble> {
+    let mut names = one.names.clone();
+    names.join(&other.names).map_err(Trouble::Words)?;
+    Ok(names)
 }
 
 /// The entries for programs.

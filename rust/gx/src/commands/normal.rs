@@ -2,12 +2,10 @@
 
 use std::path::Path;
 
-use super::{entries_json, Answer, Context, Status};
-use crate::entry::Sort;
+use super::{entries_json, Answer, Context, Status, Written};
 use crate::input::{not_refused, Input};
 use crate::json::Json;
 use crate::library;
-use crate::text;
 use crate::trouble::Trouble;
 use crate::words;
 
@@ -16,14 +14,18 @@ pub(super) fn normal(context: &Context, file: &Path) -> Result<Answer, Trouble> 
     let blocks = library::normal(context.background.under(), &input.bytes);
     let blocks = blocks.map_err(|refusal| not_refused(file, refusal))?;
     let entries = library::entries(&blocks);
-    let (full, ending) = context.written(Sort::Description, &entries, &input.names);
+    let written = Written {
+        entries: &entries,
+        ..Written::of(&input)
+    };
+    let (full, ending) = context.written(written)?;
     Ok(Answer {
         status: Status::Yes,
         line: format!(
             "{}, {} in normal form: {}",
             words::entries(input.entries.len()),
             entries.len(),
-            text::desk(Sort::Description, &entries)
+            written.desk()?
         ),
         full,
         ending,
@@ -33,5 +35,6 @@ pub(super) fn normal(context: &Context, file: &Path) -> Result<Answer, Trouble> 
             ("entries", entries_json(&entries, &input.names)),
         ],
         extras: Vec::new(),
+        notes: input.names.settled().to_vec(),
     })
 }

@@ -2,17 +2,15 @@
 
 use std::path::Path;
 
-use super::{entries_json, list, Answer, Context, Status};
+use super::{entries_json, list, words_of, Answer, Context, Status, Written};
 use crate::args::{Content, To};
 use crate::blocks::encode;
 use crate::dictionary::Naming;
 use crate::entry::Sort;
-use crate::explain::Failure;
-use crate::input::{accepted, accepted_list, bytes_of, mistaken, text_of, title, Input};
+use crate::input::{accepted, accepted_list, bytes_of, mistaken, named, text_of, title, Input};
 use crate::json::Json;
 use crate::owl;
 use crate::pairs::{encode as encode_pairs, List};
-use crate::text;
 use crate::trouble::Trouble;
 use crate::words;
 
@@ -20,7 +18,7 @@ pub(super) fn owl(context: &Context, c: &Path, d: &Path) -> Result<Answer, Troub
     let supplier = context.description(c, 1)?;
     let service = context.description(d, 2)?;
     let list = &context.background.list;
-    let names = Failure::names(list, &supplier, &service);
+    let names = words_of(&supplier, &service)?;
     let question = owl::question(&list.pairs, &supplier.entries, &service.entries, &names);
     Ok(Answer {
         status: Status::Yes,
@@ -36,6 +34,7 @@ pub(super) fn owl(context: &Context, c: &Path, d: &Path) -> Result<Answer, Troub
         full: question.into_bytes(),
         ending: "ofn",
         extras: Vec::new(),
+        notes: names.settled().to_vec(),
     })
 }
 
@@ -50,7 +49,8 @@ pub(super) fn from_owl(context: &Context, file: &Path) -> Result<Answer, Trouble
     };
     let found = found.map_err(|mistake| mistaken(file, mistake, text))?;
     let mut names = context.reading.names.clone();
-    names.join(&found.words);
+    let words = found.words.placed(&named(file), text);
+    names.join(&words).map_err(Trouble::Words)?;
     let list = List {
         title: title(file),
         bytes: encode_pairs(&found.pairs),
@@ -59,7 +59,7 @@ pub(super) fn from_owl(context: &Context, file: &Path) -> Result<Answer, Trouble
         positions: Vec::new(),
     };
     if pairs {
-        return Ok(list::show(context, &accepted_list(file, list)?));
+        return list::show(context, &accepted_list(file, list)?);
     }
     let draft = Input {
         title: title(file),
@@ -72,11 +72,12 @@ pub(super) fn from_owl(context: &Context, file: &Path) -> Result<Answer, Trouble
         origins: Vec::new(),
     };
     let input = accepted(file, draft, 1, Naming::Nothing)?;
-    let (full, ending) = context.written(Sort::Description, &input.entries, &input.names);
+    let written = Written::of(&input);
+    let (full, ending) = context.written(written)?;
     let full = [remark(context, &list), full].concat();
     Ok(Answer {
         status: Status::Yes,
-        line: text::desk(Sort::Description, &input.entries),
+        line: written.desk()?,
         full,
         ending,
         json: vec![
@@ -86,6 +87,7 @@ pub(super) fn from_owl(context: &Context, file: &Path) -> Result<Answer, Trouble
             ("pairs", list::pairs_json(&list.pairs, &list.names)),
         ],
         extras: Vec::new(),
+        notes: Vec::new(),
     })
 }
 

@@ -2,28 +2,29 @@
 
 use std::path::Path;
 
-use super::{dictionary, entries_json, list, Alone, Answer, Context, Status};
+use super::{dictionary, entries_json, list, Alone, Answer, Context, Status, Written};
 use crate::dictionary::Naming;
 use crate::input::Input;
 use crate::json::Json;
-use crate::text;
 use crate::trouble::Trouble;
 use crate::words;
 
 pub(super) fn show(context: &Context, file: &Path) -> Result<Answer, Trouble> {
     let input = match context.alone(file, Naming::Any)? {
         Alone::Entries(input) => input,
-        Alone::Pairs(pairs) => return Ok(list::show(context, &pairs)),
-        Alone::Dictionary(of) => return Ok(dictionary::show(context, &of)),
+        Alone::Pairs(pairs) => return list::show(context, &pairs),
+        Alone::Dictionary(of) => return dictionary::show(context, &of),
     };
-    let (full, ending) = context.written(input.sort, &input.entries, &input.names);
+    let written = Written::of(&input);
+    let (full, ending) = context.written(written)?;
     Ok(Answer {
         status: Status::Yes,
-        line: text::desk(input.sort, &input.entries),
+        line: written.desk()?,
         full,
         ending,
         json: fields(&input),
         extras: Vec::new(),
+        notes: input.names.settled().to_vec(),
     })
 }
 
@@ -43,9 +44,10 @@ pub(super) fn write(context: &Context, file: &Path) -> Result<Answer, Trouble> {
             words::blocks(blocks)
         ),
         json: fields(&input),
-        full: input.bytes,
+        full: input.bytes.clone(),
         ending: "blocks",
         extras: Vec::new(),
+        notes: input.names.settled().to_vec(),
     })
 }
 

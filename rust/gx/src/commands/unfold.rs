@@ -2,24 +2,23 @@
 
 use std::path::Path;
 
-use super::{entries_json, Answer, Context, Status};
-use crate::entry::Sort;
+use super::{entries_json, Answer, Context, Status, Written};
 use crate::input::Input;
 use crate::json::Json;
-use crate::text;
 use crate::trouble::Trouble;
 use crate::words;
 
 pub(super) fn unfold(context: &Context, file: &Path) -> Result<Answer, Trouble> {
     let input: Input = context.description(file, 1)?;
-    let (full, ending) = context.written(Sort::Description, &input.entries, &input.names);
+    let written = Written::of(&input);
+    let (full, ending) = context.written(written)?;
     Ok(Answer {
         status: Status::Yes,
         line: format!(
             "{}, {} once unfolded: {}",
             words::entries(input.sent),
             input.entries.len(),
-            text::desk(Sort::Description, &input.entries)
+            written.desk()?
         ),
         full,
         ending,
@@ -29,5 +28,6 @@ pub(super) fn unfold(context: &Context, file: &Path) -> Result<Answer, Trouble> 
             ("entries", entries_json(&input.entries, &input.names)),
         ],
         extras: Vec::new(),
+        notes: input.names.settled().to_vec(),
     })
 }

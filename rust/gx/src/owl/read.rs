@@ -7,6 +7,7 @@ use super::{OWL, RDFS, SPACE};
 use crate::entry::{Entry, Link, Property};
 use crate::names::Names;
 use crate::pairs::Pair;
+use crate::shown::turns;
 use crate::text::{Mistake, Position};
 
 /// What was found.
@@ -522,14 +523,19 @@ impl<'a> Reader<'a> {
     fn words(&self) -> Names {
         let mut words = Names::default();
         for (iri, label) in &self.labels {
-            if label.trim() != label || label.is_empty() || label.contains(char::is_control) {
+            if label.trim() != label
+                || label.is_empty()
+                || label.contains(|sign: char| sign.is_control() || turns(sign))
+            {
                 continue;
             }
             let link = numbered(iri, "link_").map(Link);
             let property = numbered(iri, "property_").map(Property);
             // A label that stands for two things is no word for either; the numbers are shown then.
-            let _ = link.map(|link| words.name_link(link, label, self.names));
-            let _ = property.map(|property| words.name_property(property, label, self.names));
+            let _ = link.map(|link| words.name_link(link, label, Position::default(), self.names));
+            let _ = property.map(|property| {
+                words.name_property(property, label, Position::default(), self.names)
+            });
         }
         words
     }

@@ -1,9 +1,9 @@
 //! A description as a list of places that fold.
 
 use super::folds::{parts, Part};
+use super::{filed, marked};
 use crate::entry::Says;
 use crate::input::Input;
-use crate::svg::escaped;
 use crate::text;
 use crate::tree::Tree;
 use crate::words::{self, Words};
@@ -63,7 +63,7 @@ pub(super) fn listing(
     format!(
         "<section class=\"card{tight}\" style=\"--n:{digits}ch\" aria-labelledby=\"{id}\">\n<h2 id=\"{id}\">{heading} <span class=\"file\">{}</span></h2>\n\
          <p class=\"size\">{}</p>\n{body}</section>\n",
-        escaped(&input.title),
+        filed(&input.title),
         size(input)
     )
 }
@@ -147,7 +147,7 @@ impl Listing<'_> {
             _ if self.marks.way.contains(&entry) => (" way", ""),
             _ => ("", ""),
         };
-        let words = escaped(&self.words.says(says));
+        let words = marked(&self.words.says(says));
         let words = match (fails, class) {
             (true, _) => format!("<mark>{words}</mark>"),
             (_, "") => words,
@@ -171,7 +171,7 @@ impl Listing<'_> {
         let named = origin.and_then(|origin| origin.within.last());
         named.map_or(String::new(), |&(named, _)| {
             let of = text::description(named, self.words.names());
-            format!(" <span class=\"c\">of {}</span>", escaped(&of))
+            format!(" <span class=\"c\">of {}</span>", marked(&of))
         })
     }
 
@@ -185,6 +185,6 @@ impl Listing<'_> {
             }
             _ => return String::new(),
         };
-        format!(" <span class=\"c\">{number}</span>")
+        format!(" <span class=\"c k\">{number}</span>")
     }
 }

@@ -3,44 +3,75 @@
 
 mod description;
 mod folds;
+mod readback;
 mod specimen;
 mod style;
 
 use crate::explain::{Explained, Failure};
 use crate::input::Input;
-use crate::pairs::List;
+use crate::names::Names;
+use crate::pairs::{List, Pair};
+use crate::shown::file_name;
 use crate::svg::{self, escaped};
 use crate::text;
 use crate::trouble::Trouble;
 use crate::whereabouts;
-use crate::words::{self, Words};
+use crate::words::{self, Words, APART};
 use description::{listing, Marks};
 
-/// The page of a comparison under a list.
-pub fn page(
-    explained: &Explained,
-    list: &List,
-    supplier: &Input,
-    service: &Input,
-    words: Words<'_>,
-    whole: bool,
-) -> String {
-    let (title, body) = match explained {
-        Explained::Contained => ("Contained", contained(list, supplier, service, words)),
-        Explained::NotContained(failure) => (
-            "Not contained",
-            not_contained(failure, list, supplier, service, words, whole),
-        ),
+/// What a page of a comparison is made of.
+#[derive(Clone, Copy, Debug)]
+pub struct Sheet<'a> {
+    /// The answer.
+    pub explained: &'a Explained,
+    /// The list that it is about.
+    pub list: &'a List,
+    /// The supplier's description.
+    pub supplier: &'a Input,
+    /// The service's description.
+    pub service: &'a Input,
+    /// The words of all.
+    pub names: &'a Names,
+    /// The drawing shows each group.
+    pub whole: bool,
+}
+
+/// The page of a comparison.
+///
+/// # Errors
+///
+/// A description on it is not the one that was compared.
+pub fn page(sheet: Sheet<'_>) -> Result<String, Trouble> {
+    let (title, body) = match sheet.explained {
+        Explained::Contained => ("Contained", contained(sheet)),
+        Explained::NotContained(failure) => ("Not contained", not_contained(failure, sheet)),
     };
-    let title = format!("{title}: {} in {}", supplier.title, service.title);
-    let (listed, footer) = match list.pairs.is_empty() {
+    for (id, input) in [("supplier", sheet.supplier), ("service", sheet.service)] {
+        readback::checked(&body, id, input, sheet.names)?;
+    }
+    let [supplier, service] = [sheet.supplier, sheet.service].map(|input| file_name(&input.title));
+    let title = format!("{title}: {supplier} in {service}");
+    let (listed, footer) = match sheet.list.pairs.is_empty() {
         true => (String::new(), FOOTER.into()),
         false => (
-            pairs(list, words),
+            pairs(sheet),
             FOOTER.replace("two items,", "two items, and keeps these pairs,"),
         ),
     };
-    framed(&title, &format!("{body}{listed}{footer}"))
+    let settled = settled(sheet.names);
+    Ok(framed(&title, &format!("{body}{listed}{settled}{footer}")))
+}
+
+/// The text for a page, with each word that is kept apart in an element that does so.
+fn marked(text: &str) -> String {
+    let [before, after] = APART;
+    let text = escaped(text).replace(before, "<bdi>");
+    text.replace(after, "</bdi>")
+}
+
+/// A file's name on a page.
+fn filed(title: &str) -> String {
+    format!("<bdi>{}</bdi>", escaped(&file_name(title)))
 }
 
 /// Of which records the answer speaks, where there is a list.
@@ -50,22 +81,35 @@ fn where_kept(list: &List) -> String {
         count => format!(
             " The answer is about records that keep the <a href=\"#pairs\">{}</a> of {}.",
             words::pairs(count),
-            escaped(&list.title)
+            filed(&list.title)
         ),
     }
 }
 
 /// The properties that exclude each other.
-fn pairs(list: &List, words: Words<'_>) -> String {
-    let pairs = list.pairs.iter().map(|&pair| {
-        let pair = text::pair(pair, words.names());
-        format!("<li>{}</li>\n", escaped(&pair))
+fn pairs(sheet: Sheet<'_>) -> String {
+    let pairs = sheet.list.pairs.iter().map(|&Pair(one, other)| {
+        let [one, other] = [one, other].map(|one| escaped(&text::property(one, sheet.names)));
+        format!("<li><bdi>{one}</bdi> excludes <bdi>{other}</bdi></li>\n")
     });
     format!(
         "<section class=\"card\" id=\"pairs\">\n<h2>Properties that exclude each other</h2>\n\
          <p>No item has both properties of a pair.</p>\n<ul>\n{}</ul>\n</section>\n",
         pairs.collect::<String>()
     )
+}
+
+/// The words that were sent and are not shown, since the names file has others.
+fn settled(names: &Names) -> String {
+    let lines = names.settled().iter();
+    let lines = lines.map(|told| format!("<li><bdi>{}</bdi></li>\n", escaped(&told.settled())));
+    match names.settled().is_empty() {
+        true => String::new(),
+        false => format!(
+            "<section class=\"card\" id=\"words\">\n<h2>Words that the names file settles</h2>\n<ul>\n{}</ul>\n</section>\n",
+            lines.collect::<String>()
+        ),
+    }
 }
 
 /// The page of inputs that have no answer.
@@ -102,33 +146,21 @@ fn answer(class: &str, sign: &str, says: &str, sentence: &str) -> String {
     )
 }
 
-fn contained(list: &List, supplier: &Input, service: &Input, words: Words<'_>) -> String {
+fn contained(sheet: Sheet<'_>) -> String {
     let sentence = "Every consignment that the supplier’s description allows is one that the service’s description allows.";
-    let sentence = format!("{sentence}{}", where_kept(list));
+    let sentence = format!("{sentence}{}", where_kept(sheet.list));
     let mut out = answer("yes", "✓", "Contained", &sentence);
-    out.push_str(&both(
-        supplier,
-        &Marks::default(),
-        service,
-        &Marks::default(),
-        words,
-    ));
+    out.push_str(&both(sheet, &Marks::default(), &Marks::default()));
     out
 }
 
-fn not_contained(
-    failure: &Failure,
-    list: &List,
-    supplier: &Input,
-    service: &Input,
-    words: Words<'_>,
-    whole: bool,
-) -> String {
+fn not_contained(failure: &Failure, sheet: Sheet<'_>) -> String {
+    let words = Words::apart(sheet.names);
     let sentence = "The supplier’s description allows a consignment that the service’s description does not allow.";
-    let sentence = format!("{sentence}{}", where_kept(list));
+    let sentence = format!("{sentence}{}", where_kept(sheet.list));
     let mut out = answer("no", "✕", "Not contained", &sentence);
-    out.push_str(&why(failure, supplier, service, words));
-    out.push_str(&drawn(failure, words, whole));
+    out.push_str(&why(failure, sheet.supplier, sheet.service, words));
+    out.push_str(&drawn(failure, words.plain(), sheet.whole));
     let asked = Marks {
         way: failure.owners.clone(),
         fails: Some(failure.entry),
@@ -139,7 +171,7 @@ fn not_contained(
         fails: None,
         says: failure.supplier.clone(),
     };
-    out.push_str(&both(supplier, &said, service, &asked, words));
+    out.push_str(&both(sheet, &said, &asked));
     out.push_str(&specimen::listing(failure, words));
     out
 }
@@ -164,10 +196,10 @@ fn why(failure: &Failure, supplier: &Input, service: &Input, words: Words<'_>) -
          <dt>The service asks</dt><dd>{}<small><a href=\"#service-{entry}\">its entry {entry}</a>{}, the first that fails</small></dd>\n\
          <dt>The supplier says there</dt><dd>{}{by}</dd>\n\
          <dt>The specimen shows</dt><dd>{}</dd>\n</dl>\n</section>\n",
-        escaped(&failure.asks(words)),
+        marked(&failure.asks(words)),
         line(service, entry),
-        escaped(&failure.supplier_says(words)),
-        escaped(&failure.shows(words)),
+        marked(&failure.supplier_says(words)),
+        marked(&failure.shows(words)),
     )
 }
 
@@ -182,7 +214,9 @@ fn drawn(failure: &Failure, words: Words<'_>, whole: bool) -> String {
 }
 
 /// Both descriptions, side by side where there is room.
-fn both(c: &Input, said: &Marks, d: &Input, asked: &Marks, words: Words<'_>) -> String {
+fn both(sheet: Sheet<'_>, said: &Marks, asked: &Marks) -> String {
+    let (c, d) = (sheet.supplier, sheet.service);
+    let words = Words::apart(sheet.names);
     // Short ones are kept on one sheet of paper.
     let short = c.entries.len().max(d.entries.len()) <= 40;
     format!(

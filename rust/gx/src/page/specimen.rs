@@ -1,9 +1,9 @@
 //! The specimen as a list of groups that fold.
 
 use super::folds::{parts, Part};
+use super::marked;
 use crate::explain::Failure;
 use crate::specimen::{lines, Line};
-use crate::svg::escaped;
 use crate::words::{self, Words};
 
 /// Up to so many lines all groups are open.
@@ -83,8 +83,8 @@ impl Listing<'_> {
         out.push_str(&format!(
             "<li><details class=\"run\"><summary>{} groups, {} to {}</summary><ul>\n",
             run.len(),
-            escaped(&first.items),
-            escaped(&last.items)
+            marked(&first.items),
+            marked(&last.items)
         ));
         run.iter().for_each(|&at| self.line(at, out));
         out.push_str("</ul></details></li>\n");
@@ -102,7 +102,7 @@ impl Listing<'_> {
                 " fails",
                 format!(
                     " <strong class=\"flag\">✕ {}</strong>",
-                    escaped(&self.failure.note(self.words))
+                    marked(&self.failure.note(self.words))
                 ),
             ),
             false if self.on_way(at) => (" way", String::new()),
@@ -110,8 +110,8 @@ impl Listing<'_> {
         };
         format!(
             "<span class=\"e{class}\"><span class=\"w\"><b>{}</b>{}{flag}</span></span>",
-            escaped(&line.items),
-            escaped(&line.rest)
+            marked(&line.items),
+            marked(&line.rest)
         )
     }
 }
@@ -124,6 +124,6 @@ fn more(properties: &[String]) -> String {
     format!(
         "<details class=\"run\"><summary>the {} more properties</summary><p>{}</p></details>\n",
         words::grouped(properties.len() as u32),
-        escaped(&words::listed(properties))
+        marked(&words::listed(properties))
     )
 }

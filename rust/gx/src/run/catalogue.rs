@@ -3,11 +3,13 @@
 use std::io::IsTerminal;
 use std::path::PathBuf;
 
-use super::{end_progress, said_of, show_progress, Run, Said};
-use crate::commands::{Service, Status};
-use crate::input::accepted_services;
+use super::folders::noted;
+use super::print::{end_progress, said_of, show_progress, Said};
+use super::Run;
+use crate::commands::{Contained, Service, Status};
 use crate::json::Json;
 use crate::library::MOST_SERVICES;
+use crate::names::Conflict;
 use crate::trouble::Trouble;
 
 impl Run {
@@ -22,7 +24,7 @@ impl Run {
             Ok(read) => read,
             Err(trouble) => {
                 self.print_trouble(&trouble, true);
-                return Status::Bad.code();
+                return trouble.status().code();
             }
         };
         let progress = std::io::stderr().is_terminal();
@@ -48,17 +50,13 @@ impl Run {
             }
         }
         let (sides, worst) = self.sides(given);
-        let services = Service::of_files(sides.concat());
-        match (services.is_empty(), given) {
-            // Where a folder cannot be read, that is told already.
-            (true, [folder, ..]) if worst == Status::Yes => accepted_services(folder, &[])?,
-            _ => (),
-        }
-        Ok((services, worst))
+        let files = sides.into_iter().flatten();
+        let services = files.map(|told| Service::of_file(told.path, told.name));
+        Ok((services.collect(), worst))
     }
 
-    fn service(&self, service: &Service, answer: Result<bool, Trouble>, progress: bool) -> Status {
-        let title = service.title();
+    fn service(&self, service: &Service, answer: Contained, progress: bool) -> Status {
+        let title = service.name.clone();
         let mut first = vec![("file", Json::text(&title))];
         first.extend(
             service
@@ -70,14 +68,15 @@ impl Run {
             None => title,
         };
         let said = match answer {
-            Ok(true) => said(Status::Yes, "contained"),
-            Ok(false) => said(Status::No, "not contained"),
-            Err(trouble) => said_of(&trouble, &service.title()),
+            Ok((true, notes)) => said(Status::Yes, "contained", &notes),
+            Ok((false, notes)) => said(Status::No, "not contained", &notes),
+            Err(trouble) => said_of(&trouble, &service.name),
         };
         self.print_line(&name, first, said, progress)
     }
 }
 
-fn said(status: Status, words: &str) -> Said {
-    (status, words.into(), vec![("answer", Json::text(words))])
+fn said(status: Status, words: &str, notes: &[Conflict]) -> Said {
+    let json = vec![("answer", Json::text(words))];
+    noted((status, words.into(), json), notes)
 }

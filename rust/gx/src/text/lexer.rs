@@ -1,6 +1,7 @@
 //! The signs of a text, one after the other.
 
 use super::mistake::{Mistake, Position};
+use crate::shown::turns;
 
 /// A sign of a text.
 #[derive(Clone, Debug, PartialEq, Eq)]
@@ -92,15 +93,19 @@ impl<'a> Lexer<'a> {
     }
 
     /// Passes over spaces and a remark, which goes from `//` to the end of the line.
-    fn skip_blanks(&mut self) {
+    fn skip_blanks(&mut self) -> Result<(), Mistake> {
         while self.rest.starts_with([' ', '\t', '\r']) {
             self.take();
         }
         if self.rest.starts_with("//") {
-            while self.rest.starts_with(|sign| sign != '\n') {
+            while let Some(sign) = self.rest.chars().next().filter(|&sign| sign != '\n') {
+                if turns(sign) {
+                    return Err(no_such_sign(self.at, sign));
+                }
                 self.take();
             }
         }
+        Ok(())
     }
 
     /// The next sign.
@@ -109,7 +114,7 @@ impl<'a> Lexer<'a> {
     ///
     /// A word in quotes that does not end, or a character that no text has.
     pub fn next_token(&mut self) -> Result<Token, Mistake> {
-        self.skip_blanks();
+        self.skip_blanks()?;
         let at = self.at;
         let sign = match self.rest.chars().next() {
             None => Sign::End,
@@ -157,7 +162,9 @@ impl<'a> Lexer<'a> {
                         "the end of the line",
                     ))
                 }
-                Some(sign) if sign.is_control() => return Err(no_such_sign(at, sign)),
+                Some(sign) if sign.is_control() || turns(sign) => {
+                    return Err(no_such_sign(at, sign))
+                }
                 Some(sign) => word.push(sign),
             }
             self.take();
@@ -171,7 +178,7 @@ impl<'a> Lexer<'a> {
             if sign.is_whitespace() || sign == '"' || single(sign).is_some() {
                 break;
             }
-            if sign.is_control() {
+            if sign.is_control() || turns(sign) {
                 return Err(no_such_sign(self.at, sign));
             }
             word.push(sign);
@@ -190,7 +197,12 @@ impl<'a> Lexer<'a> {
 }
 
 fn no_such_sign(at: Position, sign: char) -> Mistake {
-    let found = format!("the character U+{:04X}", u32::from(sign));
+    let turns = if turns(sign) {
+        ", which turns text around"
+    } else {
+        ""
+    };
+    let found = format!("the character U+{:04X}{turns}", u32::from(sign));
     Mistake::new(at, "letters, digits, signs and plain spaces", found)
 }
 

@@ -2,13 +2,26 @@
 
 use std::fmt;
 
+use crate::json::Json;
+use crate::shown;
+
 /// A place in a text. Lines and columns count from 1; a column is one character.
-#[derive(Clone, Copy, Debug, PartialEq, Eq, PartialOrd, Ord)]
+#[derive(Clone, Copy, Debug, Default, PartialEq, Eq, PartialOrd, Ord)]
 pub struct Position {
     /// The line.
     pub line: usize,
     /// The column.
     pub column: usize,
+}
+
+impl Position {
+    /// For programs.
+    pub fn json(self) -> [(&'static str, Json); 2] {
+        [
+            ("line", Json::number(self.line)),
+            ("column", Json::number(self.column)),
+        ]
+    }
 }
 
 /// A mistake in a text.
@@ -32,13 +45,21 @@ impl Mistake {
         }
     }
 
+    /// For programs.
+    pub fn json(&self) -> Vec<(&'static str, Json)> {
+        let mut fields = self.at.json().to_vec();
+        fields.push(("expected", Json::text(&self.expected)));
+        fields.push(("found", Json::text(&self.found)));
+        fields
+    }
+
     /// The line of the text with a sign under the column.
     pub fn shown_in(&self, text: &str) -> String {
-        let line = text.lines().nth(self.at.line - 1).unwrap_or("");
-        let line: String = line.trim_end_matches('\r').replace('\t', " ");
+        let line = text.lines().nth(self.at.line.saturating_sub(1));
+        let line = shown::line(line.unwrap_or("").trim_end_matches('\r'));
         let from = self.at.column.saturating_sub(60);
         let part: String = line.chars().skip(from).take(100).collect();
-        let gap = " ".repeat(self.at.column - 1 - from);
+        let gap = " ".repeat(self.at.column.saturating_sub(1 + from));
         format!("  {part}\n  {gap}^")
     }
 }

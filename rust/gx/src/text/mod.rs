@@ -43,4 +43,4 @@ pub use mistake::{Mistake, Position};
 pub use parse::{is_headed, parse, parse_dictionary, parse_pairs};
 pub use parse::{Parsed, ParsedDictionary, ParsedPairs, DICTIONARY, EXCLUDES, PAIRS};
 pub use write::{description, desk, desk_dictionary, desk_pairs, dictionary};
-pub use write::{entry, pair, pairs, quoted, text, Numbers};
+pub use write::{entry, pair, pairs, property, quoted, text, Numbers};

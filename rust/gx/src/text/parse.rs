@@ -1,15 +1,15 @@
 //! A text as entries.
 
 mod dictionary;
+mod names;
 mod pairs;
 
 use std::collections::BTreeMap;
 
 use super::lexer::{Lexer, Sign, Token};
 use super::mistake::{Mistake, Position};
-use super::write::quoted;
-use crate::entry::{Entry, Link, Named, Property, Sort};
-use crate::names::{Clash, Names};
+use crate::entry::{Entry, Sort};
+use crate::names::Names;
 
 pub use dictionary::{parse_dictionary, ParsedDictionary, DICTIONARY};
 pub use pairs::{parse_pairs, ParsedPairs, EXCLUDES, PAIRS};
@@ -372,157 +372,6 @@ impl<'a> Parser<'a> {
             ..Entry::default()
         })
     }
-
-    fn link(&mut self) -> Result<u16, Mistake> {
-        let number = self.numbered_name("link", "a link from 0 to 65,535, or its word")?;
-        match number {
-            Some(number) => {
-                if let Some((word, at)) = self.word_after_number()? {
-                    let learnt = self.learnt.name_link(Link(number), &word, self.names);
-                    learnt.map_err(|clash| clashing(at, "link", number, &word, clash))?;
-                }
-                Ok(number)
-            }
-            None => {
-                let (word, at) = self.name_in_words("'link' and a number, or a link's word")?;
-                let found = self.names.link_called(&word);
-                let found = found.or_else(|| self.learnt.link_called(&word));
-                found
-                    .map(|link| link.0)
-                    .ok_or_else(|| unknown(at, "link", &word))
-            }
-        }
-    }
-
-    /// A description of a dictionary by its number or its word.
-    fn named_description(&mut self) -> Result<u16, Mistake> {
-        if let Sign::Number(_) = self.next.sign {
-            let number = self.number("a description from 0 to 65,535, or its word")?;
-            self.description_word(number)?;
-            return Ok(number);
-        }
-        let (word, at) = self.name_in_words("a description's number, or its word")?;
-        let found = self.names.description_called(&word);
-        let found = found.or_else(|| self.learnt.description_called(&word));
-        let found = found.map(|named| named.0);
-        found.ok_or_else(|| unknown(at, "description", &word))
-    }
-
-    /// The word in quotes that may come after a description's number.
-    fn description_word(&mut self, number: u16) -> Result<(), Mistake> {
-        if let Some((word, at)) = self.word_after_number()? {
-            let named = Named(number);
-            let learnt = self.learnt.name_description(named, &word, self.names);
-            learnt.map_err(|clash| clashing(at, "description", number, &word, clash))?;
-        }
-        Ok(())
-    }
-
-    /// The property after `has` or `lacks`.
-    fn owned_property(&mut self) -> Result<u16, Mistake> {
-        self.take()?;
-        self.named_property()
-    }
-
-    /// A property by its number or its word.
-    fn named_property(&mut self) -> Result<u16, Mistake> {
-        let number = self.numbered_name("property", "a property from 0 to 65,535, or its word")?;
-        match number {
-            Some(number) => {
-                if let Some((word, at)) = self.word_after_number()? {
-                    let property = Property(number);
-                    let learnt = self.learnt.name_property(property, &word, self.names);
-                    learnt.map_err(|clash| clashing(at, "property", number, &word, clash))?;
-                }
-                Ok(number)
-            }
-            None => {
-                let (word, at) = self.name_in_words("'property' and a number, or its word")?;
-                let found = self.names.property_called(&word);
-                let found = found.or_else(|| self.learnt.property_called(&word));
-                let found = found.map(|property| property.0);
-                found.ok_or_else(|| unknown(at, "property", &word))
-            }
-        }
-    }
-
-    /// The number after `link` or `property`; nothing where a word comes instead.
-    fn numbered_name(&mut self, sort: &str, expected: &str) -> Result<Option<u16>, Mistake> {
-        if !self.next_is_word(sort) {
-            return Ok(None);
-        }
-        self.take()?;
-        match self.next.sign {
-            Sign::Number(_) => self.number(expected).map(Some),
-            Sign::Quoted(_) | Sign::Word(_) => Ok(None),
-            _ => self.expected(expected),
-        }
-    }
-
-    /// The word in quotes that may come after a number.
-    fn word_after_number(&mut self) -> Result<Option<(String, Position)>, Mistake> {
-        match &self.next.sign {
-            Sign::Quoted(_) => {
-                let token = self.take()?;
-                let Sign::Quoted(word) = token.sign else {
-                    return Ok(None);
-                };
-                if word.is_empty() || word.trim() != word {
-                    let expected = "a word that neither begins nor ends with a space";
-                    return Err(Mistake::new(token.at, expected, quoted(&word)));
-                }
-                Ok(Some((word, token.at)))
-            }
-            _ if self.next_stops() => Ok(None),
-            Sign::Word(_) | Sign::Number(_) => {
-                self.expected(format!("{THE_END}, or its word in quotes"))
-            }
-            _ => Ok(None),
-        }
-    }
-
-    /// A word in quotes, or words without them up to the next other sign or the word that ends a name.
-    fn name_in_words(&mut self, expected: &str) -> Result<(String, Position), Mistake> {
-        let at = self.next.at;
-        if let Sign::Quoted(word) = &self.next.sign {
-            let word = word.clone();
-            self.take()?;
-            return Ok((word, at));
-        }
-        let mut words = Vec::new();
-        if !matches!(self.next.sign, Sign::Word(_)) || self.next_stops() {
-            return self.expected(expected);
-        }
-        while let Sign::Word(word) | Sign::Number(word) = &self.next.sign {
-            words.push(word.clone());
-            self.take()?;
-            if self.next_stops() {
-                break;
-            }
-        }
-        Ok((words.join(" "), at))
-    }
-}
-
-fn unknown(at: Position, sort: &str, word: &str) -> Mistake {
-    let known = match sort {
-        "description" => "the names file, the dictionary or the text before",
-        _ => "the names file, or the text before,",
-    };
-    let expected = format!("a word that {known} gives to a {sort}");
-    Mistake::new(at, expected, quoted(word))
-}
-
-fn clashing(at: Position, sort: &str, number: u16, word: &str, clash: Clash) -> Mistake {
-    let expected = match clash {
-        Clash::OtherWord(other) => {
-            format!("{}, as {sort} {number} is called", quoted(&other))
-        }
-        Clash::OtherNumber(other) => {
-            format!("a word that is not that of {sort} {other}")
-        }
-    };
-    Mistake::new(at, expected, quoted(word))
 }
 
 /// The entries in the order of their numbers, each number once and none missing.

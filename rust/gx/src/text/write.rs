@@ -61,7 +61,7 @@ pub fn desk_pairs(pairs: &[Pair]) -> String {
 
 /// One pair as a line of text.
 pub fn pair(Pair(one, other): Pair, names: &Names) -> String {
-    let [one, other] = [one, other].map(|property| property_name(property, names));
+    let [one, other] = [one, other].map(|property| self::property(property, names));
     format!("{one} {EXCLUDES} {other}")
 }
 
@@ -186,8 +186,8 @@ fn desk_entry(e: &Entry) -> String {
 /// One entry as a line of text, without what it owns.
 pub fn entry(says: Says, names: &Names) -> String {
     match says {
-        Says::Has(property) => format!("has {}", property_name(property, names)),
-        Says::Lacks(property) => format!("lacks {}", property_name(property, names)),
+        Says::Has(property) => format!("has {}", self::property(property, names)),
+        Says::Lacks(property) => format!("lacks {}", self::property(property, names)),
         Says::AtLeast(link, n) => format!("at least {n} {}", link_name(link, names)),
         Says::AtMost(link, n) => format!("at most {n} {}", link_name(link, names)),
         Says::Every(link) => format!("every {}", link_name(link, names)),
@@ -202,7 +202,8 @@ fn link_name(link: Link, names: &Names) -> String {
     with_word("link", link.0, names.link(link))
 }
 
-fn property_name(property: Property, names: &Names) -> String {
+/// A property by its number and its word.
+pub fn property(property: Property, names: &Names) -> String {
     with_word("property", property.0, names.property(property))
 }
 

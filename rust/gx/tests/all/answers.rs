@@ -187,7 +187,15 @@ fn is_explained(c: &Input, d: &Input) {
     let names = Names::default();
     let words = Words::new(&names);
     let explained = compared(&Background::default(), c, d).unwrap();
-    let page = page::page(&explained, &List::default(), c, d, words, false);
+    let page = page::page(page::Sheet {
+        explained: &explained,
+        list: &List::default(),
+        supplier: c,
+        service: d,
+        names: &names,
+        whole: false,
+    });
+    let page = page.unwrap();
     let Explained::NotContained(failure) = &explained else {
         assert!(page.contains("</span> Contained</h1>") && !page.contains("<mark>"));
         return;

@@ -223,11 +223,9 @@ fn damaged_lists() {
 fn no_services() {
     let folder = desk("catalogue-none");
     std::fs::create_dir(folder.path().join("empty")).unwrap();
-    is(
-        &folder.gx(&["catalogue", "supplier.txt", "empty"]),
-        2,
-        "empty: refused 1: there is no service\n",
-    );
+    let ran = folder.gx(&["catalogue", "supplier.txt", "empty"]);
+    let due = "gx: empty: no input in this folder\n";
+    assert_eq!((ran.status, ran.out.len(), ran.err.as_str()), (2, 0, due));
     folder.put("nothing", "");
     let ran = folder.gx(&["catalogue", "supplier.txt", "nothing"]);
     assert!(ran

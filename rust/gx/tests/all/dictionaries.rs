@@ -86,11 +86,11 @@ fn names_in_texts() {
         ),
         ("named nothing", 1, 7, "the dictionary", "\"nothing\""),
         (
-            "named 3 \"x\"",
+            "named 5 \"x\"; named 5 \"y\"",
             1,
-            9,
-            "\"anything\", as description 3 is called",
-            "\"x\"",
+            22,
+            "\"x\", as description 5 is called (line 1)",
+            "\"y\"",
         ),
         (
             "named 4 \"anything\"",

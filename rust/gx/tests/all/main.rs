@@ -2,11 +2,13 @@
 //! looked at, that answers are the library's, and the same questions asked of OWL reasoners.
 
 mod answers;
+mod believed;
 mod catalogue;
 mod commands;
 mod dictionaries;
 mod folders;
 mod golden;
+mod lost;
 mod mistakes;
 mod owl;
 mod pairs;

@@ -98,11 +98,18 @@ const TEXTS: &[(&str, usize, usize, &str, &str)] = &[
     ("has \"dried\"", 1, 5, "gives to a property", "\"dried\""),
     ("every sealed []", 1, 7, "gives to a link", "\"sealed\""),
     (
-        "every link 1 \"core\" []",
-        1,
+        "every link 3 \"a\" []\nevery link 3 \"b\" []",
+        2,
         14,
-        "\"sample\", as link 1 is called",
-        "\"core\"",
+        "\"a\", as link 3 is called (line 1)",
+        "\"b\"",
+    ),
+    (
+        "has property 7 \"frozen\"; has property 8 \"frozen\"",
+        1,
+        41,
+        "not that of property 7 (line 1)",
+        "\"frozen\"",
     ),
     (
         "every link 2 \"sample\" []",
@@ -136,6 +143,15 @@ const TEXTS: &[(&str, usize, usize, &str, &str)] = &[
     ),
     ("has property 7\u{1}", 1, 15, "letters", "U+0001"),
     ("has\u{a0}property 7", 1, 4, "letters", "U+00A0"),
+    (
+        "has property 7 \"a\u{202e}b\"",
+        1,
+        18,
+        "letters",
+        "U+202E, which turns text around",
+    ),
+    ("1,7 // \u{2066}", 1, 8, "letters", "U+2066"),
+    ("has\u{2069} property 7", 1, 4, "letters", "U+2069"),
 ];
 
 #[test]

@@ -99,11 +99,11 @@ const MISTAKES: &[(&str, usize, usize, &str, &str)] = &[
         "\"loam\"",
     ),
     (
-        "property 7 \"loam\" excludes clay",
+        "property 7 \"loam\" excludes property 7 \"silt\"",
         1,
-        12,
-        "\"clay\", as property 7 is called",
-        "\"loam\"",
+        39,
+        "\"loam\", as property 7 is called (line 1)",
+        "\"silt\"",
     ),
     ("pairs\n[", 2, 1, "a pair", "'['"),
     (

@@ -1,0 +1,129 @@
+//! Whether the library accepts an input; a refusal in words.
+
+use std::path::Path;
+
+use super::{named, Input};
+use crate::dictionary::{self, Dictionary, Naming};
+use crate::entry::{Named, Sort};
+use crate::library;
+use crate::pairs::List;
+use crate::refused;
+use crate::trouble::Trouble;
+
+/// The input, if the library accepts it where a description may name these.
+///
+/// # Errors
+///
+/// The refusal.
+pub fn accepted(
+    path: &Path,
+    draft: Input,
+    input: u16,
+    naming: Naming<'_>,
+) -> Result<Input, Trouble> {
+    let Err(refusal) = read(&draft, naming) else {
+        return Ok(draft);
+    };
+    let place = usize::from(refusal.place);
+    let of_entry = refusal.reason.number() >= 4;
+    let at = draft.positions.get(place.wrapping_sub(1)).copied();
+    Err(Trouble::Refused {
+        file: named(path),
+        why: refused::why(refusal, draft.sort, &draft.bytes, naming),
+        shown: refused::shown(refusal, &draft.bytes, &draft.names, naming),
+        refusal: library::Refusal { input, ..refusal },
+        at: at.filter(|_| of_entry),
+    })
+}
+
+/// Asks the library whether an input is accepted: a reader, or for a description that may name others the unfolding.
+fn read(draft: &Input, naming: Naming<'_>) -> Result<(), library::Refusal> {
+    let unfolded = match (draft.sort, naming) {
+        (Sort::Specimen, _) | (_, Naming::Nothing) => {
+            return library::read(draft.sort, &draft.bytes).map(|_| ())
+        }
+        (_, Naming::Any) => library::unfold(&dictionary::any(), &draft.bytes),
+        (_, Naming::All(of) | Naming::Before(of, _)) => library::unfold(&of.bytes, &draft.bytes),
+    };
+    unfolded.map(|_| ())
+}
+
+/// The dictionary, if the library accepts it.
+///
+/// # Errors
+///
+/// The refusal.
+pub fn accepted_dictionary(path: &Path, draft: Dictionary) -> Result<Dictionary, Trouble> {
+    let Err(refusal) = library::read_dictionary(&draft.bytes) else {
+        return Ok(draft);
+    };
+    let number = Named(refusal.input.saturating_sub(100));
+    let index = usize::from(number.0).wrapping_sub(1);
+    let place = usize::from(refusal.place);
+    let of_entry = place > 0 && refusal.reason.number() >= 4;
+    let part = draft.parts.get(index);
+    let at = part.and_then(|part| match of_entry {
+        true => part.positions.get(place - 1).copied(),
+        false => part.at,
+    });
+    Err(Trouble::Refused {
+        file: named(path),
+        why: refused::why_dictionary(refusal, &draft, number),
+        shown: refused::shown_dictionary(refusal, &draft, number),
+        refusal,
+        at,
+    })
+}
+
+/// The list, if the library accepts it.
+///
+/// # Errors
+///
+/// The refusal.
+pub fn accepted_list(path: &Path, draft: List) -> Result<List, Trouble> {
+    let Err(refusal) = library::read_list(draft.under()) else {
+        return Ok(draft);
+    };
+    let place = usize::from(refusal.place);
+    Err(Trouble::Refused {
+        file: named(path),
+        why: refused::why_list(refusal, &draft),
+        shown: refused::shown_pairs(refusal, &draft),
+        refusal,
+        at: draft.positions.get(place.wrapping_sub(1)).copied(),
+    })
+}
+
+/// The list of services, if the library does not refuse it as a whole.
+///
+/// # Errors
+///
+/// The refusal.
+pub fn accepted_services(path: &Path, list: &[u8]) -> Result<(), Trouble> {
+    library::read_services(list).map_err(|refusal| Trouble::Refused {
+        file: named(path),
+        why: refused::why_services(refusal, list),
+        shown: String::new(),
+        refusal,
+        at: None,
+    })
+}
+
+/// The specimen, if it keeps the list.
+///
+/// # Errors
+///
+/// The refusal.
+pub fn keeping(path: &Path, specimen: Input, list: &List) -> Result<Input, Trouble> {
+    let Err(refusal) = library::keeps(list.under(), &specimen.bytes) else {
+        return Ok(specimen);
+    };
+    let place = usize::from(refusal.place);
+    Err(Trouble::Refused {
+        file: named(path),
+        why: refused::why_not_kept(place, &specimen.entries, list, &specimen.names),
+        shown: refused::shown(refusal, &specimen.bytes, &specimen.names, Naming::Nothing),
+        refusal,
+        at: specimen.positions.get(place.wrapping_sub(1)).copied(),
+    })
+}

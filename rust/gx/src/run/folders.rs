@@ -1,0 +1,172 @@
+//! Many inputs: a line for each.
+
+use std::io::IsTerminal;
+use std::path::{Path, PathBuf};
+
+use super::print::{complain, end_progress, printed, said_of, show_progress, Fields, Said};
+use super::store::store_in;
+use super::{Run, USAGE};
+use crate::commands::Status;
+use crate::input::{files_of, named, title};
+use crate::json::Json;
+use crate::names::{settled_json, Conflict};
+use crate::shown::file_name;
+use crate::trouble::Trouble;
+
+/// A file with the name that its line has: in a folder the way from there, else the name without folders.
+#[derive(Clone, Debug)]
+pub(super) struct Told {
+    pub(super) path: PathBuf,
+    pub(super) name: String,
+}
+
+/// What is answered on a line.
+pub(super) struct Job {
+    pub(super) files: Vec<PathBuf>,
+    pub(super) name: String,
+}
+
+impl Run {
+    /// A line for each input, or for each pair of inputs; the worst status.
+    pub(super) fn lines(&self, files: &[PathBuf]) -> u8 {
+        let (sides, mut worst) = self.sides(files);
+        let jobs = self.jobs(&sides, files);
+        if let Some(wrong) = self
+            .written_twice(&jobs)
+            .or_else(|| self.overwritten(&jobs))
+        {
+            complain(&format!("gx: {wrong}\n"));
+            return USAGE;
+        }
+        let progress = std::io::stderr().is_terminal();
+        for (at, job) in jobs.iter().enumerate() {
+            show_progress(progress, at + 1, jobs.len());
+            worst = worst.max(self.line(job, progress));
+        }
+        end_progress(progress);
+        worst.code()
+    }
+
+    /// What is to be answered. The name on a line is that of the file, and of a pair those that come from folders.
+    fn jobs(&self, sides: &[Vec<Told>], given: &[PathBuf]) -> Vec<Job> {
+        if !self.command.takes_pair() {
+            let all = sides.iter().flatten();
+            let job = |told: &Told| Job {
+                files: vec![told.path.clone()],
+                name: told.name.clone(),
+            };
+            return all.map(job).collect();
+        }
+        let ([c, d], [from_c, from_d]) = (sides, given) else {
+            return Vec::new();
+        };
+        let job = |c: &Told, d: &Told| Job {
+            files: vec![c.path.clone(), d.path.clone()],
+            name: match (from_c.is_dir(), from_d.is_dir()) {
+                (true, false) => c.name.clone(),
+                (false, true) => d.name.clone(),
+                _ => format!("{} and {}", c.name, d.name),
+            },
+        };
+        let with = |one| d.iter().map(move |other| job(one, other));
+        c.iter().flat_map(with).collect()
+    }
+
+    /// The files that each argument names. A folder that cannot be read, or has no input, is told, and makes the status a bad one;
+    /// a folder in it that is passed over is told.
+    pub(super) fn sides(&self, files: &[PathBuf]) -> (Vec<Vec<Told>>, Status) {
+        let mut worst = Status::Yes;
+        let mut sides = Vec::new();
+        for file in files {
+            match self.side(file) {
+                Ok(side) => sides.push(side),
+                Err(trouble) => {
+                    match self.options().json {
+                        true => drop(self.print_trouble(&trouble, true)),
+                        false => complain(&format!("gx: {}", trouble.lines())),
+                    }
+                    worst = worst.max(trouble.status());
+                }
+            }
+        }
+        (sides, worst)
+    }
+
+    /// The files that an argument names.
+    fn side(&self, file: &Path) -> Result<Vec<Told>, Trouble> {
+        if !file.is_dir() {
+            return Ok(vec![Told {
+                path: file.into(),
+                name: title(file),
+            }]);
+        }
+        let listed = files_of(file, self.options().recursive)?;
+        if listed.files.is_empty() {
+            return Err(Trouble::Empty {
+                file: named(file),
+                passed: listed.passed(),
+            });
+        }
+        for folder in &listed.folders {
+            let folder = file_name(&named(folder));
+            complain(&format!(
+                "gx: {folder}: a folder, which is passed over; --recursive takes its files too\n"
+            ));
+        }
+        let told = |path: PathBuf| Told {
+            name: path
+                .strip_prefix(file)
+                .map_or_else(|_| title(&path), |way| way.to_string_lossy().into_owned()),
+            path,
+        };
+        Ok(listed.files.into_iter().map(told).collect())
+    }
+
+    fn line(&self, job: &Job, progress: bool) -> Status {
+        let name = &job.name;
+        let paths: Vec<&Path> = job.files.iter().map(PathBuf::as_path).collect();
+        let answer = self.context.answer(self.command, &paths);
+        let answer = answer.and_then(|answer| {
+            self.store_extras(&answer, Some(name))?;
+            if let Some(out) = &self.options().out {
+                store_in(&out.join(format!("{name}.{}", answer.ending)), &answer.full)?;
+            }
+            Ok(answer)
+        });
+        let said = match answer {
+            Ok(answer) => noted((answer.status, answer.line, answer.json), &answer.notes),
+            Err(trouble) => {
+                self.store_refused(&trouble, Some(name));
+                said_of(&trouble, name)
+            }
+        };
+        let first = vec![("file", Json::text(name))];
+        self.print_line(name, first, said, progress)
+    }
+
+    /// Prints what is said of one of many: on a line after its name, or for programs after these fields.
+    pub(super) fn print_line(
+        &self,
+        name: &str,
+        first: Fields,
+        (status, line, json): Said,
+        progress: bool,
+    ) -> Status {
+        let shown = match self.options().json {
+            true => format!("{}\n", Json::Object(first).with(json)),
+            false => format!("{}: {line}\n", file_name(name)),
+        };
+        end_progress(progress && std::io::stdout().is_terminal());
+        printed(shown.as_bytes(), status)
+    }
+}
+
+/// What is said, with the words that the names file settles.
+pub(super) fn noted((status, mut line, mut json): Said, notes: &[Conflict]) -> Said {
+    if !notes.is_empty() {
+        let told: Vec<String> = notes.iter().map(Conflict::settled).collect();
+        line = format!("{line} ({})", told.join("; "));
+        json.push(("settled", settled_json(notes)));
+    }
+    (status, line, json)
+}

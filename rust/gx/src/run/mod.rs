@@ -1,0 +1,240 @@
+//! One run of the program: the inputs of the command line, one by one, and what is printed of each answer.
+
+mod catalogue;
+mod folders;
+mod outputs;
+mod print;
+mod store;
+
+use std::ffi::OsString;
+use std::io::IsTerminal;
+use std::path::{Path, PathBuf};
+
+use crate::args::{self, Args, Command, Options, To};
+use crate::commands::{Answer, Context, Extra, Status};
+use crate::help;
+use crate::input::{bytes_of, names_of, title, Reading};
+use crate::json::Json;
+use crate::names::settled_json;
+use crate::page;
+use crate::trouble::Trouble;
+use print::{complain, print, printed};
+use store::{store, store_in};
+
+/// The exit status for wrong usage.
+const USAGE: u8 = 64;
+
+/// Does what the command line says, and returns the exit status.
+pub fn run(args: &[OsString]) -> u8 {
+    match args::read(args) {
+        Ok(Args::Help(command)) => {
+            let help = command.map_or(help::all(), help::of);
+            printed(help.as_bytes(), Status::Yes).code()
+        }
+        Ok(Args::Version) => {
+            let version = concat!("gx ", env!("CARGO_PKG_VERSION"), "\n");
+            printed(version.as_bytes(), Status::Yes).code()
+        }
+        Ok(Args::Do(command, files, options)) => done(command, &files, *options),
+        Err(wrong) => {
+            complain(&format!("gx: {wrong}\n\n{}", help::usage()));
+            USAGE
+        }
+    }
+}
+
+fn done(command: Command, files: &[PathBuf], options: Options) -> u8 {
+    let mut run = Run {
+        command,
+        context: Context {
+            reading: Reading {
+                form: options.from,
+                ..Reading::default()
+            },
+            options,
+            background: Default::default(),
+        },
+        alike: matches!(files, [one, other] if title(one) == title(other)),
+    };
+    if let Some(wrong) = run.wrong_outputs(files) {
+        complain(&format!("gx: {wrong}\n"));
+        return USAGE;
+    }
+    if let Err(trouble) = run.read_names() {
+        complain(&format!("gx: {}", trouble.lines()));
+        return trouble.status().code();
+    }
+    let folders = files.iter().any(|file| file.is_dir());
+    let many = folders || (!command.takes_pair() && files.len() > 1);
+    if let Err(trouble) = run.read_background() {
+        run.print_trouble(&trouble, many);
+        return trouble.status().code();
+    }
+    if command == Command::Catalogue {
+        return run.catalogue(files);
+    }
+    if many {
+        return run.lines(files);
+    }
+    let blocks = command == Command::Write || run.options().to == Some(To::Blocks);
+    if blocks && run.to_terminal() {
+        complain("gx: blocks are not for a terminal; --out FILE writes them into a file\n");
+        return USAGE;
+    }
+    let files: Vec<&Path> = files.iter().map(PathBuf::as_path).collect();
+    run.one(&files).code()
+}
+
+struct Run {
+    command: Command,
+    context: Context,
+    /// Two inputs have the same name, and only their folders tell them apart. Else no folder is printed as a part of an answer.
+    alike: bool,
+}
+
+impl Run {
+    fn options(&self) -> &Options {
+        &self.context.options
+    }
+
+    fn to_terminal(&self) -> bool {
+        let options = self.options();
+        options.out.is_none() && !options.json && std::io::stdout().is_terminal()
+    }
+
+    fn read_names(&mut self) -> Result<(), Trouble> {
+        if let Some(path) = &self.context.options.names {
+            self.context.reading.names = names_of(path)?;
+        }
+        Ok(())
+    }
+
+    /// Reads the list and the dictionary that all answers are about, if they are given. The words that a dictionary gives its
+    /// descriptions are known in every input.
+    fn read_background(&mut self) -> Result<(), Trouble> {
+        let Context {
+            options,
+            reading,
+            background,
+        } = &mut self.context;
+        if let Some(path) = &options.pairs {
+            background.list = reading.list_of(path, bytes_of(path)?)?;
+        }
+        if let Some(path) = &options.dictionary {
+            background.dictionary = reading.dictionary_of(path, bytes_of(path)?)?;
+            let words = &background.dictionary.names;
+            let joined = reading.names.join_descriptions(words);
+            joined.map_err(Trouble::Words)?;
+        }
+        for words in [&background.list.names, &background.dictionary.names] {
+            background.names.join(words).map_err(Trouble::Words)?;
+        }
+        Ok(())
+    }
+
+    /// One answer, in full.
+    fn one(&self, files: &[&Path]) -> Status {
+        let answer = self.context.answer(self.command, files);
+        let answer = answer.and_then(|answer| {
+            self.store_extras(&answer, None)?;
+            Ok(answer)
+        });
+        match answer {
+            Ok(answer) => self.print_one(answer),
+            Err(trouble) => {
+                self.print_trouble(&trouble, false);
+                trouble.status()
+            }
+        }
+    }
+
+    fn print_one(&self, answer: Answer) -> Status {
+        if let Some(out) = &self.options().out {
+            if let Err(trouble) = store(out, &answer.full) {
+                self.print_trouble(&trouble, false);
+                return trouble.status();
+            }
+        }
+        if self.options().json {
+            let mut fields = answer.json;
+            if !answer.notes.is_empty() {
+                fields.push(("settled", settled_json(&answer.notes)));
+            }
+            let line = format!("{}\n", Json::Object(fields));
+            return printed(line.as_bytes(), answer.status);
+        }
+        let notes = answer.notes.iter();
+        let notes: String = notes.map(|told| told.settled() + "\n").collect();
+        let mut full = answer.full;
+        match (self.command.answers(), notes.is_empty()) {
+            (_, true) => (),
+            (true, false) => full.extend(format!("\n{notes}").bytes()),
+            // What is printed is data.
+            (false, false) => complain(&format!("gx: {notes}")),
+        }
+        match self.options().out {
+            Some(_) => answer.status,
+            None => printed(&full, answer.status),
+        }
+    }
+
+    /// What keeps one input from an answer, or all of many.
+    fn print_trouble(&self, trouble: &Trouble, many: bool) {
+        if !many {
+            self.store_refused(trouble, None);
+        }
+        let told = matches!(
+            trouble,
+            Trouble::Mistake { .. } | Trouble::Words(_) | Trouble::Refused { .. }
+        );
+        if self.options().json {
+            print(format!("{}\n", Json::Object(trouble.json())).as_bytes());
+        } else if self.command.answers() && told {
+            let lines = match self.alike {
+                true => trouble.lines(),
+                false => trouble.titled_lines(),
+            };
+            print(lines.as_bytes());
+        } else {
+            complain(&format!("gx: {}", trouble.lines()));
+        }
+    }
+
+    /// Writes the drawing, the page and the specimen; into folders where there are several answers.
+    fn store_extras(&self, answer: &Answer, name: Option<&str>) -> Result<(), Trouble> {
+        for (extra, bytes) in &answer.extras {
+            let (path, ending) = match extra {
+                Extra::Html => (&self.options().html, "html"),
+                Extra::Svg => (&self.options().svg, "svg"),
+                Extra::Specimen => (&self.options().specimen, "blocks"),
+            };
+            match (path, name) {
+                (Some(path), None) => store(path, bytes)?,
+                (Some(folder), Some(name)) => {
+                    store_in(&folder.join(format!("{name}.{ending}")), bytes)?;
+                }
+                (None, _) => (),
+            }
+        }
+        Ok(())
+    }
+
+    /// Writes a page that says why there is no answer, so that no older page is taken for one.
+    fn store_refused(&self, trouble: &Trouble, name: Option<&str>) {
+        let Some(path) = &self.options().html else {
+            return;
+        };
+        if matches!(trouble, Trouble::Unwritten { .. }) {
+            // The page may be what could not be written.
+            return;
+        }
+        let page = page::refused(trouble);
+        let stored = match name {
+            None => store(path, page.as_bytes()),
+            Some(name) => store_in(&path.join(format!("{name}.html")), page.as_bytes()),
+        };
+        if let Err(trouble) = stored {
+            complain(&format!("gx: {}", trouble.lines()));
+        }
+    }
+}

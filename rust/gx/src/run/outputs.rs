@@ -1,0 +1,111 @@
+//! Whether what is to be written would replace something that is not to be lost.
+
+use std::collections::{BTreeMap, BTreeSet};
+use std::path::{Path, PathBuf};
+
+use super::folders::Job;
+use super::store::{identity, Identity};
+use super::Run;
+use crate::input::named;
+use crate::shown::file_name;
+
+impl Run {
+    /// The places where something is to be written, with their options.
+    fn outputs(&self) -> Vec<(&'static str, &PathBuf)> {
+        let options = self.options();
+        let all = [
+            ("--out", &options.out),
+            ("--html", &options.html),
+            ("--svg", &options.svg),
+            ("--specimen", &options.specimen),
+        ];
+        let given = all.into_iter();
+        given
+            .filter_map(|(option, path)| Some((option, path.as_ref()?)))
+            .collect()
+    }
+
+    /// The files that are read, as they are named.
+    fn read<'a>(&'a self, files: &'a [PathBuf]) -> impl Iterator<Item = &'a PathBuf> {
+        let options = &self.context.options;
+        let beside = [&options.names, &options.pairs, &options.dictionary];
+        files.iter().chain(beside.into_iter().flatten())
+    }
+
+    /// What is wrong with the outputs of one answer: one is a file that is read, or two are one file.
+    pub(super) fn wrong_outputs(&self, files: &[PathBuf]) -> Option<String> {
+        let read: BTreeMap<Identity, &PathBuf> = self
+            .read(files)
+            .filter_map(|file| Some((identity(file)?, file)))
+            .collect();
+        let outputs = self.outputs();
+        for (option, path) in &outputs {
+            if let Some(input) = identity(path).and_then(|of| read.get(&of)) {
+                return Some(replaced(option, path, input));
+            }
+        }
+        let same = |(one, path): &(&'static str, &PathBuf)| {
+            let other = outputs
+                .iter()
+                .find(|(other, there)| other != one && there == path);
+            other.map(|(other, _)| (*one, *other, file_name(&named(path))))
+        };
+        let folders = files.iter().any(|file| file.is_dir()) || files.len() > 2;
+        let (one, other, file) = outputs.iter().find_map(same).filter(|_| !folders)?;
+        Some(format!("{one} and {other} would both write {file}"))
+    }
+
+    /// A name that two answers have, where answers are written into files called by their names.
+    pub(super) fn written_twice(&self, jobs: &[Job]) -> Option<String> {
+        self.outputs().first()?;
+        let mut names = BTreeSet::new();
+        let twice = jobs.iter().find(|job| !names.insert(&job.name))?;
+        let name = file_name(&twice.name);
+        Some(format!(
+            "two inputs are called {name}, and would be written into one file"
+        ))
+    }
+
+    /// An input that an answer would be written over, where answers are written into folders.
+    pub(super) fn overwritten(&self, jobs: &[Job]) -> Option<String> {
+        let outputs = self.outputs();
+        if outputs.is_empty() {
+            return None;
+        }
+        let files = jobs.iter().flat_map(|job| &job.files);
+        let beside = self.read(&[]).cloned().collect::<Vec<PathBuf>>();
+        let read: BTreeMap<Identity, &PathBuf> = files
+            .chain(&beside)
+            .filter_map(|file| Some((identity(file)?, file)))
+            .collect();
+        for (option, folder) in outputs {
+            for job in jobs {
+                for ending in endings(option) {
+                    let path = folder.join(format!("{}.{ending}", job.name));
+                    if let Some(input) = identity(&path).and_then(|of| read.get(&of)) {
+                        return Some(replaced(option, &path, input));
+                    }
+                }
+            }
+        }
+        None
+    }
+}
+
+fn replaced(option: &str, path: &Path, input: &Path) -> String {
+    let (path, input) = (file_name(&named(path)), file_name(&named(input)));
+    match path == input {
+        true => format!("{option} would replace {path}, which is read"),
+        false => format!("{option} would replace {path}, which is {input} and is read"),
+    }
+}
+
+/// How the files may end that an option writes into a folder.
+fn endings(option: &str) -> &'static [&'static str] {
+    match option {
+        "--out" => &["txt", "blocks", "pairs", "dictionary", "ofn"],
+        "--html" => &["html"],
+        "--svg" => &["svg"],
+        _ => &["blocks"],
+    }
+}
