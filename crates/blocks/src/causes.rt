@@ -6,7 +6,7 @@ use crate::{Cause, Refusal};
 use std::fmt;
 
 impl Cause {
-    // Its number in the table. Arm by arm, since there is no 10: discriminants would say it less plainly than this does.
+    // Its number in the table. Arm by arm, as a reader compares it with the table.
     pub fn number(self) -> u8
         ensures { result ≡ number_of self }
     {
@@ -20,10 +20,17 @@ impl Cause {
             Cause::Room => 7,
             Cause::Count => 8,
             Cause::Double => 9,
+            Cause::Item => 10,
             Cause::Pairs => 11,
             Cause::Clash => 12,
             Cause::Name => 13,
             Cause::Size => 14,
+            Cause::Walking => 15,
+            Cause::Full => 16,
+            Cause::Empty => 17,
+            Cause::Stand => 18,
+            Cause::Profile => 19,
+            Cause::Desk => 20,
         }
     }
 }

@@ -46,7 +46,7 @@ pub enum Schema {
     Named(u16),
 }
 
-// Why an input is refused: the table of refusals, whose numbers `number` gives. There is no 10.
+// Why a call is refused: the table of refusals, whose numbers `number` gives.
 #[derive(Clone, Copy, Debug, PartialEq, Eq)]
 pub enum Cause {
     // The input's length.
@@ -67,6 +67,8 @@ pub enum Cause {
     Count,
     // A second item by a link that leads to one item only.
     Double,
+    // The number of an item of a record, or how many items it has.
+    Item,
     // The list of pairs.
     Pairs,
     // An item that has both properties of a pair.
@@ -75,6 +77,18 @@ pub enum Cause {
     Name,
     // A description that is too large once it is unfolded.
     Size,
+    // A stored entry that stands where no 'every' owns it.
+    Walking,
+    // An entry more than a desk holds.
+    Full,
+    // No entry to take off a desk.
+    Empty,
+    // The number of a desk's stand.
+    Stand,
+    // An entry outside the field-sheet profile.
+    Profile,
+    // A desk that its calls do not give, or too little memory for it.
+    Desk,
 }
 
 // A refusal: why, of which input, and at which place of it, a block or an entry counted from 1, or 0.

@@ -42,7 +42,7 @@ use Rattle.normal.specs.Answer as normal
 use Rattle.pairs.specs.Pairs.{pair_count, pair_faults, pairs_reading, under}
 use Rattle.unfolding.proofs.BufferLaws.{sent-itself}
 use Rattle.blocks.specs.declared.Cause.{Cause}
-use Rattle.blocks.specs.declared.Cause.TheVariants.{Length, Check, Framing, Form, Owner, Depth, Room, Count, Double, Pairs, Clash, Name, Size}
+use Rattle.blocks.specs.declared.Cause.TheVariants.{Length, Check, Framing, Form, Owner, Depth, Room, Count, Double, Item, Pairs, Clash, Name, Size, Walking, Full, Empty, Stand, Profile, Desk}
 
 -- ---- what `map_err` gives
 
@@ -67,10 +67,17 @@ form-number Depth e = absurd (omega arith)
 form-number Room e = absurd (omega arith)
 form-number Count e = absurd (omega arith)
 form-number Double e = absurd (omega arith)
+form-number Item e = absurd (omega arith)
 form-number Pairs e = absurd (omega arith)
 form-number Clash e = absurd (omega arith)
 form-number Name e = absurd (omega arith)
 form-number Size e = absurd (omega arith)
+form-number Walking e = absurd (omega arith)
+form-number Full e = absurd (omega arith)
+form-number Empty e = absurd (omega arith)
+form-number Stand e = absurd (omega arith)
+form-number Profile e = absurd (omega arith)
+form-number Desk e = absurd (omega arith)
 
 pub number-else : (e : Entry) {k : Cause} → number_of k ≢ 4 → k ≡ cause_at e k
 unfolding cause_at

@@ -42,17 +42,17 @@ pub enum Reason {
     Name = 13,
     /// 14: a description, in the dictionary or not, has more than 1,008 entries or a depth over 32 once it is unfolded.
     Unfolded = 14,
-    /// 15: an entry of the shorter stored form does not follow an 'every' that can own it.
+    /// 15: the nearest earlier entry of lesser depth of a stored entry is no 'every' one less deep, or there is none.
     Order = 15,
-    /// 16: an entry is added to a desk that holds 1,008.
+    /// 16: an entry is added to a desk that holds 1,008 entries.
     DeskFull = 16,
     /// 17: an entry is taken off a desk that holds none.
     DeskEmpty = 17,
-    /// 18: a stand's number is 0 or unknown, or it would be the fifth.
+    /// 18: a stand's number is 0 or not known, or it would be the fifth.
     Stand = 18,
     /// 19: an entry is outside the field-sheet profile.
     Sheet = 19,
-    /// 20: a desk is one that no list of calls gives, or its memory is too short.
+    /// 20: a desk is one that no list of calls gives, or its memory is below its fixed size.
     Desk = 20,
 }
 

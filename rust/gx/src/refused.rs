@@ -43,8 +43,29 @@ pub fn why(refusal: Refusal, sort: Sort, bytes: &[u8], naming: Naming<'_>) -> St
             };
             format!("entry {place}: {fault}")
         }
+        _ => rule(refusal),
+    }
+}
+
+/// The rule that is broken, in words, where nothing is looked up.
+fn rule(refusal: Refusal) -> String {
+    let place = refusal.place;
+    match refusal.reason {
         Reason::Output => "the output is too short".into(),
-        // No reader gives another.
+        Reason::Item if place == 0 => "a record has 1 to 256 items".into(),
+        Reason::Item => format!("entry {place}: it names an item that the record does not have"),
+        Reason::Order => {
+            format!("entry {place}: no 'every' one less deep stands before it to own it")
+        }
+        Reason::DeskFull => format!(
+            "the desk holds {} entries, and takes no more",
+            grouped(MOST_ENTRIES as u32)
+        ),
+        Reason::DeskEmpty => "the desk holds no entry that could be taken off".into(),
+        Reason::Stand => "the number is that of no stand, or it would be the fifth".into(),
+        Reason::Sheet => format!("entry {place}: it is outside the field-sheet profile"),
+        Reason::Desk => "no list of calls gives this desk, or its memory is too short".into(),
+        // The others have words of their own.
         _ => refusal.to_string(),
     }
 }
@@ -364,8 +385,8 @@ const MOST_ENTRIES: usize = 1008;
 pub fn shown(refusal: Refusal, bytes: &[u8], names: &Names, naming: Naming<'_>) -> String {
     let place = usize::from(refusal.place);
     match refusal.reason {
-        Reason::Length | Reason::Output => String::new(),
         Reason::Unfolded => shown_named(&blocks::decode(bytes), names, naming),
+        _ if place == 0 => String::new(),
         Reason::Check | Reason::Frame => shown_blocks(bytes, place),
         _ => shown_entries(bytes, place, names),
     }
