@@ -140,6 +140,7 @@ impl Command {
                 "--html",
                 "--specimen",
                 "--whole",
+                "--all",
             ],
             Command::Owl => &[
                 "--names",
@@ -230,6 +231,8 @@ pub struct Options {
     pub whole: bool,
     /// The class that is read from OWL.
     pub class: Option<String>,
+    /// All entries that fail are told.
+    pub all: bool,
     /// Folders stand for the files in their folders too.
     pub recursive: bool,
 }
@@ -354,6 +357,7 @@ impl<'a> Line<'a> {
             "--json" => Some(&mut self.options.json),
             "--numbers" => Some(&mut self.options.numbers),
             "--whole" => Some(&mut self.options.whole),
+            "--all" => Some(&mut self.options.all),
             "--recursive" => Some(&mut self.options.recursive),
             _ => None,
         };

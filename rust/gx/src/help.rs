@@ -139,7 +139,8 @@ const COMPARE: &str = "\
 Answers whether every item that fits the supplier's description fits the service's. For a no it names the first entry that fails,
 where it stands, what the supplier's description says there, and shows a specimen that fits the first and not the second. With
 --pairs the answer is about the records that keep the list, and so is the specimen. Named entries are unfolded: what is told and
-shown, and the numbers of entries, are those of the plain descriptions.
+shown, and the numbers of entries, are those of the plain descriptions. --all tells each entry that fails: one holds exactly where
+the supplier's description is contained in it with its owners alone, and the library is asked so of each.
 ";
 
 const CATALOGUE: &str = "\
@@ -175,6 +176,7 @@ fn option_help(command: Command, option: &str) -> &'static str {
         ("--html", _) => "  --html FILE         write a page with the answer, both descriptions and the drawing; for folders, into this folder\n",
         ("--specimen", _) => "  --specimen FILE     write the specimen's blocks, where there is one; for folders, into this folder\n",
         ("--whole", _) => "  --whole             draw each group of a large specimen\n",
+        ("--all", _) => "  --all               tell all entries that fail, not only the first\n",
         ("--class", _) => "  --class NAME        the class whose definition is read, where there are several\n",
         _ => "",
     }

@@ -49,6 +49,18 @@ pub fn owners(entries: &[Entry], number: usize) -> Vec<usize> {
     chain
 }
 
+/// An entry with its owners, and nothing else: the description that an item fits exactly if it meets the entry.
+pub fn alone(entries: &[Entry], entry: usize) -> Vec<Entry> {
+    let chain = owners(entries, entry).into_iter().chain([entry]);
+    let numbered = (0..).zip(chain);
+    numbered
+        .map(|(owner, number)| Entry {
+            owner,
+            ..entries[number - 1]
+        })
+        .collect()
+}
+
 /// The links from the top to the place where an entry stands.
 pub fn way(entries: &[Entry], number: usize) -> Vec<Link> {
     let owners = owners(entries, number);

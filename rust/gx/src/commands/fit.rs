@@ -5,12 +5,12 @@ use std::path::Path;
 use super::{words_of, Answer, Context, Status};
 use crate::blocks::encode;
 use crate::dictionary::Naming;
-use crate::entry::{Entry, Sort};
+use crate::entry::Sort;
 use crate::input::{keeping, not_refused, Input};
 use crate::json::Json;
 use crate::library::{self, Refusal, Under};
 use crate::names::Names;
-use crate::tree::{owners, way};
+use crate::tree::{alone, way};
 use crate::trouble::Trouble;
 use crate::whereabouts;
 use crate::words::Words;
@@ -85,16 +85,4 @@ fn first_unmet(
         }
     }
     Ok(None)
-}
-
-/// An entry with its owners, and nothing else.
-fn alone(entries: &[Entry], entry: usize) -> Vec<Entry> {
-    let chain = owners(entries, entry).into_iter().chain([entry]);
-    let numbered = (0..).zip(chain);
-    numbered
-        .map(|(owner, number)| Entry {
-            owner,
-            ..entries[number - 1]
-        })
-        .collect()
 }

@@ -18,13 +18,18 @@ pub(super) struct Marks {
     pub(super) way: Vec<usize>,
     /// The entry that fails.
     pub(super) fails: Option<usize>,
+    /// The other entries that fail, where they are asked for.
+    pub(super) too: Vec<usize>,
     /// The entries that say something of the same.
     pub(super) says: Vec<usize>,
 }
 
 impl Marks {
     fn any(&self, entry: usize) -> bool {
-        self.fails == Some(entry) || self.way.contains(&entry) || self.says.contains(&entry)
+        self.fails == Some(entry)
+            || self.too.contains(&entry)
+            || self.way.contains(&entry)
+            || self.says.contains(&entry)
     }
 }
 
@@ -144,6 +149,9 @@ impl Listing<'_> {
                 " says",
                 " <strong class=\"flag here\">is said there</strong>",
             ),
+            _ if self.marks.too.contains(&entry) => {
+                (" too", " <strong class=\"flag\">✕ fails too</strong>")
+            }
             _ if self.marks.way.contains(&entry) => (" way", ""),
             _ => ("", ""),
         };

@@ -1,11 +1,14 @@
 //! The page for the two desks: the answer, why, both descriptions side by side, and the specimen drawn. It is one file, loads
 //! nothing, and needs no script.
 
+mod all;
 mod description;
 mod folds;
 mod readback;
 mod specimen;
 mod style;
+
+use std::collections::BTreeSet;
 
 use crate::explain::{Explained, Failure};
 use crate::input::Input;
@@ -34,6 +37,8 @@ pub struct Sheet<'a> {
     pub names: &'a Names,
     /// The drawing shows each group.
     pub whole: bool,
+    /// All entries that fail, where they are asked for.
+    pub all: Option<&'a [Failure]>,
 }
 
 /// The page of a comparison.
@@ -160,16 +165,21 @@ fn not_contained(failure: &Failure, sheet: Sheet<'_>) -> String {
     let sentence = format!("{sentence}{}", where_kept(sheet.list));
     let mut out = answer("no", "✕", "Not contained", &sentence);
     out.push_str(&why(failure, sheet.supplier, sheet.service, words));
+    out.push_str(&all::section(sheet, words));
     out.push_str(&drawn(failure, words.plain(), sheet.whole));
+    let all = sheet.all.unwrap_or_default().iter();
+    let owners = all.clone().flat_map(|other| &other.owners);
+    let way: BTreeSet<usize> = owners.chain(&failure.owners).copied().collect();
     let asked = Marks {
-        way: failure.owners.clone(),
+        way: way.into_iter().collect(),
         fails: Some(failure.entry),
-        says: Vec::new(),
+        too: all.map(|other| other.entry).collect(),
+        ..Marks::default()
     };
     let said = Marks {
         way: failure.supplier_owners.clone(),
-        fails: None,
         says: failure.supplier.clone(),
+        ..Marks::default()
     };
     out.push_str(&both(sheet, &said, &asked));
     out.push_str(&specimen::listing(failure, words));

@@ -45,6 +45,12 @@ summary:focus-visible{outline:3px solid var(--way)}
 .says{background:var(--way-back);outline:2px dashed var(--way);outline-offset:-1px;margin:.15rem 0}
 .fails{background:var(--no-back);outline:3px solid var(--no);outline-offset:-1px;margin:.2rem 0}
 .fails mark{background:none;color:inherit;font-weight:700}
+.too{background:var(--no-back);outline:1px solid var(--no);outline-offset:-1px;margin:.15rem 0}
+table{border-collapse:collapse;width:100%;margin-top:.6rem}
+th{text-align:left;color:var(--soft);font-weight:400}
+th,td{padding:.3rem .8rem .3rem 0;border-bottom:1px solid var(--rule);vertical-align:baseline;overflow-wrap:anywhere}
+td small{display:block;color:var(--soft);white-space:nowrap}
+td:first-child{font-variant-numeric:tabular-nums}
 .flag{display:inline-block;margin-left:.35rem;font-size:.85rem;font-weight:700;padding:0 .5rem;border-radius:.2rem;background:var(--no);color:#fff}
 .flag.here{background:var(--way)}
 .run>summary{color:var(--soft);padding:.15rem .4rem}

@@ -194,6 +194,7 @@ fn is_explained(c: &Input, d: &Input) {
         service: d,
         names: &names,
         whole: false,
+        all: None,
     });
     let page = page.unwrap();
     let Explained::NotContained(failure) = &explained else {

@@ -420,6 +420,7 @@ fn what_a_page_shows_is_read_back() {
         service: &input,
         names: &plain,
         whole: false,
+        all: None,
     };
     assert!(page::page(sheet).is_ok());
     let names = &input.names;

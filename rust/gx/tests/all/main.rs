@@ -1,6 +1,7 @@
 //! The tests of `gx`: texts both ways, each command on good, damaged, empty and huge inputs, pages and drawings as they were
 //! looked at, that answers are the library's, and the same questions asked of OWL reasoners.
 
+mod all_failing;
 mod answers;
 mod believed;
 mod catalogue;

@@ -1,5 +1,7 @@
 //! The comparison, with its answer explained.
 
+mod all;
+
 use std::path::Path;
 
 use super::{entries_json, words_of, Answer, Context, Extra, Status};
@@ -24,11 +26,19 @@ pub(super) fn compare(context: &Context, c: &Path, d: &Path) -> Result<Answer, T
     let list = &context.background.list;
     let explained = compared(&context.background, &supplier, &service);
     let explained = explained.map_err(|refusal| not_refused(d, refusal))?;
+    let all = match context.options.all {
+        true => Some(all::failing(context, &explained, (&supplier, &service), d)?),
+        false => None,
+    };
     let mut answer = match &explained {
         Explained::Contained => contained(list),
         Explained::NotContained(failure) => not_contained(failure, &supplier, &service, &names),
     };
-    answer.extras = extras(context, &explained, &supplier, &service, &names)?;
+    if let Some(all) = &all {
+        all::tell(&mut answer, all, &supplier, &service, &names);
+    }
+    let all = all.as_deref();
+    answer.extras = extras(context, &explained, (&supplier, &service), &names, all)?;
     Ok(answer.noted(&names))
 }
 
@@ -36,9 +46,9 @@ pub(super) fn compare(context: &Context, c: &Path, d: &Path) -> Result<Answer, T
 fn extras(
     context: &Context,
     explained: &Explained,
-    supplier: &Input,
-    service: &Input,
+    (supplier, service): (&Input, &Input),
     names: &Names,
+    all: Option<&[Failure]>,
 ) -> Result<Vec<(Extra, Vec<u8>)>, Trouble> {
     let options = &context.options;
     let words = Words::new(names);
@@ -59,6 +69,7 @@ fn extras(
             service,
             names,
             whole: options.whole,
+            all,
         })?;
         extras.push((Extra::Html, page.into_bytes()));
     }
@@ -101,8 +112,6 @@ fn not_contained(failure: &Failure, c: &Input, d: &Input, names: &Names) -> Answ
     let words = Words::new(names);
     let asks = failure.asks(words);
     let line = format!("not contained, entry {}: {asks}", failure.entry);
-    let numbers = |list: &[usize]| Json::List(list.iter().map(|&n| Json::number(n)).collect());
-    let links: Vec<usize> = failure.way.iter().map(|link| link.0.into()).collect();
     let mut json = vec![
         ("answer", Json::text("not contained")),
         ("entry", Json::number(failure.entry)),
@@ -112,13 +121,8 @@ fn not_contained(failure: &Failure, c: &Input, d: &Input, names: &Names) -> Answ
         ),
     ];
     json.extend(origin_json(d, failure.entry));
+    json.extend(said_json(failure, words));
     json.extend([
-        ("owners", numbers(&failure.owners)),
-        ("links", numbers(&links)),
-        ("asks", Json::text(asks)),
-        ("supplier", Json::text(failure.supplier_says(words))),
-        ("supplier_entries", numbers(&failure.supplier)),
-        ("shows", Json::text(failure.note(words))),
         (
             "specimen_entries",
             Json::number(failure.specimen.entries.len()),
@@ -134,6 +138,20 @@ fn not_contained(failure: &Failure, c: &Input, d: &Input, names: &Names) -> Answ
         extras: Vec::new(),
         notes: Vec::new(),
     }
+}
+
+/// Where the entry stands, what it asks, and what is said there, for programs.
+fn said_json(failure: &Failure, words: Words<'_>) -> [(&'static str, Json); 6] {
+    let numbers = |list: &[usize]| Json::List(list.iter().map(|&n| Json::number(n)).collect());
+    let links: Vec<usize> = failure.way.iter().map(|link| link.0.into()).collect();
+    [
+        ("owners", numbers(&failure.owners)),
+        ("links", numbers(&links)),
+        ("asks", Json::text(failure.asks(words))),
+        ("supplier", Json::text(failure.supplier_says(words))),
+        ("supplier_entries", numbers(&failure.supplier)),
+        ("shows", Json::text(failure.note(words))),
+    ]
 }
 
 /// The entry as it was sent, and the descriptions that it was put in from; nothing where no named ones were unfolded.
