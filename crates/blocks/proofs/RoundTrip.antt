@@ -19,3 +19,5 @@ pub mod EncodedBlocks
 pub mod RefusalNumbers
 -- Two used entries of one block of an accepted input exchanged: refused as 2, exactly when.
 pub mod Exchanging
+-- The shorter stored form: its blocks are the encoding of their rows, an encoding breaks none of 1 to 3, and two entries exchanged.
+pub mod StoredBlocks

@@ -20,15 +20,22 @@ pub record Fault : Type 0 where
 abbrev pub fault : Bool → Cause → ℕ → Fault
 fault b k p = record { applies = b; cause = k; place = p }
 
--- number 1: "input length 0, no multiple of 512, or over the limit"
+-- number 1: "input length 0, no multiple of 512, or over the limit", which is so many blocks
+abbrev pub length_over : ℕ → List ℕ → Bool
+length_over most s = length s == 0 || (not (length s % 512 == 0) || nat_lt (512 * most) (length s))
+
 unfoldable pub length_wrong : Schema → List ℕ → Bool
-length_wrong σ s = length s == 0 || (not (length s % 512 == 0) || nat_lt (512 * limit_of σ) (length s))
+length_wrong σ s = length_over (limit_of σ) s
 
 -- numbers 2 and 3 of `left` blocks from block i on, of n: "the lowest block that breaks 2 or 3 decides, 2 before 3"
 unfoldable pub block_faults : Frame → List ℕ → ℕ → ℕ → ℕ → List Fault
 block_faults F s n i zero = []
 block_faults F s n i (suc left) =
     fault (check_wrong s i) Check (suc i) ∷ fault (frame_wrong F s n i) Framing (suc i) ∷ block_faults F s n (suc i) left
+
+-- numbers 1 to 3 of an input that may have so many blocks
+abbrev pub frame_faults : Frame → ℕ → List ℕ → List Fault
+frame_faults F most s = fault (length_over most s) Length 0 ∷ block_faults F s (blocks_in s) 0 (blocks_in s)
 
 -- the lines of entry n by the entries, one for each number
 abbrev pub form_row : Schema → List Entry → ℕ → Fault

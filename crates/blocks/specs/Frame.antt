@@ -9,9 +9,17 @@ pub record Frame : Type 0 where
   pub width : ℕ
   pub room : ℕ
 
+-- entries of w bytes, r of them to a block
+abbrev pub framed : ℕ → ℕ → Frame
+framed w r = record { width = w; room = r }
+
 -- "Bytes 4-507: 63 entries of 8 bytes."
 abbrev pub plain : Frame
 plain = record { width = 8; room = 63 }
+
+-- the shorter stored form: 84 entries of 6 bytes, in the same frame with both checks
+abbrev pub stored_frame : Frame
+stored_frame = record { width = 6; room = 84 }
 
 -- whole blocks of 512 bytes
 unfoldable pub blocks_in : List ℕ → ℕ

@@ -24,16 +24,16 @@ use Rattle.blocks.specs.declared.Schema.{Schema}
 use Rattle.blocks.specs.declared.Cause.{Cause}
 use Rattle.blocks.specs.declared.Cause.TheVariants.{Length}
 
--- the lines of the length and of the blocks
-abbrev pub frame_faults : Schema → List ℕ → List Fault
-frame_faults σ s = fault (length_wrong σ s) Length 0 ∷ block_faults plain s (blocks_in s) 0 (blocks_in s)
+-- numbers 1 to 3 of entries of 8 bytes
+abbrev pub plain_faults : Schema → List ℕ → List Fault
+plain_faults σ s = fault (length_wrong σ s) Length 0 ∷ block_faults plain s (blocks_in s) 0 (blocks_in s)
 
 limit-most : (σ : Schema) → limit_of σ ≤ 32
 limit-most Description = omega arith
 limit-most Specimen = omega arith
 limit-most (Named most) = omega arith
 
-module _ (σ : Schema) (i : ℕ) (s : List ℕ) {r : Reading} (e : r ≡ answer i (total_in plain s) (first (frame_faults σ s))) where
+module _ (σ : Schema) (i : ℕ) (s : List ℕ) {r : Reading} (e : r ≡ answer i (total_in plain s) (first (plain_faults σ s))) where
   abbrev rows : List Fault
   rows = entry_faults σ (entries_of s) 1 (length (entries_of s))
 
@@ -41,16 +41,16 @@ module _ (σ : Schema) (i : ℕ) (s : List ℕ) {r : Reading} (e : r ≡ answer 
   pub blocks-refused : {k : Cause} {j p : ℕ} → r ≡ refused k j p → reading_of σ i s ≡ refused k j p
   unfolding reading_of faults
   blocks-refused q =
-      let f = refused-finding i (total_in plain s) (first (frame_faults σ s)) (sym e ∙ q) in
-      rw (first-append (frame_faults σ s) rows, f.1, f.0)
+      let f = refused-finding i (total_in plain s) (first (plain_faults σ s)) (sym e ∙ q) in
+      rw (first-append (plain_faults σ s) rows, f.1, f.0)
 
   module _ {n : ℕ} (q : r ≡ Ok n) where
     -- else its blocks are sound
     pub blocks-unbroken : Unbroken plain σ s
     unfolding NoneApplies
     blocks-unbroken =
-        let f = accepted-finding i (total_in plain s) (first (frame_faults σ s)) (sym e ∙ q) in
-        let h = clean-none (frame_faults σ s) f.1 in
+        let f = accepted-finding i (total_in plain s) (first (plain_faults σ s)) (sym e ∙ q) in
+        let h = clean-none (plain_faults σ s) f.1 in
         let m = blocks_in s in
         record {
           length = h.0;
@@ -61,7 +61,7 @@ module _ (σ : Schema) (i : ℕ) (s : List ℕ) {r : Reading} (e : r ≡ answer 
     -- with so many entries, which can be gone over
     pub blocks-whole : (n ≡ length (entries_of s)) × (n ≤ 63 * limit_of σ) × Whole s n × (n ≤ 2016)
     blocks-whole =
-        let f = accepted-finding i (total_in plain s) (first (frame_faults σ s)) (sym e ∙ q) in
+        let f = accepted-finding i (total_in plain s) (first (plain_faults σ s)) (sym e ∙ q) in
         let count : n ≡ length (entries_of s) = f.0 ∙ sym (length-entries s) in
         let few = entries-limit blocks-unbroken in
         (count, omega arith, rw count (entries-whole blocks-unbroken), omega (arith, limit-most σ))
@@ -70,6 +70,6 @@ module _ (σ : Schema) (i : ℕ) (s : List ℕ) {r : Reading} (e : r ≡ answer 
     pub blocks-accepted : reading_of σ i s ≡ answer i n (first (entry_faults σ (entries_of s) 1 n))
     unfolding reading_of faults
     blocks-accepted =
-        let f = accepted-finding i (total_in plain s) (first (frame_faults σ s)) (sym e ∙ q) in
+        let f = accepted-finding i (total_in plain s) (first (plain_faults σ s)) (sym e ∙ q) in
         let count : n ≡ length (entries_of s) = f.0 ∙ sym (length-entries s) in
-        rw (first-append (frame_faults σ s) rows, f.1, ← f.0, ← count)
+        rw (first-append (plain_faults σ s) rows, f.1, ← f.0, ← count)

@@ -1,8 +1,8 @@
 // Reading an input: number 1 by its length, then its blocks, then its entries.
 ghost use Rattle.std.specs.Prelude.{◌≡◌, ◌∷◌, ◌*◌, ◌-◌, ◌≤◌, MatchOption, false, length, true};
-ghost use Rattle.blocks.specs.Frame.{plain, blocks_in, used_in, total_in};
+ghost use Rattle.blocks.specs.Frame.{framed, plain, stored_frame, blocks_in, used_in, total_in};
 ghost use Rattle.blocks.specs.Entries.{limit_of, entries_of};
-ghost use Rattle.blocks.specs.Faults.{block_faults, entry_faults, fault, first, length_wrong};
+ghost use Rattle.blocks.specs.Faults.{block_faults, entry_faults, fault, first, frame_faults, length_over, length_wrong};
 ghost use Rattle.blocks.specs.Reading.{answer, reading_of};
 ghost use Rattle.blocks.specs.code.Blockwise.{Whole};
 ghost use Rattle.blocks.specs.declared.Schema.{Schema};
@@ -21,10 +21,11 @@ fn limit_of(schema: Schema) -> usize
     }
 }
 
-// The blocks of an input, if number 1 allows its length.
-fn blocks_read(s: &[u8], schema: Schema) -> Option<usize>
-    ensures { MatchOption result (length_wrong schema s.now ≡ true)
-        (λ n. (length_wrong schema s.now ≡ false) × (n ≡ blocks_in s.now) × (1 ≤ n) × (n ≤ 32) × (512 * n ≤ length s.now)) }
+// The blocks of an input, if number 1 allows its length, which is at most so many blocks.
+fn blocks_read(s: &[u8], most: usize) -> Option<usize>
+    requires { most ≤ 32 }
+    ensures { MatchOption result (length_over most s.now ≡ true)
+        (λ n. (length_over most s.now ≡ false) × (n ≡ blocks_in s.now) × (1 ≤ n) × (n ≤ 32) × (512 * n ≤ length s.now)) }
 {
     let n = s.len();
     if n == 0 {
@@ -33,19 +34,19 @@ fn blocks_read(s: &[u8], schema: Schema) -> Option<usize>
     if n % 512 != 0 {
         return None;
     }
-    if limit_of(schema) < n / 512 {
+    if most < n / 512 {
         return None;
     }
     Some(n / 512)
 }
 
 // How many entries n blocks have whose frames are sound.
-fn entries_in(s: &[u8], n: usize) -> usize
-    requires { (1 ≤ n) × (n ≤ 32) × (n ≡ blocks_in s.now) × (used_in s.now (n - 1) ≤ 63) }
-    ensures { (result ≡ total_in plain s.now) × (result ≤ 2016) }
+fn entries_in<const WIDTH: usize, const ROOM: usize>(s: &[u8], n: usize) -> usize
+    requires { (ROOM ≤ 504) × (1 ≤ n) × (n ≤ 32) × (n ≡ blocks_in s.now) × (used_in s.now (n - 1) ≤ ROOM) }
+    ensures { (result ≡ total_in (framed WIDTH ROOM) s.now) × (result ≤ 16128) }
 {
     let last = n - 1;
-    63 * last + usize::from(word(s, 512 * last + 2))
+    ROOM * last + usize::from(word(s, 512 * last + 2))
 }
 
 // Reads the entries of an input whose blocks are sound.
@@ -57,20 +58,41 @@ fn read_entries(s: &[u8], schema: Schema, input: u16, total: u16) -> Result<u16,
     Ok(total)
 }
 
-// Reads the blocks of an input and not its entries: how many these are, or the refusal by number 1, 2 or 3. It stands in each function that calls it.
+// Reads the blocks of an input, of entries of WIDTH bytes, ROOM of them to a block: how many entries these are, or the refusal by number 1, 2 or 3.
 #[inline(always)]
-pub fn read_blocks(s: &[u8], schema: Schema, input: u16) -> Result<u16, Refusal>
-    ensures { result ≡ answer input (total_in plain s.now) (first (fault (length_wrong schema s.now) Cause.Length 0 ∷ block_faults plain s.now (blocks_in s.now) 0 (blocks_in s.now))) }
+fn read_framed<const WIDTH: usize, const ROOM: usize>(
+    s: &[u8],
+    most: usize,
+    input: u16,
+) -> Result<u16, Refusal>
+    requires { (WIDTH * ROOM ≡ 504) × (ROOM ≤ 504) × (most ≤ 32) }
+    ensures { result ≡ answer input (total_in (framed WIDTH ROOM) s.now) (first (frame_faults (framed WIDTH ROOM) most s.now)) }
 {
-    let Some(n) = blocks_read(s, schema) else {
+    let Some(n) = blocks_read(s, most) else {
         return Err(Refusal {
             cause: Cause::Length,
             input,
             place: 0,
         });
     };
-    check_frames(s, n, input)?;
-    Ok(entries_in(s, n) as u16)
+    check_frames::<WIDTH, ROOM>(s, n, input)?;
+    Ok(entries_in::<WIDTH, ROOM>(s, n) as u16)
+}
+
+// Reads the blocks of an input and not its entries: how many these are, or the refusal by number 1, 2 or 3. It stands in each function that calls it.
+#[inline(always)]
+#[tactic(auto, unfolding(blocks::specs::Faults::length_wrong))]
+pub fn read_blocks(s: &[u8], schema: Schema, input: u16) -> Result<u16, Refusal>
+    ensures { result ≡ answer input (total_in plain s.now) (first (fault (length_wrong schema s.now) Cause.Length 0 ∷ block_faults plain s.now (blocks_in s.now) 0 (blocks_in s.now))) }
+{
+    read_framed::<8, 63>(s, limit_of(schema), input)
+}
+
+// The same of an input in the shorter stored form: 84 entries of 6 bytes to a block, and at most 12 blocks.
+pub fn read_stored_blocks(s: &[u8], input: u16) -> Result<u16, Refusal>
+    ensures { result ≡ answer input (total_in stored_frame s.now) (first (frame_faults stored_frame 12 s.now)) }
+{
+    read_framed::<6, 84>(s, 12, input)
 }
 
 // Reads an input as a description, with or without names, or a specimen: its number of entries, or the refusal by the first number that applies. The

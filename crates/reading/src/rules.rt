@@ -1,5 +1,5 @@
 // The rules of single entries: the table of kinds, names, owners and depths, numbers 4, 13, 5 and 6 of the table of refusals.
-ghost use Rattle.std.specs.Prelude.{◌≡◌, ◌||◌, false, not, true, ◌+◌, ◌*◌, ◌/◌, ◌≤◌, ◌<◌, eqb, length, slice_index};
+ghost use Rattle.std.specs.Prelude.{◌≡◌, ◌||◌, false, not, true, ◌+◌, ◌*◌, ◌/◌, ◌≤◌, ◌<◌, eqb, length, min, slice_index};
 ghost use Rattle.base.specs.Range.{bit};
 ghost use Rattle.blocks.specs.Entries.{kind_ok, name_given, name_ok, names_ok, number_ok, form_ok, owning_kind, entries_of};
 ghost use Rattle.blocks.specs.Faults.{first};
@@ -212,10 +212,10 @@ pub fn entry_refusal(schema: Schema, e: Entry, l: u8) -> Option<Cause>
     first_refusal(schema, e, l)
 }
 
-// The level of an entry of this kind whose owner has level l, which is at most 33 where the entry is not refused: 0, as above, for one that may own
-// nothing.
+// The level of an entry of this kind whose owner has level l: 0, as above, for one that may own nothing. A level that a byte does not hold is 255; where
+// the entry is not refused, its owner's is at most 33.
 pub fn level_under(schema: Schema, kind: u8, l: u8) -> u8
-    ensures { l < 255 → result ≡ level_under schema kind l }
+    ensures { result ≡ min (level_under schema kind l) 255 }
 {
     if kind == owning_kind(schema) {
         l.saturating_add(1)

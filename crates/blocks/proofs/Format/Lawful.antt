@@ -1,7 +1,7 @@
 -- What a block format has to keep.
 -- Assumes nothing.
 use Rattle.std.proofs.Common.{◌≡◌, ◌*◌, ◌<◌, refl, arith}
-use Rattle.blocks.specs.Frame.{Frame, plain}
+use Rattle.blocks.specs.Frame.{Frame, plain, stored_frame}
 
 -- the entries fill bytes 4 to 507
 pub record Lawful (F : Frame) : Type 0 where
@@ -11,3 +11,6 @@ pub record Lawful (F : Frame) : Type 0 where
 
 pub plain-lawful : Lawful plain
 plain-lawful = record { cells = refl; width-pos = omega arith; room-pos = omega arith }
+
+pub stored-lawful : Lawful stored_frame
+stored-lawful = record { cells = refl; width-pos = omega arith; room-pos = omega arith }

@@ -1,6 +1,7 @@
 -- Laws of the rows that blocks break.
 -- Assumes nothing.
 use Rattle.std.proofs.Common.{◌≡◌, ℕ, zero, suc, ◌+◌, ◌-◌, ◌*◌, ◌<◌, ◌≤◌, Bool, true, false, not, ◌||◌, eqb, ltb, leb, ◌≢◌, List, Option, Some, None, sym, ap, ◌∙◌, add-one, arith}
+use native.Mathlib.Nat.{mul-le-mul_left}
 use Rattle.base.proofs.RangeLaws.{none_left, one_left}
 use Rattle.base.proofs.Tests.{and_left, bool_cases, both_ways, eq-cases, eq-eqb, ne_eqb, tests}
 use Rattle.base.specs.Range.{all}
@@ -8,15 +9,27 @@ use Rattle.blocks.proofs.Refusing.FirstFault.{clean-none, step, step-found, step
 use Rattle.blocks.specs.Faults.{Clean, Faulty, block_faults, first}
 use Rattle.blocks.specs.declared.Cause.TheVariants.{Check}
 use Rattle.blocks.specs.declared.Cause.{Cause}
-use Rattle.blocks.specs.Frame.{Frame, check_wrong, frame_wrong, plain, rest_zero, used_in, used_ok, zero_at}
+use Rattle.blocks.specs.Frame.{Frame, check_wrong, frame_wrong, rest_zero, used_in, used_ok, zero_at}
 use Rattle.blocks.specs.Promise.{NoneApplies}
 use Rattle.blocks.specs.Words.{check_of, second_of, word_at}
 use Rattle.blocks.specs.code.ReadingSteps.{block_refusal}
 
 -- ---- number 3, one law for each way through its tests
 
-module _ (s : List ℕ) (n i : ℕ) where
-  pub number-wrong : {w : ℕ} → w ≡ word_at s (512 * i) → w ≢ i + 1 → true ≡ frame_wrong plain s n i
+-- an allowed used count is at most what a block has room for
+pub used-at-most : (F : Frame) (n i : ℕ) {u : ℕ} → used_ok F n i u ≡ true → u ≤ F.room
+unfolding used_ok
+used-at-most F n i {u} h =
+    bool_cases (ltb (suc i) n)
+    (λ q. omega (tests, rw (used_ok, q) at h))
+    (λ q. omega (tests, and_left (leb u F.room) (ltb 0 u || eqb n 1) (rw (used_ok, q) at h)))
+
+-- so the used entries end before byte 508
+pub used-bytes : (w : ℕ) {r u : ℕ} → w * r ≡ 504 → u ≤ r → w * u ≤ 504
+used-bytes w e h = let m = mul-le-mul_left w h in omega (arith, m)
+
+module _ (F : Frame) (s : List ℕ) (n i : ℕ) where
+  pub number-wrong : {w : ℕ} → w ≡ word_at s (512 * i) → w ≢ i + 1 → true ≡ frame_wrong F s n i
   unfolding frame_wrong
   number-wrong e h = simp (frame_wrong, ← e, ne_eqb (λ q. h (q ∙ sym (add-one i))))
 
@@ -28,24 +41,16 @@ module _ (s : List ℕ) (n i : ℕ) where
     unfolding used_in
     used-is = sym f
 
-    pub used-wrong : used_ok plain n i u ≡ false → true ≡ frame_wrong plain s n i
+    pub used-wrong : used_ok F n i u ≡ false → true ≡ frame_wrong F s n i
     unfolding frame_wrong
     used-wrong h = simp (frame_wrong, number-right, used-is, h)
 
-    pub rest-decides : used_ok plain n i u ≡ true → {z : Bool}
-        → z ≡ all (zero_at s) (512 * i + 4 + 8 * u) (512 * i + 508 - (512 * i + 4 + 8 * u)) → not z ≡ frame_wrong plain s n i
+    pub rest-decides : F.width * F.room ≡ 504 → used_ok F n i u ≡ true → {z : Bool}
+        → z ≡ all (zero_at s) (512 * i + 4 + F.width * u) (512 * i + 508 - (512 * i + 4 + F.width * u)) → not z ≡ frame_wrong F s n i
     unfolding frame_wrong rest_zero
-    rest-decides used p =
-        let k : 512 * i + 508 - (512 * i + 4 + 8 * u) ≡ 504 - 8 * u = omega arith in
-        simp (frame_wrong, rest_zero, number-right, used-is, used) (ap not (p ∙ ap (all (zero_at s) (512 * i + 4 + 8 * u)) k))
-
--- an allowed used count is at most 63
-pub used-at-most : (n i : ℕ) {u : ℕ} → used_ok plain n i u ≡ true → u ≤ 63
-unfolding used_ok
-used-at-most n i {u} h =
-    bool_cases (ltb (suc i) n)
-    (λ q. omega (tests, rw (used_ok, q) at h))
-    (λ q. omega (tests, and_left (leb u 63) (ltb 0 u || eqb n 1) (rw (used_ok, q) at h)))
+    rest-decides cells used p =
+        let k : 512 * i + 508 - (512 * i + 4 + F.width * u) ≡ F.width * F.room - F.width * u = omega arith in
+        simp (frame_wrong, rest_zero, number-right, used-is, used) (ap not (p ∙ ap (all (zero_at s) (512 * i + 4 + F.width * u)) k))
 
 -- ---- number 2
 
@@ -60,24 +65,25 @@ module _ (s : List ℕ) (i : ℕ) {c w : ℕ} (e : w ≡ word_at s (512 * i + 51
 
 -- ---- the pass over the blocks
 
-block-step : (s : List ℕ) (n i left : ℕ) → first (block_faults plain s n i (suc left)) ≡ step (block_refusal s n i) (suc i) (first (block_faults plain s n (suc i) left))
-unfolding block_faults first block_refusal
-block-step s n i left =
-    bool_cases (check_wrong s i)
-    (λ q. simp (block_refusal, q))
-    (λ q. bool_cases (frame_wrong plain s n i) (λ r. simp (block_refusal, q, r)) (λ r. simp (block_refusal, q, r)))
+module _ (F : Frame) (s : List ℕ) (n i : ℕ) where
+  block-step : (left : ℕ) → first (block_faults F s n i (suc left)) ≡ step (block_refusal F s n i) (suc i) (first (block_faults F s n (suc i) left))
+  unfolding block_faults first block_refusal
+  block-step left =
+      bool_cases (check_wrong s i)
+      (λ q. simp (block_refusal, q))
+      (λ q. bool_cases (frame_wrong F s n i) (λ r. simp (block_refusal, q, r)) (λ r. simp (block_refusal, q, r)))
 
-pub blocks_end : (s : List ℕ) (n i : ℕ) → n ≤ i → first (block_faults plain s n i (n - i)) ≡ Clean
-unfolding block_faults first
-blocks_end s n i h = rw (none_left i n h)
+  pub blocks_end : n ≤ i → first (block_faults F s n i (n - i)) ≡ Clean
+  unfolding block_faults first
+  blocks_end h = rw (none_left i n h)
 
-module _ (s : List ℕ) (n i : ℕ) {o : Option Cause} (l : i < n) (e : o ≡ block_refusal s n i) where
-  pub blocks_more : o ≡ None → first (block_faults plain s n i (n - i)) ≡ first (block_faults plain s n (i + 1) (n - (i + 1)))
-  blocks_more z = rw (one_left i n l, add-one i) (block-step s n i (n - suc i) ∙ step-more _ _ _ (sym e ∙ z))
+  module _ {o : Option Cause} (l : i < n) (e : o ≡ block_refusal F s n i) where
+    pub blocks_more : o ≡ None → first (block_faults F s n i (n - i)) ≡ first (block_faults F s n (i + 1) (n - (i + 1)))
+    blocks_more z = rw (one_left i n l, add-one i) (block-step (n - suc i) ∙ step-more _ _ _ (sym e ∙ z))
 
-  pub blocks-found : {k : Cause} → o ≡ Some k → first (block_faults plain s n i (n - i)) ≡ Faulty k (i + 1)
-  blocks-found z =
-      rw (one_left i n l, add-one i) (block-step s n i (n - suc i) ∙ step-found _ _ _ (sym e ∙ z))
+    pub blocks-found : {k : Cause} → o ≡ Some k → first (block_faults F s n i (n - i)) ≡ Faulty k (i + 1)
+    blocks-found z =
+        rw (one_left i n l, add-one i) (block-step (n - suc i) ∙ step-found _ _ _ (sym e ∙ z))
 
 -- blocks in which no fault is found break neither number
 pub blocks-none : (F : Frame) (s : List ℕ) (n i left : ℕ) → NoneApplies (block_faults F s n i left) → (k : ℕ) → i ≤ k → k < i + left
@@ -116,7 +122,7 @@ frame-used F s n i e =
     (λ q. q)
     (λ q. both_ways (bool_cases (eqb (word_at s (512 * i)) (suc i)) (λ p. simp (frame_wrong, p, q)) (λ p. simp (frame_wrong, p))) e)
 
--- the last block of a sound input uses at most 63 entries
-pub last-used : (s : List ℕ) (n : ℕ) → 1 ≤ n → first (block_faults plain s n 0 n) ≡ Clean → used_in s (n - 1) ≤ 63
-last-used s n h e =
-    used-at-most n (n - 1) (frame-used plain s n (n - 1) (blocks-none plain s n 0 n (clean-none _ e) (n - 1) (omega arith) (omega arith)).1)
+-- the last block of a sound input uses no more entries than it has room for
+pub last-used : (F : Frame) (s : List ℕ) (n : ℕ) → 1 ≤ n → first (block_faults F s n 0 n) ≡ Clean → used_in s (n - 1) ≤ F.room
+last-used F s n h e =
+    used-at-most F n (n - 1) (frame-used F s n (n - 1) (blocks-none F s n 0 n (clean-none _ e) (n - 1) (omega arith) (omega arith)).1)

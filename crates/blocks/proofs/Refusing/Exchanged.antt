@@ -2,9 +2,8 @@
 -- difference of their word sums is a multiple of 65,536.
 -- Assumes nothing.
 use Rattle.std.proofs.Common.{◌≡◌, ℕ, ◌+◌, ◌*◌, ◌/◌, ◌%◌, ◌<◌, ◌≤◌, false, ◌↔◌, List, sym, ap, ◌∙◌, mul_assoc, mul-add, arith}
-use mathlib.Core.Logic.Iff
 use Rattle.base.proofs.Exchanges.{exchanged-sum, exchanged-weighted}
-use Rattle.base.proofs.Multiples.{four-words, same-modulo, three-words}
+use Rattle.base.proofs.Multiples.{same-modulo}
 use Rattle.base.proofs.Split.{row_below}
 use Rattle.base.proofs.Sums.{sum-ext}
 use Rattle.base.specs.Exchange.{Exchanged, difference}
@@ -62,14 +61,3 @@ module _ {F : Frame} (L : Lawful F) (w : ℕ) (wide : F.width ≡ 2 * w) (s t : 
           λ c. second-same.0 (sym was.1 ∙ sym kept.1 ∙ (right-checks t b c).1),
           λ m. checks-right t b (kept.0 ∙ was.0 ∙ sym check-same) (kept.1 ∙ was.1 ∙ second-same.1 m),
         )
-
--- entries of 4 words, and of 3: "P5's 16,384 is 65,536 here"
-module _ {F : Frame} (L : Lawful F) {s t : List ℕ} {b e p : ℕ} (x : EntriesExchanged F s t b e p) (some : 1 ≤ p)
-    (inside : e + p < F.room) (r : check_wrong s b ≡ false) where
-  pub four-words-exchanged : F.width ≡ 8
-      → (check_wrong t b ≡ false) ↔ ((p * difference (entry_words F s b e) (entry_words F s b (e + p))) % 16384 ≡ 0)
-  four-words-exchanged wide = Iff.trans (check-exchanged L 4 wide s t b e p x some inside r) (four-words p _)
-
-  pub three-words-exchanged : F.width ≡ 6
-      → (check_wrong t b ≡ false) ↔ ((p * difference (entry_words F s b e) (entry_words F s b (e + p))) % 65536 ≡ 0)
-  three-words-exchanged wide = Iff.trans (check-exchanged L 3 wide s t b e p x some inside r) (three-words p _)

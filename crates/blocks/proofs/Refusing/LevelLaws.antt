@@ -1,6 +1,6 @@
 -- Owners, depths, and the table of levels that stands in for them.
 -- Assumes nothing.
-use Rattle.std.proofs.Common.{◌≡◌, ℕ, zero, suc, ◌+◌, ◌-◌, ◌<◌, ◌≤◌, true, false, cond, eqb, leb, ◌≢◌, List, [], ◌∷◌, ◌++◌, length, get_or, take, set, Option, Some, None, sym, refl, ap, ◌∙◌, ne_of_lt, add-one, arith, length-set, length-take, get_or-set_other, get_or-set_same, below_more}
+use Rattle.std.proofs.Common.{◌≡◌, ℕ, zero, suc, ◌+◌, ◌-◌, ◌<◌, ◌≤◌, true, false, cond, eqb, leb, ◌≢◌, List, [], ◌∷◌, ◌++◌, length, get_or, take, set, min, Option, Some, None, sym, refl, ap, ◌∙◌, ne_of_lt, add-one, arith, length-set, length-take, get_or-set_other, get_or-set_same, below_more}
 use lib.ListN.{get_or-eq_default}
 use Rattle.std.proofs.lemmas.List.{get_or-take}
 use Rattle.base.proofs.RangeLaws.{none_left, one_left}
@@ -54,6 +54,12 @@ levels-start σ es t h =
       right = λ k l. let z : k ≡ 0 = omega arith in rw z (get_or-set_same t 0 1 0 (omega arith));
       early = λ k h l. absurd (omega arith);
     }
+
+-- a level that a byte holds, of an entry whose owner is not too deep
+pub level-told : (σ : Schema) (kind : ℕ) {l v : ℕ} → l ≤ 33 → v ≡ min (level_under σ kind l) 255 → v ≡ level_under σ kind l
+unfolding level_under
+level-told σ kind h e =
+    e ∙ bool_cases (eqb kind (owning_kind σ)) (λ q. rw (level_under, q) (omega arith)) (λ q. rw (level_under, q))
 
 -- the level of an owner that is an entry before n
 level-of-owner : (σ : Schema) (es : List Entry) (o : ℕ) → o ≢ 0 → level_of σ es o ≡ cond (eqb (nth es o).kind (owning_kind σ)) (2 + depth_of es o) 0

@@ -4,7 +4,7 @@
 use Rattle.std.specs.Prelude.{◌≡◌, ℕ, ◌+◌, ◌<◌, ◌≤◌, cond, List, [], ◌∷◌, ◌++◌, length, ◌==◌, nat_lt, slice_index, Option, Some, None}
 use Rattle.blocks.specs.Entries.{form_ok, names_ok, owning_kind}
 use Rattle.blocks.specs.Faults.{Fault, depth_row, form_row, name_row, owner_row, rows_from}
-use Rattle.blocks.specs.Frame.{check_wrong, frame_wrong, plain}
+use Rattle.blocks.specs.Frame.{Frame, check_wrong, frame_wrong}
 use Rattle.blocks.specs.Owners.{level_of, owner_of}
 use Rattle.blocks.specs.declared.Cause.{Cause}
 use Rattle.blocks.specs.declared.Cause.TheVariants.{Check, Framing, Form, Owner, Depth, Name}
@@ -13,8 +13,8 @@ use Rattle.blocks.specs.declared.Schema.TheVariants.{Description, Named, Specime
 use Rattle.blocks.specs.declared.Schema.{Schema}
 
 -- why block i of n is refused, 2 before 3, if it is
-unfoldable pub block_refusal : List ℕ → ℕ → ℕ → Option Cause
-block_refusal s n i = cond (check_wrong s i) (Some Check) (cond (frame_wrong plain s n i) (Some Framing) None)
+unfoldable pub block_refusal : Frame → List ℕ → ℕ → ℕ → Option Cause
+block_refusal F s n i = cond (check_wrong s i) (Some Check) (cond (frame_wrong F s n i) (Some Framing) None)
 
 -- number 13 where entries may be names
 abbrev pub name_rows : Schema → List Entry → ℕ → List Fault

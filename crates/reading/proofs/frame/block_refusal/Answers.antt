@@ -4,11 +4,11 @@ use Rattle.reading.proofs.frame.block_refusal.Goals as goal
 
 pub returns-then-check_wrong : goal.returns-then-check_wrong
 unfolding block_refusal
-returns-then-check_wrong c = simp (block_refusal, ← c.check_wrong.ensures, c.if-check_wrong.true)
+returns-then-check_wrong g c = simp (block_refusal, ← c.check_wrong.ensures, c.if-check_wrong.true)
 
 pub returns-then-frame_wrong : goal.returns-then-frame_wrong
 unfolding block_refusal
-returns-then-frame_wrong c =
+returns-then-frame_wrong g c =
     simp (
       block_refusal,
       ← c.check_wrong.ensures,
@@ -19,7 +19,7 @@ returns-then-frame_wrong c =
 
 pub returns : goal.returns
 unfolding block_refusal
-returns c =
+returns g c =
     simp (
       block_refusal,
       ← c.check_wrong.ensures,

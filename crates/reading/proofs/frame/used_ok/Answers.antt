@@ -6,16 +6,16 @@ use Rattle.reading.proofs.frame.used_ok.Goals as goal
 
 pub returns-then-i-n : goal.returns-then-i-n
 unfolding used_ok
-returns-then-i-n c = simp (used_ok, ← add-one, lt-ltb c.if-i-n.true)
+returns-then-i-n g c = simp (used_ok, ← add-one, lt-ltb c.if-i-n.true)
 
 pub returns-then-used-gt0 : goal.returns-then-used-gt0
 unfolding used_ok
-returns-then-used-gt0 c = simp (used_ok, ← add-one, ge-ltb c.if-i-n.false, le-leb c.if-used-le63.true, lt-ltb c.if-used-gt0.true)
+returns-then-used-gt0 g c = simp (used_ok, ← add-one, ge-ltb c.if-i-n.false, le-leb c.if-used.true, lt-ltb c.if-used-gt0.true)
 
 pub returns-else-used-gt0 : goal.returns-else-used-gt0
 unfolding used_ok
-returns-else-used-gt0 c = simp (used_ok, ← add-one, ge-ltb c.if-i-n.false, le-leb c.if-used-le63.true, ge-ltb c.if-used-gt0.false)
+returns-else-used-gt0 g c = simp (used_ok, ← add-one, ge-ltb c.if-i-n.false, le-leb c.if-used.true, ge-ltb c.if-used-gt0.false)
 
-pub returns-else-used-le63 : goal.returns-else-used-le63
+pub returns-else-used : goal.returns-else-used
 unfolding used_ok
-returns-else-used-le63 c = simp (used_ok, ← add-one, ge-ltb c.if-i-n.false, gt-leb c.if-used-le63.false)
+returns-else-used g c = simp (used_ok, ← add-one, ge-ltb c.if-i-n.false, gt-leb c.if-used.false)

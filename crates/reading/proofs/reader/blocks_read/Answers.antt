@@ -11,10 +11,10 @@ returns-then-n-eq0 c = none-read _ _ c.if-n-eq0.true
 pub returns-then-n-ne0 : goal.returns-then-n-ne0
 returns-then-n-ne0 c = not-multiple _ _ c.if-n-eq0.false c.if-n-ne0.true
 
-pub returns-then-limit_of-n : goal.returns-then-limit_of-n
-returns-then-limit_of-n c = too_long _ _ c.limit_of.ensures.0 c.if-n-eq0.false c.if-n-ne0.false c.if-limit_of-n.true
+pub returns-then-most-n : goal.returns-then-most-n
+returns-then-most-n c = too_long _ _ c.if-n-eq0.false c.if-n-ne0.false c.if-most-n.true
 
 pub returns : goal.returns
 unfolding blocks_in
 returns c =
-    (length-allowed _ _ c.limit_of.ensures.0 c.if-n-eq0.false c.if-n-ne0.false c.if-limit_of-n.false, refl, omega arith, omega arith, omega arith)
+    (length-allowed _ _ c.if-n-eq0.false c.if-n-ne0.false c.if-most-n.false, refl, omega arith, omega arith, omega arith)

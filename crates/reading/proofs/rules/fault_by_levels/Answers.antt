@@ -1,6 +1,6 @@
 use Rattle.std.proofs.Common.{◌≡◌, ◌+◌, ◌-◌, sym, ap, length-take, ◌∙◌, arith}
 use Rattle.blocks.proofs.Refusing.PassLaws.{Now, begun, ended, turned}
-use Rattle.blocks.proofs.Refusing.LevelLaws.{entries-end, entries-found, entries-more, level-small, levels-more, levels-start, level-passed}
+use Rattle.blocks.proofs.Refusing.LevelLaws.{entries-end, entries-found, entries-more, level-small, level-told, levels-more, levels-start, level-passed}
 use Rattle.blocks.specs.Entries.{entries_of}
 use Rattle.blocks.specs.Faults.{Faulty, first}
 use Rattle.blocks.specs.code.ReadingSteps.{rule_faults}
@@ -61,7 +61,7 @@ loop-before-preserved c =
       goes = c.in-Some.ensures.goes.keeps;
       ends = tt;
       over = i.over;
-      levels = rw h.more (levels-more _ _ _ _ t (omega arith) (c.from-e.ensures ∙ h.entry) (c.owner_level-l.ensures ∙ level-passed _ _ _) c.entry_refusal.ensures c.in_default.is (omega (arith, h.before, c.requires.0)) (c.level_under.ensures (omega (arith, small))));
+      levels = rw h.more (levels-more _ _ _ _ t (omega arith) (c.from-e.ensures ∙ h.entry) (c.owner_level-l.ensures ∙ level-passed _ _ _) c.entry_refusal.ensures c.in_default.is (omega (arith, h.before, c.requires.0)) (level-told _ _ (omega (arith, small)) c.level_under.ensures));
       rest = rw h.more (i.rest ∙ rw (← h.same) (entries-more _ _ _ _ t (omega arith) (c.from-e.ensures ∙ h.entry) (c.owner_level-l.ensures ∙ level-passed _ _ _) c.entry_refusal.ensures c.args.total (omega (arith, h.before)) c.in_default.is));
     }
 

@@ -6,8 +6,8 @@ use Rattle.reading.proofs.rules.level_under.Goals as goal
 
 pub returns-then-kind-owning_kind : goal.returns-then-kind-owning_kind
 unfolding level_under
-returns-then-kind-owning_kind c = λ h. simp (level_under, eq-eqb (c.if-kind-owning_kind.true ∙ c.owning_kind.ensures)) (omega arith)
+returns-then-kind-owning_kind c = simp (level_under, eq-eqb (c.if-kind-owning_kind.true ∙ c.owning_kind.ensures)) (omega arith)
 
 pub returns-else-kind-owning_kind : goal.returns-else-kind-owning_kind
 unfolding level_under
-returns-else-kind-owning_kind c = λ h. simp (level_under, ne_eqb (λ q. c.if-kind-owning_kind.false (q ∙ sym c.owning_kind.ensures)))
+returns-else-kind-owning_kind c = simp (level_under, ne_eqb (λ q. c.if-kind-owning_kind.false (q ∙ sym c.owning_kind.ensures)))

@@ -2,7 +2,7 @@ use Rattle.std.proofs.Common.{◌≡◌, ◌+◌, ◌<◌, ◌≤◌, sym, lengt
 use Rattle.base.proofs.Tests.{eq-eqb, ne_eqb}
 use Rattle.blocks.proofs.Refusing.InOrder.{may-number, over-numbered, turned-all-numbered}
 use Rattle.blocks.proofs.Refusing.PassLaws.{Now, turned}
-use Rattle.blocks.proofs.Refusing.LevelLaws.{level-passed}
+use Rattle.blocks.proofs.Refusing.LevelLaws.{level-passed, level-told}
 use Rattle.blocks.specs.Entries.{entries_of, is_named}
 use Rattle.blocks.specs.code.ReadingSteps.{entry_refusal, level_by}
 use Rattle.blocks.specs.declared.Schema.TheVariants.{Named}
@@ -113,7 +113,7 @@ loop-before-preserved c =
       over = c.loop-before.invariant.over;
       past = rw h.more
           (past-more (passed o) h.before c.requires.0 (c.from-e.ensures ∙ h.entry) (level o) r c.in_default-entry_refusal.is
-          (other-level c.args.tables.now.count _ _ (c.level_under.ensures (omega (arith, u.1.1))))
+          (other-level c.args.tables.now.count _ _ (level-told _ _ (omega (arith, u.1.1)) c.level_under.ensures))
           (rw other) (omega arith) (rw other (omega (arith, c.from.ensures, u.1.0))) c.max-deep-else-e-eq-NAME.ensures);
     }
 
