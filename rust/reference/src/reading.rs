@@ -11,6 +11,9 @@ pub(crate) const MOST_DEPTH: usize = 32;
 /// "A description has 1 to 16 blocks (1,008 entries)".
 pub(crate) const MOST_ENTRIES: usize = 1008;
 
+/// The most blocks of a description.
+pub(crate) const MOST_DESCRIPTION_BLOCKS: usize = 16;
+
 /// The sorts of input.
 #[derive(Clone, Copy, Debug, PartialEq, Eq)]
 pub(crate) enum Sort {
@@ -27,7 +30,7 @@ impl Sort {
     /// (2,016)."
     fn most_blocks(self) -> usize {
         match self {
-            Sort::Description | Sort::Naming(_) => 16,
+            Sort::Description | Sort::Naming(_) => MOST_DESCRIPTION_BLOCKS,
             Sort::Specimen => 32,
         }
     }

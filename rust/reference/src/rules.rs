@@ -139,7 +139,7 @@ fn overcounts(place: &Place) -> bool {
 }
 
 /// For each link with an at most, the smallest.
-fn smallest_at_most(place: &Place) -> BTreeMap<Link, u16> {
+pub(crate) fn smallest_at_most(place: &Place) -> BTreeMap<Link, u16> {
     let mut smallest: BTreeMap<Link, u16> = BTreeMap::new();
     for fact in &place.facts {
         if let Fact::AtMost(link, n) = *fact {
@@ -151,7 +151,7 @@ fn smallest_at_most(place: &Place) -> BTreeMap<Link, u16> {
 }
 
 /// For each link with an at least, the largest.
-fn largest_at_least(place: &Place) -> BTreeMap<Link, u16> {
+pub(crate) fn largest_at_least(place: &Place) -> BTreeMap<Link, u16> {
     let mut largest: BTreeMap<Link, u16> = BTreeMap::new();
     for fact in &place.facts {
         if let Fact::AtLeast(link, n) = *fact {

@@ -210,7 +210,7 @@ pub fn against_drawn_records(pairs: &[u8], size: Size) {
 }
 
 /// D made from parts of C, so that long ways hold before something fails.
-fn weakened(chance: &mut Chance, c: &[Entry]) -> Vec<Entry> {
+pub fn weakened(chance: &mut Chance, c: &[Entry]) -> Vec<Entry> {
     let strong = 1 + chance.below(30);
     c.iter()
         .map(|e| {

@@ -112,7 +112,7 @@ pub fn compared_texts(c: &str, d: &str) -> Answer {
 
 /// Reads `count` entries out of an output, and checks that the output starts
 /// with exactly the blocks of these.
-fn written_entries(out: &[u8], count: usize) -> Vec<Entry> {
+pub fn written_entries(out: &[u8], count: usize) -> Vec<Entry> {
     let blocks = count.div_ceil(63).max(1);
     let written = &out[..blocks * 512];
     let entries = reference::decode(written);
