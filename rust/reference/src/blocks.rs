@@ -4,9 +4,6 @@ use crate::refusal::{Refusal, CHECK, FRAME, LENGTH};
 
 /// "Input comes in blocks of 512 bytes".
 pub(crate) const BLOCK_BYTES: usize = 512;
-/// "Bytes 4-507: 63 entries of 8 bytes."
-const BLOCK_ENTRIES: usize = 63;
-const ENTRY_BYTES: usize = 8;
 const NUMBER_AT: usize = 0;
 const USED_AT: usize = 2;
 const ENTRIES_AT: usize = 4;
@@ -14,6 +11,24 @@ const ENTRIES_AT: usize = 4;
 const SECOND_AT: usize = 508;
 /// "Bytes 510-511: the check."
 const CHECK_AT: usize = 510;
+
+/// A form of the entries in a block. Frame and checks are the same in each.
+#[derive(Clone, Copy, Debug)]
+pub(crate) struct Form {
+    entry_bytes: usize,
+    block_entries: usize,
+}
+
+/// "Bytes 4-507: 63 entries of 8 bytes."
+pub(crate) const OWNING: Form = Form {
+    entry_bytes: 8,
+    block_entries: 63,
+};
+/// The stored form: shorter entries, which have a depth and no owner.
+pub(crate) const WALKING: Form = Form {
+    entry_bytes: 6,
+    block_entries: 84,
+};
 
 /// "Entry: kind (1 byte), zero (1 byte), owner, name, number (2 bytes each)."
 #[derive(Clone, Copy, Debug, Default, PartialEq, Eq)]
@@ -53,7 +68,8 @@ impl Entry {
     }
 }
 
-fn byte(bytes: &[u8], at: usize) -> u8 {
+/// A byte; one that is not there reads as 0.
+pub(crate) fn byte(bytes: &[u8], at: usize) -> u8 {
     bytes.get(at).copied().unwrap_or(0)
 }
 
@@ -94,20 +110,22 @@ pub(crate) fn stored_number(block: &[u8]) -> u16 {
 /// For other bytes: of each whole block as many entries as its used count
 /// says, at most 63; a part of a block at the end is passed over.
 pub fn decode(bytes: &[u8]) -> Vec<Entry> {
-    bytes
-        .chunks_exact(BLOCK_BYTES)
-        .flat_map(used_entries)
-        .collect()
+    rows_in(bytes, OWNING).map(Entry::from_bytes).collect()
 }
 
-fn used_entries(block: &[u8]) -> Vec<Entry> {
+/// The bytes of each used entry of this form, in order, as in `decode`.
+pub(crate) fn rows_in(bytes: &[u8], form: Form) -> impl Iterator<Item = &[u8]> {
+    bytes
+        .chunks_exact(BLOCK_BYTES)
+        .flat_map(move |block| used_rows(block, form))
+}
+
+fn used_rows(block: &[u8], form: Form) -> impl Iterator<Item = &[u8]> {
     block
         .get(ENTRIES_AT..SECOND_AT)
         .unwrap_or(&[])
-        .chunks_exact(ENTRY_BYTES)
+        .chunks_exact(form.entry_bytes)
         .take(usize::from(word(block, USED_AT)))
-        .map(Entry::from_bytes)
-        .collect()
 }
 
 /// The entries as blocks.
@@ -115,11 +133,16 @@ fn used_entries(block: &[u8]) -> Vec<Entry> {
 /// "Each block but the last uses 63 entries; the last uses 1 to 63, or 0 if
 /// it is the only block."
 pub fn encode(entries: &[Entry]) -> Vec<u8> {
-    if entries.is_empty() {
+    let rows: Vec<Vec<u8>> = entries.iter().map(|entry| entry.to_bytes()).collect();
+    in_blocks(&rows, OWNING)
+}
+
+/// The bytes of each entry of this form, as blocks.
+pub(crate) fn in_blocks(rows: &[Vec<u8>], form: Form) -> Vec<u8> {
+    if rows.is_empty() {
         return one_block(1, &[]);
     }
-    entries
-        .chunks(BLOCK_ENTRIES)
+    rows.chunks(form.block_entries)
         .enumerate()
         .flat_map(|(index, used)| one_block(low_word(index.saturating_add(1)), used))
         .collect()
@@ -130,13 +153,14 @@ fn low_word(number: usize) -> u16 {
     u16::try_from(number & 0xffff).unwrap_or(0)
 }
 
-/// One block with this number and these entries, at most 63.
-fn one_block(number: u16, entries: &[Entry]) -> Vec<u8> {
+/// One block with this number and these entries, which are no more than it
+/// has room for.
+fn one_block(number: u16, rows: &[Vec<u8>]) -> Vec<u8> {
     let mut block = Vec::with_capacity(BLOCK_BYTES);
     block.extend(number.to_le_bytes());
-    block.extend(low_word(entries.len()).to_le_bytes());
-    for entry in entries {
-        block.extend(entry.to_bytes());
+    block.extend(low_word(rows.len()).to_le_bytes());
+    for row in rows {
+        block.extend(row);
     }
     // "Unused entry bytes are zero."
     block.resize(SECOND_AT, 0);
@@ -155,9 +179,13 @@ pub(crate) fn length_in_blocks(entries: &[Entry]) -> usize {
 /// Writes the entries as blocks from the start of the output; later bytes
 /// stay. An output that is too short stays as it is.
 pub(crate) fn write(entries: &[Entry], out: &mut [u8]) {
-    let blocks = encode(entries);
+    write_blocks(&encode(entries), out);
+}
+
+/// As `write`, for blocks.
+pub(crate) fn write_blocks(blocks: &[u8], out: &mut [u8]) {
     if let Some(start) = out.get_mut(..blocks.len()) {
-        start.copy_from_slice(&blocks);
+        start.copy_from_slice(blocks);
     }
 }
 
@@ -173,14 +201,14 @@ pub(crate) fn check_length(bytes: &[u8], most_blocks: usize, input: u16) -> Resu
 
 /// Refusals 2 and 3: "the lowest block that breaks 2 or 3 decides, 2 before
 /// 3".
-pub(crate) fn check_blocks(bytes: &[u8], input: u16) -> Result<(), Refusal> {
+pub(crate) fn check_blocks(bytes: &[u8], form: Form, input: u16) -> Result<(), Refusal> {
     let total = bytes.len() / BLOCK_BYTES;
     for (index, block) in bytes.chunks_exact(BLOCK_BYTES).enumerate() {
         let position = index.saturating_add(1);
         if !checks_are_right(block) {
             return Err(Refusal::at(CHECK, input, position));
         }
-        if !frame_is_right(block, position, total) {
+        if !frame_is_right(block, position, total, form) {
             return Err(Refusal::at(FRAME, input, position));
         }
     }
@@ -193,26 +221,28 @@ fn checks_are_right(block: &[u8]) -> bool {
 }
 
 /// Number, used count and the bytes due to be zero.
-fn frame_is_right(block: &[u8], position: usize, total: usize) -> bool {
+fn frame_is_right(block: &[u8], position: usize, total: usize, form: Form) -> bool {
     // "Bytes 0-1: block number, from 1 upward by 1."
     let number_right = usize::from(stored_number(block)) == position;
     let used = usize::from(word(block, USED_AT));
-    number_right && used_is_right(used, position, total) && zeros_are_right(block, used)
+    let unused_at = ENTRIES_AT.saturating_add(used.saturating_mul(form.entry_bytes));
+    number_right
+        && used_is_right(used, position, total, form.block_entries)
+        && zeros_are_right(block, unused_at)
 }
 
 /// "Each block but the last uses 63 entries; the last uses 1 to 63, or 0 if
 /// it is the only block."
-fn used_is_right(used: usize, position: usize, total: usize) -> bool {
+fn used_is_right(used: usize, position: usize, total: usize, most: usize) -> bool {
     if position < total {
-        return used == BLOCK_ENTRIES;
+        return used == most;
     }
     let fewest = if total == 1 { 0 } else { 1 };
-    (fewest..=BLOCK_ENTRIES).contains(&used)
+    (fewest..=most).contains(&used)
 }
 
 /// "Unused entry bytes are zero."
-fn zeros_are_right(block: &[u8], used: usize) -> bool {
-    let unused_at = ENTRIES_AT.saturating_add(used.saturating_mul(ENTRY_BYTES));
+fn zeros_are_right(block: &[u8], unused_at: usize) -> bool {
     block
         .iter()
         .take(SECOND_AT)

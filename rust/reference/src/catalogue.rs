@@ -3,7 +3,6 @@
 use crate::background::Background;
 use crate::blocks::Entry;
 use crate::compare::first_that_fails;
-use crate::dictionary::Dictionary;
 use crate::list::cut;
 use crate::refusal::{Refusal, LENGTH};
 use crate::rules::normal_place;
@@ -34,7 +33,9 @@ pub fn catalogue(
 ) -> Result<usize, Refusal> {
     let Background { pairs, dictionary } = Background::read(pairs, dict)?;
     let c_entries = dictionary.read_description(c, SUPPLIER)?;
-    let services = read_services(list, &dictionary)?;
+    let services = read_services(list, |service, input| {
+        dictionary.read_description(service, input)
+    })?;
     let Some(answers) = out.get_mut(..services.len()) else {
         return Err(Refusal::output_too_short());
     };
@@ -48,20 +49,23 @@ pub fn catalogue(
     Ok(services.len())
 }
 
-/// The services of an accepted list, each unfolded.
+/// The services of an accepted list, each as it is read by itself.
 ///
 /// 1 "for a list of length 0 or no multiple of 512", then 8, both "before the
 /// services' own" checks. Then each service in full, 14 included, before the
 /// next is looked at: "Inside the list the input number is 1 plus the service's
 /// position."
-fn read_services(list: &[u8], dictionary: &Dictionary) -> Result<Vec<Vec<Entry>>, Refusal> {
+pub(crate) fn read_services(
+    list: &[u8],
+    read: impl Fn(&[u8], u16) -> Result<Vec<Entry>, Refusal>,
+) -> Result<Vec<Vec<Entry>>, Refusal> {
     if list.is_empty() {
         return Err(Refusal::at(LENGTH, LIST, 0));
     }
     let mut services = Vec::new();
     // Position 1 is input 2, which is also that of the list.
     for (input, service) in (LIST..).zip(cut(list, LIST)?) {
-        services.push(dictionary.read_description(service, input)?);
+        services.push(read(service, input)?);
     }
     Ok(services)
 }

@@ -1,7 +1,8 @@
 //! Reading of descriptions and specimens: refusals 1 to 6, 9 and 13.
 
-use crate::blocks::{check_blocks, check_length, decode, Entry};
-use crate::refusal::{Refusal, DEPTH, ENTRY, NAME, OWNER, SECOND_ITEM};
+use crate::blocks::{check_blocks, check_length, decode, Entry, OWNING};
+use crate::refusal::{Refusal, DEPTH, ENTRY, NAME, OWNER, PROFILE, SECOND_ITEM};
+use crate::sheet::within_profile;
 use crate::tree::Link;
 
 /// "An entry's depth is the number of entries in its chain of owners, at
@@ -14,6 +15,9 @@ pub(crate) const MOST_ENTRIES: usize = 1008;
 /// The most blocks of a description.
 pub(crate) const MOST_DESCRIPTION_BLOCKS: usize = 16;
 
+/// The most blocks of a specimen or of a delivered record.
+pub(crate) const MOST_SPECIMEN_BLOCKS: usize = 32;
+
 /// The sorts of input.
 #[derive(Clone, Copy, Debug, PartialEq, Eq)]
 pub(crate) enum Sort {
@@ -22,6 +26,8 @@ pub(crate) enum Sort {
     /// A description that may name the descriptions of a dictionary, from the
     /// first up to the one with this number; 0 if there is none to be named.
     Naming(usize),
+    /// A description that is to be a field sheet.
+    Sheet,
     Specimen,
 }
 
@@ -30,8 +36,8 @@ impl Sort {
     /// (2,016)."
     fn most_blocks(self) -> usize {
         match self {
-            Sort::Description | Sort::Naming(_) => MOST_DESCRIPTION_BLOCKS,
-            Sort::Specimen => 32,
+            Sort::Description | Sort::Naming(_) | Sort::Sheet => MOST_DESCRIPTION_BLOCKS,
+            Sort::Specimen => MOST_SPECIMEN_BLOCKS,
         }
     }
 
@@ -39,7 +45,7 @@ impl Sort {
     /// (specimen)"
     fn owner_kind(self) -> u8 {
         match self {
-            Sort::Description | Sort::Naming(_) => 5,
+            Sort::Description | Sort::Naming(_) | Sort::Sheet => 5,
             Sort::Specimen => 7,
         }
     }
@@ -48,7 +54,7 @@ impl Sort {
     /// descriptions use "kind 9" too.
     fn uses(self, kind: u8) -> bool {
         match self {
-            Sort::Description => (1..=6).contains(&kind),
+            Sort::Description | Sort::Sheet => (1..=6).contains(&kind),
             Sort::Naming(_) => (1..=6).contains(&kind) || kind == 9,
             Sort::Specimen => kind == 1 || kind == 7,
         }
@@ -59,7 +65,7 @@ impl Sort {
     fn knows(self, name: u16) -> bool {
         match self {
             Sort::Naming(most) => (1..=most).contains(&usize::from(name)),
-            Sort::Description | Sort::Specimen => false,
+            Sort::Description | Sort::Sheet | Sort::Specimen => false,
         }
     }
 }
@@ -82,7 +88,7 @@ pub fn read_specimen(bytes: &[u8]) -> Result<usize, Refusal> {
 /// Requests add 9, "after 6 at the same entry", and 13, "at its entry after 4".
 pub(crate) fn read(bytes: &[u8], sort: Sort, input: u16) -> Result<Vec<Entry>, Refusal> {
     check_length(bytes, sort.most_blocks(), input)?;
-    check_blocks(bytes, input)?;
+    check_blocks(bytes, OWNING, input)?;
     let entries = decode(bytes);
     check_entries(&entries, sort, input)?;
     Ok(entries)
@@ -90,16 +96,18 @@ pub(crate) fn read(bytes: &[u8], sort: Sort, input: u16) -> Result<Vec<Entry>, R
 
 /// "the lowest entry that breaks 4, 5 or 6, in that order", or 13 after 4, or 9
 /// after them
-fn check_entries(entries: &[Entry], sort: Sort, input: u16) -> Result<(), Refusal> {
+pub(crate) fn check_entries(entries: &[Entry], sort: Sort, input: u16) -> Result<(), Refusal> {
     let mut earlier: Vec<(Entry, usize)> = Vec::new();
     for entry in entries {
         let place = earlier.len().saturating_add(1);
-        match depth(entry, &earlier, sort) {
-            Ok(depth) => earlier.push((*entry, depth)),
-            Err(number) => return Err(Refusal::at(number, input, place)),
-        }
+        let depth =
+            depth(entry, &earlier, sort).map_err(|number| Refusal::at(number, input, place))?;
+        earlier.push((*entry, depth));
         if brings_a_second_item(entry, &earlier) {
             return Err(Refusal::at(SECOND_ITEM, input, place));
+        }
+        if sort == Sort::Sheet && !within_profile(entry, depth) {
+            return Err(Refusal::at(PROFILE, input, place));
         }
     }
     Ok(())
@@ -161,6 +169,12 @@ fn owner_of(entry: &Entry, earlier: &[(Entry, usize)]) -> Owner {
         Some(&(owner, depth)) => Owner::Entry(owner, depth),
         None => Owner::NotEarlier,
     }
+}
+
+/// Whether an entry has a kind that a description may have without a
+/// dictionary, and the name and number of that kind.
+pub(crate) fn is_of_a_description(entry: &Entry) -> bool {
+    Sort::Description.uses(entry.kind) && within_table(entry)
 }
 
 /// The columns Name and Number of the table of kinds; of "entry kind 9 with

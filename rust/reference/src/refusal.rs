@@ -40,6 +40,9 @@ pub(crate) const OUTPUT: u8 = 7;
 pub(crate) const TOO_MANY: u8 = 8;
 /// "a specimen group that brings its owner above one item by such a link"
 pub(crate) const SECOND_ITEM: u8 = 9;
+/// The total of a delivered record is 0 or above 256, or an entry of it names
+/// an item 0 or above the total.
+pub(crate) const ITEM: u8 = 10;
 /// "length no multiple of 4 or over 64 pairs [...] pair with 0 or two equal
 /// numbers"
 pub(crate) const PAIRS: u8 = 11;
@@ -50,6 +53,16 @@ pub(crate) const NAME: u8 = 13;
 /// "a description, in the dictionary or not, of more than 1,008 entries or
 /// depth over 32 once unfolded"
 pub(crate) const UNFOLDED: u8 = 14;
+/// An entry of the stored form with a depth that no owner gives it.
+pub(crate) const WALK: u8 = 15;
+/// Adding to a desk of 1,008 entries.
+pub(crate) const FULL: u8 = 16;
+/// Taking off from a desk of none.
+pub(crate) const NONE_LEFT: u8 = 17;
+/// A stand of number 0, one that the desk doesn't have, or a fifth.
+pub(crate) const STAND: u8 = 18;
+/// An entry that no field sheet has.
+pub(crate) const PROFILE: u8 = 19;
 
 impl Refusal {
     /// The refusal with this number at this place of this input.
