@@ -5,7 +5,7 @@ ghost use Rattle.std.specs.Prelude.{◌≡◌, List, ℕ, ◌+◌, ◌*◌, ◌�
 ghost use Rattle.meaning.specs.Description.{atom_of};
 ghost use Rattle.logic.specs.Witness.{target_links, target_properties, want};
 ghost use Rattle.compare.specs.code.Codes.{target_at, target_below, up_from};
-ghost use Rattle.compare.specs.code.Asked.{One, code_asked, least_asked, link_in, names_in, of_link, property_in};
+ghost use Rattle.compare.specs.code.Asked.{One, code_asked, least_asked, link_in, of_link, property_in};
 
 use crate::items::Items;
 use crate::path::Path;
@@ -55,20 +55,6 @@ impl Path {
             code: 0,
         })
     }
-}
-
-// The name of the property that is asked for.
-pub(crate) fn property_name(asked: Option<Property>) -> Option<u16>
-    ensures { names_in result ≡ property_in asked }
-{
-    asked.map(|p| p.0)
-}
-
-// The name of the link of which items are asked for.
-pub(crate) fn link_name(asked: Option<Items>) -> Option<u16>
-    ensures { names_in result ≡ link_in asked }
-{
-    asked.map(|items| items.link.0)
 }
 
 // The items that are asked for, if they are of this link.

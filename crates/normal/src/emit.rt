@@ -173,7 +173,7 @@ fn push_every(
 // Pushes the entries of the properties of place v, kind by kind.
 fn push_properties(
     owner: u16,
-    v: usize,
+    v: u16,
     slots: &Slots,
     order: &mut [u64],
     rows: &mut [u64],
@@ -183,7 +183,7 @@ fn push_properties(
         × (count + length (property_rows owner (cells_of slots.now v)) ≤ length rows.old) }
     ensures { Pushed (length rows.old) rows.old count (property_rows owner (cells_of slots.now v)) rows.new result }
 {
-    let n = slots.class_run(2 * v, order);
+    let n = slots.property_run(v, order);
     let run = &order[..n];
     let k = push_kind(AtomKind::Has, owner, run, slots.table, rows, count);
     push_kind(AtomKind::Lacks, owner, run, slots.table, rows, k)
@@ -192,7 +192,7 @@ fn push_properties(
 // Pushes those of its links, and notes the slots that the 'every' entries lead to.
 fn push_links(
     owner: u16,
-    v: usize,
+    v: u16,
     slots: &Slots,
     order: &mut [u64],
     rows: &mut [u64],
@@ -206,7 +206,7 @@ fn push_links(
         below.old (count + length (bound_rows owner (cells_of slots.now v)) + 1)
         (every_slots (kept_by slots.now) (cells_of slots.now v)) rows.new result below.new }
 {
-    let n = slots.class_run(2 * v + 1, order);
+    let n = slots.link_run(v, order);
     let run = &order[..n];
     let k = push_kind(AtomKind::AtLeast, owner, run, slots.table, rows, count);
     let m = push_kind(AtomKind::AtMost, owner, run, slots.table, rows, k);
@@ -216,7 +216,7 @@ fn push_links(
 // Pushes all entries of place v, kind by kind.
 pub(crate) fn push_place(
     owner: u16,
-    v: usize,
+    v: u16,
     slots: &Slots,
     order: &mut [u64],
     rows: &mut [u64],

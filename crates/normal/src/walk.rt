@@ -22,7 +22,7 @@ fn push_below(
         × (get_or below.old k 0 ≢ 0 → count + length (place_rows (kept_by slots.now) k (cells_of slots.now (get_or below.old k 0))) ≤ length rows.old) }
     ensures { Stepped (kept_by slots.now) (cells_of slots.now) k rows.old count below.old rows.new result below.new }
 {
-    let s = usize::from(below[k]);
+    let s = below[k];
     if s == 0 {
         return count;
     }

@@ -12,4 +12,4 @@ mod walks;
 
 pub use chains::chain_slots;
 pub use tags::{tag_name, tag_slot};
-pub use walks::{gather, slot_named};
+pub use walks::{gather_links, gather_properties, link_slot, property_slot};

@@ -1,12 +1,13 @@
 // Walks along the chain of a run, from its last slot to its first. One look before a walk tells that no table ends before the first slot on
 // it; each slot after that is of a lower number, or the walk ends.
-ghost use Rattle.std.specs.Prelude.{◌≡◌, ◌-◌, ◌<◌, ◌≤◌, ℕ, List, length};
+ghost use Rattle.std.specs.Prelude.{◌≡◌, ◌*◌, ◌+◌, ◌-◌, ◌<◌, ◌≤◌, ℕ, List, length};
 ghost use Rattle.std.specs.Iterator.{item_count, YieldsFirst};
 ghost use Rattle.base.specs.Stores.{stored};
 ghost use Rattle.runs.specs.code.Walked.{Starting, TagPushed, chain_down, gathered, named};
 
 use crate::chains::link_at;
 use crate::tags::{name_in, tag_of};
+use blocks::{Link, Property};
 use slots::low_in;
 use std::marker::Model;
 
@@ -74,7 +75,7 @@ fn push_tag(x: u64, s: u16, low: u64, order: &mut [u64], n: usize) -> usize
 
 // Gathers the tags of the slots of a run that say at least `low`, the last slot first. Returns how many there are. Nothing is gathered where
 // there might not be room: as many tags as the last slot's number always have it. The tables are slices, as at `chain_start`.
-pub fn gather(
+fn gather(
     table: &[u64],
     last: &[u16],
     before: &[u16],
@@ -103,7 +104,7 @@ pub fn gather(
 
 // The slot of a run that has a name, or 0. That is no slot, and every table reads as empty there, so that a caller needs no case for it.
 // The tables are slices, as at `chain_start`.
-pub fn slot_named(table: &[u64], last: &[u16], before: &[u16], run: usize, name: u16) -> usize
+fn slot_named(table: &[u64], last: &[u16], before: &[u16], run: usize, name: u16) -> usize
     ensures { result ≡ named table.now last.now before.now run name }
 {
     let first = chain_start(table, last, before, run);
@@ -119,4 +120,49 @@ pub fn slot_named(table: &[u64], last: &[u16], before: &[u16], run: usize, name:
         }
     }
     0
+}
+
+/// Gathers the tags of the properties of place v that say at least `low`, the last slot first, into `order` from its start, and returns how many
+/// there are; later numbers stay. Nothing is gathered where there might not be room: as many tags as there are slots always have it.
+pub fn gather_properties(
+    table: &[u64],
+    last: &[u16],
+    before: &[u16],
+    v: u16,
+    low: u64,
+    order: &mut [u64],
+) -> usize
+    ensures { (result ≡ length (gathered table.now last.now before.now (2 * v) low (length order.old)))
+        × (order.new ≡ stored order.old 0 (gathered table.now last.now before.now (2 * v) low (length order.old))) }
+{
+    gather(table, last, before, 2 * usize::from(v), low, order)
+}
+
+/// The same for the links of place v.
+pub fn gather_links(
+    table: &[u64],
+    last: &[u16],
+    before: &[u16],
+    v: u16,
+    low: u64,
+    order: &mut [u64],
+) -> usize
+    ensures { (result ≡ length (gathered table.now last.now before.now (2 * v + 1) low (length order.old)))
+        × (order.new ≡ stored order.old 0 (gathered table.now last.now before.now (2 * v + 1) low (length order.old))) }
+{
+    gather(table, last, before, 2 * usize::from(v) + 1, low, order)
+}
+
+/// The slot of a property of place v, or 0, which is no slot and reads as empty in every table. Only its type says in which run a name is looked for.
+pub fn property_slot(table: &[u64], last: &[u16], before: &[u16], v: u16, p: Property) -> usize
+    ensures { result ≡ named table.now last.now before.now (2 * v) p.0 }
+{
+    slot_named(table, last, before, 2 * usize::from(v), p.0)
+}
+
+/// The slot of a link of place v, or 0.
+pub fn link_slot(table: &[u64], last: &[u16], before: &[u16], v: u16, l: Link) -> usize
+    ensures { result ≡ named table.now last.now before.now (2 * v + 1) l.0 }
+{
+    slot_named(table, last, before, 2 * usize::from(v) + 1, l.0)
 }

@@ -16,7 +16,7 @@ use Rattle.base.proofs.Split.{place_of, row_of}
 use Rattle.base.proofs.Tests.{bool_cases, eq-cases, eq-eqb, eqb-eq, ne_eqb, tests}
 use Rattle.base.specs.Range.{bit}
 use Rattle.compare.proofs.places.TagRuns.{Tag, member_of, of-member, run-sorted}
-use Rattle.compare.specs.code.Tags.{Run, extra_tag, tag_name, tag_slot}
+use Rattle.compare.specs.code.Tags.{Run, extra_tag, tag_name, tag_slot, tag_unless}
 use Rattle.logic.specs.Normal.{find, found}
 use Rattle.logic.specs.Place.{Kind, has, least}
 use Rattle.logic.specs.Witness.{member}
@@ -138,14 +138,14 @@ module _ {t : List ℕ} (S : Stood t) (v : ℕ) (b : Bool) where
     extra-tag = record { slot = extra-slot ∙ ap (slot_by t v b) (sym extra-name); small = rw extra-name small }
 
     asked-tag : (x : ℕ) → Memᴰ x (listed_tags ++ extra_tag t v b p) → Tag t v b x
-    unfolding extra_tag
+    unfolding tag_unless
     asked-tag x m =
         bool_cases (eqb (least_in t (slot_by t v b p)) 0)
         (λ q. ⊎_elim (λ i. listed-tag x i) (λ i. let e : x ≡ 1024 * p + slot_by t v b p = Memᴰ.eq_of_singleton i in rw e extra-tag) (Memᴰ.append_cases listed_tags (rw q at m)))
         (λ q. listed-tag x (rw (q, append-nil listed_tags) at m))
 
     asked-different : Different (listed_tags ++ extra_tag t v b p)
-    unfolding extra_tag
+    unfolding tag_unless
     asked-different =
         bool_cases (eqb (least_in t (slot_by t v b p)) 0)
         (λ q. rw q (one_more listed_tags (1024 * p + slot_by t v b p) tags-different
@@ -153,7 +153,7 @@ module _ {t : List ℕ} (S : Stood t) (v : ℕ) (b : Bool) where
         (λ q. rw (q, append-nil) tags-different)
 
     asked-names : (n : ℕ) → member n (map tag_name (listed_tags ++ extra_tag t v b p)) ≡ (not (eqb (least_in t (slot_by t v b n)) 0) || member n (p ∷ []))
-    unfolding extra_tag member
+    unfolding tag_unless member
     asked-names n =
         bool_cases (eqb (least_in t (slot_by t v b p)) 0)
         (λ q. rw (q, map-append, member-append, listed-names n, extra-name))

@@ -1,18 +1,19 @@
 -- What walks along the chains of runs find, in a table of settled slots: the tags of the slots that say at least 1, and the slot of a name.
 -- Assumes nothing.
-use Prim.Native.Nat.{◌%◌, ◌*◌, ◌+◌, ◌/◌, ◌<◌, ◌≤◌, ℕ}
-use lib.Dec.{eqb, leb, ltb}
+use Prim.Native.Nat.{◌*◌, ◌+◌, ◌<◌, ◌≤◌, ℕ}
+use lib.Dec.{leb, ltb}
 use lib.ListN.{get_or-eq_default, get_or, length, set}
 use mathlib.Core.Bool.{Bool, ◌&&◌}
 use mathlib.Core.List.{List, Memᴰ, [], ◌∷◌}
 use mathlib.Core.Logic.{◌≢◌}
 use mathlib.Core.Path.{◌∙◌, ◌≡◌, ap, refl, sym}
 use native.Mathlib.Omega.{arith}
-use Rattle.base.proofs.Tests.{bool_cases, eq-cases, eq-eqb, lt-cases, ne_eqb, tests}
+use Rattle.base.proofs.Tests.{bool_cases, eq-cases, eq-eqb, lt-cases, ne_eqb}
 use Rattle.base.specs.Chain.{last_where}
 use Rattle.base.specs.Range.{bit}
 use Rattle.compare.proofs.places.RunLaws.{listed_tags}
-use Rattle.compare.specs.code.Tags.{extra_tag}
+use Rattle.compare.proofs.specimen.SpecimenPlaces.{slot-within}
+use Rattle.compare.specs.code.Tags.{tag_unless}
 use Rattle.normal.specs.code.ClassRuns.{Chained}
 use Rattle.logic.proofs.TreeRows.FillLaws.{filled_none, filled-one}
 use Rattle.logic.specs.Filling.{Filled}
@@ -30,10 +31,6 @@ use Rattle.slots.specs.code.Tables.{key_in}
 none-empty : (l : List ℕ) → ((x : ℕ) → Memᴰ x l → ⊥) → l ≡ []
 none-empty [] f = refl
 none-empty (x ∷ l) f = absurd (f x (Memᴰ.head refl))
-
--- the place and the class of a run
-pub run-parts : (r : ℕ) → r ≡ 2 * (r / 2) + bit (eqb (r % 2) 1)
-run-parts r = bool_cases (eqb (r % 2) 1) (λ q. rw q (omega tests)) (λ q. rw q (omega tests))
 
 -- past the end of the table of last slots no chain begins
 start-past : (t last before : List ℕ) (r : ℕ) → length last ≤ r → chain_start t last before r ≡ 0
@@ -73,7 +70,7 @@ module _ {t last before : List ℕ} (S : Stood t) (C : Chained t last before) wh
       (λ h. gathered-past room h ∙ sym (tags-past h))
 
   -- the slot of a name, in any run
-  pub named-slot : (v : ℕ) (b : Bool) {n : ℕ} → n < 65536 → named t last before (2 * v + bit b) n ≡ slot_by t v b n
+  named-slot : (v : ℕ) (b : Bool) {n : ℕ} → n < 65536 → named t last before (2 * v + bit b) n ≡ slot_by t v b n
   unfolding key_number named chain_down first_named
   named-slot v b {n} small =
       let r : ℕ = 2 * v + bit b in
@@ -91,24 +88,21 @@ module _ {t last before : List ℕ} (S : Stood t) (C : Chained t last before) wh
       let run : run_at t (slot_by t v b n) ≡ r = omega (arith, k.1, k.2) in
       absurd (omega (arith, run, h, in_lasts (omega arith) k.0)))))
 
-  -- in either case a slot of the table
-  pub named-within : (r : ℕ) {n : ℕ} → n < 65536 → named t last before r n ≤ used_in t
-  named-within r {n} small =
-      let v : ℕ = r / 2 in
-      let b : Bool = eqb (r % 2) 1 in
-      let e : named t last before r n ≡ slot_by t v b n = ap (λ (k : ℕ). named t last before k n) (run-parts r) ∙ named-slot v b small in
-      rw e (eq-cases (slot_by t v b n) 0 (λ z. omega arith) (λ z. (slot-key t (used_in t) S.apart v b n z).0))
+  -- what a look-up finds is the slot of the name, which is one of the table, or 0
+  module _ (v : ℕ) (b : Bool) {r x s : ℕ} (e : r ≡ 2 * v + bit b) (small : x < 65536) (found : s ≡ named t last before r x) where
+    pub slot-found : s ≡ slot_by t v b x
+    slot-found = found ∙ ap (λ (k : ℕ). named t last before k x) e ∙ named-slot v b small
 
-  -- a name that is asked for: a slot asks for it, or its tag is added
-  module _ {r : ℕ} (v : ℕ) (b : Bool) (e : r ≡ 2 * v + bit b) {x s lo : ℕ} (small : x < 65536) (found : s ≡ named t last before r x) (is : lo ≡ least_in t s)
-      (order : List ℕ) (n : ℕ) where
-    slot_is : s ≡ slot_by t v b x
-    slot_is = found ∙ ap (λ (k : ℕ). named t last before k x) e ∙ named-slot v b small
+    pub found-within : s < length t
+    found-within = omega (arith, slot-found, slot-within S v b x, S.some')
 
-    pub name-there : lo ≢ 0 → Filled (length order) order n (extra_tag t v b x) order n
-    unfolding extra_tag
-    name-there z = rw (← slot_is, ← is, ne_eqb z) (filled_none refl)
+-- ---- a name that is asked for, of slot s: that slot asks for it, or its tag is added
 
-    pub name-added : {y : ℕ} → lo ≡ 0 → y ≡ 1024 * x + s → n < length order → Filled (length order) order n (extra_tag t v b x) (set order n y) (n + 1)
-    unfolding extra_tag
-    name-added z q h = rw (← slot_is, ← is, eq-eqb z) (filled-one refl h q)
+module _ (t : List ℕ) (s : ℕ) {lo : ℕ} (is : lo ≡ least_in t s) (x : ℕ) (order : List ℕ) (n : ℕ) where
+  pub name-there : lo ≢ 0 → Filled (length order) order n (tag_unless t s x) order n
+  unfolding tag_unless
+  name-there z = rw (← is, ne_eqb z) (filled_none refl)
+
+  pub name-added : {y : ℕ} → lo ≡ 0 → y ≡ 1024 * x + s → n < length order → Filled (length order) order n (tag_unless t s x) (set order n y) (n + 1)
+  unfolding tag_unless
+  name-added z q h = rw (← is, eq-eqb z) (filled-one refl h q)

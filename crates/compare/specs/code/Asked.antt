@@ -4,11 +4,7 @@ use Rattle.std.specs.Prelude.{◌<◌, ℕ, eqb, cond, List, [], ◌∷◌, Opti
 use Rattle.blocks.specs.declared.Property.{Property}
 use Rattle.compare.specs.declared.items.Items.{Items}
 
--- none, or the one that is asked for: a name, a property, the link of items
-abbrev pub names_in : Option ℕ → List ℕ
-names_in None = []
-names_in (Some x) = x ∷ []
-
+-- none, or the one that is asked for: a property, the link of items
 abbrev pub property_in : Option Property → List ℕ
 property_in None = []
 property_in (Some p) = p.0 ∷ []

@@ -21,14 +21,14 @@ total s o v = omega (arith, length-append (bound_rows o (cells_of s v)) (every_r
 pub push_kind-k-requires : goal.push_kind-k-requires
 push_kind-k-requires c =
     let s = c.args.slots.now in
-    let O = c.class_run-n.ensures in
+    let O = c.link_run-n.ensures in
     let o = c.args.owner in
     (run-tagged s.runnable O, rw (kind-run s.table.now c.args.v O least o refl) (omega (arith, c.requires.3, total s o c.args.v)))
 
 pub push_kind-m-requires : goal.push_kind-m-requires
 push_kind-m-requires c =
     let s = c.args.slots.now in
-    let O = c.class_run-n.ensures in
+    let O = c.link_run-n.ensures in
     let o = c.args.owner in
     let e = rw (kind-run s.table.now c.args.v O least o refl) at c.push_kind-k.ensures in
     (run-tagged s.runnable O, rw (kind-run s.table.now c.args.v O most o refl) (omega (arith, c.requires.3, total s o c.args.v, e.size, pushed-total (kind_rows least o (cells_of s c.args.v)) e)))
@@ -36,7 +36,7 @@ push_kind-m-requires c =
 pub push_every-requires : goal.push_every-requires
 push_every-requires c =
     let s = c.args.slots.now in
-    let O = c.class_run-n.ensures in
+    let O = c.link_run-n.ensures in
     let o = c.args.owner in
     let v = c.args.v in
     let e = rw (kind-run s.table.now v O least o refl) at c.push_kind-k.ensures in
@@ -50,7 +50,7 @@ push_every-requires c =
 pub returns : goal.returns
 returns c =
     let s = c.args.slots.now in
-    let O = c.class_run-n.ensures in
+    let O = c.link_run-n.ensures in
     let o = c.args.owner in
     let t = s.table.now in
     let v = c.args.v in

@@ -10,14 +10,14 @@ use Rattle.normal.proofs.emit.push_properties.Goals as goal
 pub push_kind-k-requires : goal.push_kind-k-requires
 push_kind-k-requires c =
     let s = c.args.slots.now in
-    let O = c.class_run-n.ensures in
+    let O = c.property_run-n.ensures in
     let o = c.args.owner in
     (run-tagged s.runnable O, rw (kind-run s.table.now c.args.v O has o (omega arith)) (omega (arith, c.requires.2, property-length o (cells_of s c.args.v))))
 
 pub push_kind-requires : goal.push_kind-requires
 push_kind-requires c =
     let s = c.args.slots.now in
-    let O = c.class_run-n.ensures in
+    let O = c.property_run-n.ensures in
     let o = c.args.owner in
     let q = cells_of s c.args.v in
     let e = rw (kind-run s.table.now c.args.v O has o (omega arith)) at c.push_kind-k.ensures in
@@ -26,6 +26,6 @@ push_kind-requires c =
 pub returns : goal.returns
 returns c =
     let s = c.args.slots.now in
-    let O = c.class_run-n.ensures in
+    let O = c.property_run-n.ensures in
     let o = c.args.owner in
     properties-pushed o (cells_of s c.args.v) (rw (kind-run s.table.now c.args.v O has o (omega arith)) at c.push_kind-k.ensures) (rw (kind-run s.table.now c.args.v O lacks o (omega arith)) at c.push_kind.ensures)
