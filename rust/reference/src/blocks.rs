@@ -97,7 +97,11 @@ fn second_sum(block: &[u8]) -> u16 {
 
 /// The words of two bytes that stand before this byte of a block.
 fn words_before(block: &[u8], end: usize) -> impl Iterator<Item = u16> + '_ {
-    block.chunks(2).take(end / 2).map(|pair| word(pair, 0))
+    let before = block.get(..end).unwrap_or(block);
+    before.chunks_exact(2).map(|pair| match *pair {
+        [low, high] => u16::from_le_bytes([low, high]),
+        _ => 0,
+    })
 }
 
 /// The block number as stored in the block.
@@ -142,10 +146,12 @@ pub(crate) fn in_blocks(rows: &[Vec<u8>], form: Form) -> Vec<u8> {
     if rows.is_empty() {
         return one_block(1, &[]);
     }
-    rows.chunks(form.block_entries)
+    let blocks: Vec<Vec<u8>> = rows
+        .chunks(form.block_entries)
         .enumerate()
-        .flat_map(|(index, used)| one_block(low_word(index.saturating_add(1)), used))
-        .collect()
+        .map(|(index, used)| one_block(low_word(index.saturating_add(1)), used))
+        .collect();
+    blocks.concat()
 }
 
 /// The low 16 bits of a number.
@@ -173,7 +179,8 @@ fn one_block(number: u16, rows: &[Vec<u8>]) -> Vec<u8> {
 
 /// The number of bytes of the entries as blocks.
 pub(crate) fn length_in_blocks(entries: &[Entry]) -> usize {
-    encode(entries).len()
+    let blocks = entries.len().div_ceil(OWNING.block_entries).max(1);
+    blocks.saturating_mul(BLOCK_BYTES)
 }
 
 /// Writes the entries as blocks from the start of the output; later bytes
@@ -243,9 +250,6 @@ fn used_is_right(used: usize, position: usize, total: usize, most: usize) -> boo
 
 /// "Unused entry bytes are zero."
 fn zeros_are_right(block: &[u8], unused_at: usize) -> bool {
-    block
-        .iter()
-        .take(SECOND_AT)
-        .skip(unused_at)
-        .all(|&value| value == 0)
+    let unused = block.get(unused_at..SECOND_AT).unwrap_or(&[]);
+    unused.iter().all(|&value| value == 0)
 }

@@ -217,6 +217,61 @@ fn numbered_record(items: usize, properties: usize, links: &[Link], pattern: u32
     record
 }
 
+/// Of records of up to three items those in which links lead from item 0 to
+/// all others; of two that differ only in which item is 1 and which is 2, one.
+///
+/// What item 0 fits in another record, it fits in one of these or in one with
+/// fewer items.
+pub fn seen_from_item_0(records: Vec<Record>) -> Vec<Record> {
+    let mut kept = records;
+    kept.retain(|record| reaches_all(record) && is_first_of_two(record));
+    kept
+}
+
+fn reaches_all(record: &Record) -> bool {
+    let mut reached = vec![0];
+    for step in 0..record.items {
+        let Some(&from) = reached.get(step) else {
+            return false;
+        };
+        for &(_, to) in record
+            .links
+            .values()
+            .flatten()
+            .filter(|pair| pair.0 == from)
+        {
+            if !reached.contains(&to) {
+                reached.push(to);
+            }
+        }
+    }
+    true
+}
+
+/// Whether the record comes no later than with items 1 and 2 exchanged.
+fn is_first_of_two(record: &Record) -> bool {
+    let other = |item: usize| {
+        if item == 0 || record.items < 3 {
+            item
+        } else {
+            3 - item
+        }
+    };
+    let mut exchanged = Record::of_items(record.items);
+    for (&property, items) in &record.properties {
+        items
+            .iter()
+            .for_each(|&item| exchanged.add_property(property, other(item)));
+    }
+    for (&link, pairs) in &record.links {
+        for &(from, to) in pairs {
+            exchanged.add_link(link, other(from), other(to));
+        }
+    }
+    let key = |record: &Record| (record.properties.clone(), record.links.clone());
+    key(record) <= key(&exchanged)
+}
+
 /// The same entries in another order: a drawn order in which each owner is
 /// still earlier than what it owns.
 pub fn reordered(chance: &mut Chance, entries: &[Entry]) -> Vec<Entry> {

@@ -3,7 +3,9 @@
 use reference::record::{fits, specimen_record, Record};
 use reference::{encode, fit_with, Entry, Link};
 
-use crate::chance::{all_records, description, exact_description, keeping, record, Chance, Size};
+use crate::chance::{
+    all_records, description, exact_description, keeping, record, seen_from_item_0, Chance, Size,
+};
 use crate::notation::{compared, compared_under, entry, normal_under, Answer};
 
 /// A link that may lead to several items, and one that never leads to two.
@@ -32,16 +34,11 @@ const LARGE: Size = Size {
     number: 5,
 };
 
-/// All records of up to 3 items with 1 or 2 properties and this link that keep
-/// the rule.
+/// All records of up to 3 items with 2 properties and this link that keep the
+/// rule, as seen from item 0.
 fn every_small_record(link: u16) -> Vec<Record> {
-    let mut records = Vec::new();
-    for items in 1..=3 {
-        for properties in 1..=2 {
-            records.extend(all_records(items, properties, &[Link(link)]));
-        }
-    }
-    records
+    let of = |items| all_records(items, 2, &[Link(link)]);
+    seen_from_item_0((1..=3).flat_map(of).collect())
 }
 
 /// Whether item 0 fits, record by record, 64 to a word. The records are taken

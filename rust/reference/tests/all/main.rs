@@ -1,5 +1,6 @@
 //! Tests of the reference.
 
+mod anything;
 mod catalogue;
 mod chance;
 mod comparing;

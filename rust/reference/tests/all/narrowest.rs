@@ -5,7 +5,7 @@ use std::collections::BTreeMap;
 use reference::record::Record;
 use reference::{encode, narrowest, Entry, Link, Refusal};
 
-use crate::chance::{all_records, description, Chance, Size};
+use crate::chance::{all_records, description, seen_from_item_0, Chance, Size};
 use crate::comparing::{every_tiny_description, fitting_records, weakened};
 use crate::naming::{drawn, drawn_dictionary, refusal};
 use crate::normal::check_normal;
@@ -79,13 +79,13 @@ fn implied_lacks() {
 }
 
 /// All records of up to three items with properties up to this that keep the
-/// list of pairs.
+/// list of pairs, as seen from item 0.
 fn every_record(properties: usize, link: u16, pairs: &[u8]) -> Vec<Record> {
     let of = |items| all_records(items, properties, &[Link(link)]);
-    (1..=3)
+    let all = (1..=3)
         .flat_map(of)
-        .filter(|record| record.keeps_the_list(pairs))
-        .collect()
+        .filter(|record| record.keeps_the_list(pairs));
+    seen_from_item_0(all.collect())
 }
 
 /// Each item that fits the first fits the second.
