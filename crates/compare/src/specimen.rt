@@ -7,6 +7,7 @@ ghost use Rattle.compare.specs.code.Codes.{OnPath, Stepped, Writable, numbers_by
 use crate::path::Path;
 use crate::places::push_place;
 use crate::settled::Slots;
+use normal::Workspace;
 
 // Pushes the rows of the place below row i, where row i leads to one. A code of 0 is no place: no row leads to
 // the top, and `below` is cleared so; with an Option for each row it would be twice as long. Its tables stay parameters for the reason in rows.rt.
@@ -55,21 +56,20 @@ fn walk_rows(
     count
 }
 
-// The same, where the slots are first put on the chains of their places. The tables stay parameters: fields that are lent at once through a
-// `&mut Workspace`, some to be read and some to be written, get no proof.
-pub(crate) fn specimen_rows(
-    table: &[u64],
-    path: &Path,
-    last: &mut [u16],
-    before: &mut [u16],
-    order: &mut [u64],
-    rows: &mut [u64],
-    below: &mut [u16],
-) -> usize
-    requires { Stood table.now × Writable table.now path.now.links path.now.depth path.now.entry (length rows.old) × (last.old ≡ replicate (length last.old) 0) × (2 * length table.now ≤ length last.old) × (length table.now ≤ length before.old)
-        × (length table.now ≤ length order.old) × (below.old ≡ replicate (length rows.old + 1) 0) }
-    ensures { (result ≤ length rows.new) × (take result rows.new ≡ map specimen_number (write (tree_by table.now path.now.links path.now.depth path.now.entry 1024))) }
+// The same, where the slots are first put on the chains of their places. Each table of the workspace has a name first, as in tables.rt of crate normal.
+pub(crate) fn specimen_rows(table: &[u64], path: &Path, work: &mut Workspace) -> usize
+    requires { Stood table.now × Writable table.now path.now.links path.now.depth path.now.entry (length work.old.rows.now)
+        × (work.old.last.now ≡ replicate (length work.old.last.now) 0) × (2 * length table.now ≤ length work.old.last.now)
+        × (length table.now ≤ length work.old.before.now) × (length table.now ≤ length work.old.order.now)
+        × (work.old.below.now ≡ replicate (length work.old.rows.now + 1) 0) }
+    ensures { (result ≤ length work.new.rows.now) × (take result work.new.rows.now
+        ≡ map specimen_number (write (tree_by table.now path.now.links path.now.depth path.now.entry 1024))) }
 {
+    let last = &mut *work.last;
+    let before = &mut *work.before;
+    let order = &mut *work.order;
+    let rows = &mut *work.rows;
+    let below = &mut *work.below;
     runs::chain_slots(table, (table.len() - 1) as u16, last, before);
     let slots = Slots {
         table,

@@ -14,21 +14,15 @@ use blocks::{Cause, Refusal};
 use normal::Workspace;
 
 // Writes the specimen that the slots give for entry n of a description, in lent tables, and returns its number of entries.
-fn write_specimen(table: &[u64], d: &[u8], n: usize, work: Workspace, out: &mut [u8]) -> usize
-    requires { Showable table.now d.now n (length work.rows.now) out.old × (work.last.now ≡ replicate (length work.last.now) 0) × (2 * length table.now ≤ length work.last.now)
-        × (length table.now ≤ length work.before.now) × (length table.now ≤ length work.order.now) × (work.below.now ≡ replicate (length work.rows.now + 1) 0) }
+fn write_specimen(table: &[u64], d: &[u8], n: usize, work: &mut Workspace, out: &mut [u8]) -> usize
+    requires { Showable table.now d.now n (length work.old.rows.now) out.old × (work.old.last.now ≡ replicate (length work.old.last.now) 0)
+        × (2 * length table.now ≤ length work.old.last.now) × (length table.now ≤ length work.old.before.now)
+        × (length table.now ≤ length work.old.order.now) × (work.old.below.now ≡ replicate (length work.old.rows.now + 1) 0) }
     ensures { (result ≡ length (shown_by table.now d.now n)) × (result ≤ 2016) × (out.new ≡ shown_after table.now d.now n out.old) }
 {
-    let Workspace {
-        last,
-        before,
-        order,
-        rows,
-        below,
-    } = work;
     let path = Path::to(d, n);
-    let count = specimen_rows(table, &path, last, before, order, rows, below);
-    writing::write_entries(out, rows, count);
+    let count = specimen_rows(table, &path, work);
+    writing::write_entries(out, work.rows, count);
     count
 }
 
@@ -47,14 +41,14 @@ fn show_sized<const SLOTS: usize, const RUNS: usize, const ROWS: usize, const PL
     let mut order = [0u64; SLOTS];
     let mut rows = [0u64; ROWS];
     let mut below = [0u16; PLACES];
-    let work = Workspace {
+    let mut work = Workspace {
         last: &mut last,
         before: &mut before,
         order: &mut order,
         rows: &mut rows,
         below: &mut below,
     };
-    write_specimen(table, d, n, work, out)
+    write_specimen(table, d, n, &mut work, out)
 }
 
 // Whether two descriptions are of at most so many bytes each.

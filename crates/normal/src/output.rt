@@ -18,10 +18,10 @@ fn write_normal(
     table: &[u64],
     bad: &[u8],
     full: &[u8],
-    work: Workspace,
+    work: &mut Workspace,
     out: &mut [u8],
 ) -> Result<u16, Refusal>
-    requires { Stands d.now used table.now bad.now full.now × Roomy d.now table.now bad.now full.now work.last.now work.before.now work.order.now work.rows.now work.below.now }
+    requires { Stands d.now used table.now bad.now full.now × Roomy d.now table.now bad.now full.now work.old.last.now work.old.before.now work.old.order.now work.old.rows.now work.old.below.now }
     ensures { (b : Background) → LawfulBackground b → Standing b d.now used table.now bad.now full.now
         → (result ≡ normalise_under b d.now out.old) × (out.new ≡ normalised_under b d.now out.old) }
 {
@@ -32,24 +32,8 @@ fn write_normal(
             place: 0,
         });
     }
-    let Workspace {
-        last,
-        before,
-        order,
-        rows,
-        below,
-    } = work;
-    let count = normal_rows(
-        &table[..used + 1],
-        bad,
-        full,
-        last,
-        before,
-        order,
-        rows,
-        below,
-    );
-    writing::write_entries(out, rows, count);
+    let count = normal_rows(&table[..used + 1], bad, full, work);
+    writing::write_entries(out, work.rows, count);
     Ok(count as u16)
 }
 
@@ -61,10 +45,10 @@ fn normalise_in(
     table: &mut [u64],
     bad: &mut [u8],
     full: &mut [u8],
-    work: Workspace,
+    work: &mut Workspace,
     out: &mut [u8],
 ) -> Result<u16, Refusal>
-    requires { Roomy d.now table.old bad.old full.old work.last.now work.before.now work.order.now work.rows.now work.below.now }
+    requires { Roomy d.now table.old bad.old full.old work.old.last.now work.old.before.now work.old.order.now work.old.rows.now work.old.below.now }
     ensures { (result ≡ normalise_of pairs.now d.now out.old) × (out.new ≡ normalised_of pairs.now d.now out.old) }
 {
     let used = slots::fill(pairs, d, table, bad, full)?;
@@ -89,14 +73,14 @@ fn normalise_sized<const ROWS: usize, const SLOTS: usize, const RUNS: usize>(
     let mut order = [0u64; ROWS];
     let mut rows = [0u64; ROWS];
     let mut below = [0u16; SLOTS];
-    let work = Workspace {
+    let mut work = Workspace {
         last: &mut last,
         before: &mut before,
         order: &mut order,
         rows: &mut rows,
         below: &mut below,
     };
-    normalise_in(pairs, d, &mut table, &mut bad, &mut full, work, out)
+    normalise_in(pairs, d, &mut table, &mut bad, &mut full, &mut work, out)
 }
 
 // Writes the normal form of a description, under a list of pairs, in blocks from the start of the output, which is at least as long as the

@@ -9,5 +9,5 @@ invariant_of-slots c =
     record {
       stood = c.requires.0;
       chained =
-          slots-chained c.args.last.now c.args.before.now c.requires.0.some' c.requires.0.lower c.requires.2 c.requires.3 c.requires.4 refl q.0 q.1;
+          slots-chained c.args.work.now.last.now c.args.work.now.before.now c.requires.0.some' c.requires.0.lower c.requires.2 c.requires.3 c.requires.4 refl q.0 q.1;
     }

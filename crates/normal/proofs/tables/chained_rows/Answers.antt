@@ -12,7 +12,7 @@ invariant_of-slots c =
     record {
       runnable = r;
       chained =
-          slots-chained c.args.last.now c.args.before.now r.some' r.lower l.cleared (omega (arith, l.lasts, r.some'))
+          slots-chained c.args.work.now.last.now c.args.work.now.before.now r.some' r.lower l.cleared (omega (arith, l.lasts, r.some'))
           (omega (arith, l.befores, r.some')) refl q.0 q.1;
       covered = c.requires.1;
     }
