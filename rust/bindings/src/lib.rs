@@ -49,6 +49,9 @@ mod refusal;
 mod under;
 mod unfold;
 
+/// The version of the library.
+pub const VERSION: &str = env!("CARGO_PKG_VERSION");
+
 pub use refusal::{Reason, Refusal};
 pub use under::Under;
 pub use unfold::unfold;

@@ -14,7 +14,9 @@
 //! | [`explain`], [`specimen`] | a no explained, a specimen as a tree of lines |
 //! | [`svg`], [`page`] | the drawing and the page |
 //! | [`owl`] | the question in OWL, and descriptions from it |
-//! | [`args`], [`help`], [`commands`], [`mod@run`] | the command line, what each command answers, what is printed |
+//! | [`settings`], [`given`], [`sha256`] | a laboratory's settings, and under what an answer is given |
+//! | [`args`], [`help`], [`completions`], [`suggest`] | the command line |
+//! | [`commands`], [`mod@run`] | what each command answers, what is printed |
 
 #![forbid(unsafe_code)]
 #![deny(missing_docs)]
@@ -23,9 +25,11 @@ pub mod args;
 pub mod background;
 pub mod blocks;
 pub mod commands;
+pub mod completions;
 pub mod dictionary;
 pub mod entry;
 pub mod explain;
+pub mod given;
 pub mod help;
 pub mod input;
 pub mod json;
@@ -37,8 +41,11 @@ pub mod pairs;
 pub mod readback;
 pub mod refused;
 pub mod run;
+pub mod settings;
+pub mod sha256;
 pub mod shown;
 pub mod specimen;
+pub mod suggest;
 pub mod svg;
 pub mod text;
 pub mod tree;

@@ -1,8 +1,9 @@
 //! One description against many services: the ones that are accepted go into one call of the library.
 
-use std::path::PathBuf;
+use std::path::{Path, PathBuf};
 
-use super::{words_of, Context};
+use super::compare::of_inputs;
+use super::{words_of, Answer, Context, Status};
 use crate::dictionary::split;
 use crate::input::{accepted_services, bytes_of, not_refused, title, Form, Input};
 use crate::library::{self, MOST_SERVICES};
@@ -32,10 +33,31 @@ impl Service {
             number: None,
         }
     }
+
+    /// The file.
+    pub fn file(&self) -> &Path {
+        &self.file
+    }
+
+    /// The name on its line, and of a part of a list its number.
+    pub fn told(&self) -> String {
+        match self.number {
+            Some(number) => format!("{} service {number}", self.name),
+            None => self.name.clone(),
+        }
+    }
 }
 
-/// Whether one service contains the description, and the words of both that the names file settles.
-pub type Contained = Result<(bool, Vec<Conflict>), Trouble>;
+/// Whether one service contains the description; and that explained, where it is asked for.
+#[derive(Clone, Debug)]
+pub struct Contained {
+    /// The library's answer.
+    pub contained: bool,
+    /// The words of both that the names file settles.
+    pub notes: Vec<Conflict>,
+    /// The comparison with this service alone.
+    pub compared: Option<Answer>,
+}
 
 impl Context {
     /// The services of a file: those of a list, which is blocks with more than one numbered 1, or the file itself.
@@ -67,7 +89,11 @@ impl Context {
 
     /// Whether the supplier's description is contained in each of these services, at most [`MOST_SERVICES`]: one call for all that
     /// are accepted. The n-th is the call's input 1 + n, whether those before it are accepted or not.
-    pub fn catalogue(&self, supplier: &Input, services: &[Service]) -> Vec<Contained> {
+    pub fn catalogue(
+        &self,
+        supplier: &Input,
+        services: &[Service],
+    ) -> Vec<Result<Contained, Trouble>> {
         let inputs = (2..).zip(services.iter().take(MOST_SERVICES));
         let read: Vec<Result<Input, Trouble>> = inputs
             .map(|(input, service)| self.service(supplier, service, input))
@@ -81,13 +107,43 @@ impl Context {
         };
         let mut answers = answers.map(Vec::into_iter);
         let answer = |(service, input): (&Service, Result<Input, Trouble>)| {
-            let notes = input?.names.settled().to_vec();
+            let input = input?;
             match &mut answers {
-                Ok(answers) => Ok((answers.next().unwrap_or(false), notes)),
+                Ok(answers) => {
+                    let contained = answers.next().unwrap_or(false);
+                    self.explained(supplier, service, input, contained)
+                }
                 Err(refusal) => Err(not_refused(&service.file, *refusal)),
             }
         };
         services.iter().zip(read).map(answer).collect()
+    }
+
+    /// The answer for one service, explained by the comparison with it where a page or the reason is asked for.
+    fn explained(
+        &self,
+        supplier: &Input,
+        service: &Service,
+        input: Input,
+        contained: bool,
+    ) -> Result<Contained, Trouble> {
+        let notes = input.names.settled().to_vec();
+        let compared = match self.options.why || self.options.html.is_some() {
+            true => Some(of_inputs(self, supplier.clone(), input, &service.file)?),
+            false => None,
+        };
+        let told = compared.as_ref().map(|answer| answer.status == Status::Yes);
+        match told.is_some_and(|told| told != contained) {
+            true => Err(Trouble::Fault {
+                file: service.name.clone(),
+                why: "the catalogue's answer is not that of the comparison".into(),
+            }),
+            false => Ok(Contained {
+                contained,
+                notes,
+                compared,
+            }),
+        }
     }
 
     fn service(&self, supplier: &Input, service: &Service, input: u16) -> Result<Input, Trouble> {

@@ -17,6 +17,7 @@ use crate::args::{Command, Content, Options, To};
 use crate::background::Background;
 use crate::dictionary::{Dictionary, Naming};
 use crate::entry::{Entry, Sort};
+use crate::given::Given;
 use crate::input::{bytes_of, not_refused, Input, Reading};
 use crate::json::Json;
 use crate::names::{Conflict, Names};
@@ -99,6 +100,8 @@ pub struct Context {
     pub reading: Reading,
     /// The properties that exclude each other and the named descriptions; none where no list and no dictionary is given.
     pub background: Background,
+    /// The files that it is given under.
+    pub given: Given,
 }
 
 /// A file that is read alone.

@@ -63,14 +63,13 @@ pub fn title(path: &Path) -> String {
     }
 }
 
-/// The names in a file.
+/// The names in a file of these bytes.
 ///
 /// # Errors
 ///
-/// The file cannot be read, or has a mistake.
-pub fn names_of(path: &Path) -> Result<Names, Trouble> {
-    let bytes = bytes_of(path)?;
-    let text = text_of(path, &bytes)?;
+/// They have a mistake.
+pub fn names_of(path: &Path, bytes: &[u8]) -> Result<Names, Trouble> {
+    let text = text_of(path, bytes)?;
     let names = Names::read(text).map_err(|mistake| mistaken(path, mistake, text))?;
     Ok(names.placed(&named(path), text))
 }

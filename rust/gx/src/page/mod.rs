@@ -4,6 +4,7 @@
 mod all;
 mod description;
 mod folds;
+mod index;
 mod readback;
 mod specimen;
 mod style;
@@ -11,6 +12,7 @@ mod style;
 use std::collections::BTreeSet;
 
 use crate::explain::{Explained, Failure};
+use crate::given::Given;
 use crate::input::Input;
 use crate::names::Names;
 use crate::pairs::{List, Pair};
@@ -21,6 +23,8 @@ use crate::trouble::Trouble;
 use crate::whereabouts;
 use crate::words::{self, Words, APART};
 use description::{listing, Marks};
+
+pub use index::{index, Row};
 
 /// What a page of a comparison is made of.
 #[derive(Clone, Copy, Debug)]
@@ -37,6 +41,8 @@ pub struct Sheet<'a> {
     pub names: &'a Names,
     /// The drawing shows each group.
     pub whole: bool,
+    /// The files that the answer is given under.
+    pub given: &'a Given,
     /// All entries that fail, where they are asked for.
     pub all: Option<&'a [Failure]>,
 }
@@ -57,13 +63,15 @@ pub fn page(sheet: Sheet<'_>) -> Result<String, Trouble> {
     let [supplier, service] = [sheet.supplier, sheet.service].map(|input| file_name(&input.title));
     let title = format!("{title}: {supplier} in {service}");
     let (listed, footer) = match sheet.list.pairs.is_empty() {
-        true => (String::new(), FOOTER.into()),
+        true => (String::new(), FOOTER.to_string()),
         false => (
             pairs(sheet),
             FOOTER.replace("two items,", "two items, and keeps these pairs,"),
         ),
     };
     let settled = settled(sheet.names);
+    let given = given(sheet.given);
+    let footer = format!("<footer>\n{footer}{given}</footer>\n");
     Ok(framed(&title, &format!("{body}{listed}{settled}{footer}")))
 }
 
@@ -118,13 +126,20 @@ fn settled(names: &Names) -> String {
 }
 
 /// The page of inputs that have no answer.
-pub fn refused(trouble: &Trouble) -> String {
+pub fn refused(trouble: &Trouble, under: &Given) -> String {
     let sentence = "There is no answer: an input cannot be taken as it is.";
     let mut body = answer("no", "!", "Refused", sentence);
     body.push_str("<section class=\"card\">\n<h2>Why</h2>\n<pre>");
     body.push_str(&escaped(trouble.titled_lines().trim_end()));
     body.push_str("</pre>\n</section>\n");
+    body.push_str(&format!("<footer>\n{}</footer>\n", given(under)));
     framed("Refused", &body)
+}
+
+/// Under which files an answer is given, and the versions.
+fn given(given: &Given) -> String {
+    let [files, versions] = given.words().map(|words| escaped(&words));
+    format!("<p class=\"given\">Given: <bdi>{files}</bdi>; {versions}.</p>\n")
 }
 
 fn framed(title: &str, body: &str) -> String {
@@ -138,10 +153,10 @@ fn framed(title: &str, body: &str) -> String {
     )
 }
 
-const FOOTER: &str = "<footer>\n<p>Contained means: in every finite record that keeps the rule that links from 32,768 up never lead \
+const FOOTER: &str = "<p>Contained means: in every finite record that keeps the rule that links from 32,768 up never lead \
 to two items, each item that fits the supplier’s description fits the service’s description. The answer, the entry that fails and \
 the specimen are those of the proved library; this page words and draws them. Small numbers before entries are their numbers, \
-counted from 1 over all blocks.</p>\n</footer>\n";
+counted from 1 over all blocks.</p>\n";
 
 /// The answer, large.
 fn answer(class: &str, sign: &str, says: &str, sentence: &str) -> String {

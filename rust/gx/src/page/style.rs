@@ -50,6 +50,9 @@ table{border-collapse:collapse;width:100%;margin-top:.6rem}
 th{text-align:left;color:var(--soft);font-weight:400}
 th,td{padding:.3rem .8rem .3rem 0;border-bottom:1px solid var(--rule);vertical-align:baseline;overflow-wrap:anywhere}
 td small{display:block;color:var(--soft);white-space:nowrap}
+tr.no td:first-child{color:var(--no)}
+tr.yes td:first-child{color:var(--yes)}
+.index td:first-child{width:1.5rem;font-weight:700}
 td:first-child{font-variant-numeric:tabular-nums}
 .flag{display:inline-block;margin-left:.35rem;font-size:.85rem;font-weight:700;padding:0 .5rem;border-radius:.2rem;background:var(--no);color:#fff}
 .flag.here{background:var(--way)}
@@ -62,6 +65,7 @@ figure{margin:.8rem 0 0}
 figcaption{color:var(--soft);font-size:.95rem;margin-top:.5rem}
 pre{white-space:pre-wrap;overflow-wrap:anywhere;background:#f3f5f6;padding:.8rem 1rem;border-radius:.2rem;font-size:.95rem}
 footer{color:var(--soft);font-size:.9rem;margin-top:1.5rem;max-width:60rem}
+.given{overflow-wrap:anywhere}
 @media (max-width:36rem){.why{grid-template-columns:1fr;gap:.1rem}.why dd{margin-bottom:.7rem}.card{padding:.8rem .8rem}}
 @media print{
 @page{margin:14mm}

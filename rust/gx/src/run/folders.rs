@@ -3,13 +3,14 @@
 use std::io::IsTerminal;
 use std::path::{Path, PathBuf};
 
-use super::print::{complain, end_progress, printed, said_of, show_progress, Fields, Said};
+use super::print::{complain, end_progress, painted, said_of, show_progress, Fields, Said};
 use super::store::store_in;
 use super::{Run, USAGE};
 use crate::commands::Status;
 use crate::input::{files_of, named, title};
 use crate::json::Json;
 use crate::names::{settled_json, Conflict};
+use crate::page::Row;
 use crate::shown::file_name;
 use crate::trouble::Trouble;
 
@@ -38,12 +39,24 @@ impl Run {
             complain(&format!("gx: {wrong}\n"));
             return USAGE;
         }
+        self.tell_given();
         let progress = std::io::stderr().is_terminal();
+        let mut rows = Vec::new();
         for (at, job) in jobs.iter().enumerate() {
             show_progress(progress, at + 1, jobs.len());
-            worst = worst.max(self.line(job, progress));
+            let (said, shown) = self.line(job, progress);
+            rows.push(Row::new(&job.name, said.0, &said.1));
+            worst = worst.max(said.0).max(shown);
         }
         end_progress(progress);
+        let supplier = match files {
+            [file, _] if self.command.takes_pair() && !file.is_dir() => title(file),
+            _ => String::new(),
+        };
+        if let Err(trouble) = self.store_index(&supplier, &rows) {
+            complain(&format!("gx: {}", trouble.lines()));
+            worst = worst.max(trouble.status());
+        }
         worst.code()
     }
 
@@ -122,7 +135,7 @@ impl Run {
         Ok(listed.files.into_iter().map(told).collect())
     }
 
-    fn line(&self, job: &Job, progress: bool) -> Status {
+    fn line(&self, job: &Job, progress: bool) -> (Said, Status) {
         let name = &job.name;
         let paths: Vec<&Path> = job.files.iter().map(PathBuf::as_path).collect();
         let answer = self.context.answer(self.command, &paths);
@@ -141,7 +154,8 @@ impl Run {
             }
         };
         let first = vec![("file", Json::text(name))];
-        self.print_line(name, first, said, progress)
+        let shown = self.print_line(name, first, said.clone(), progress);
+        (said, shown)
     }
 
     /// Prints what is said of one of many: on a line after its name, or for programs after these fields.
@@ -153,11 +167,19 @@ impl Run {
         progress: bool,
     ) -> Status {
         let shown = match self.options().json {
-            true => format!("{}\n", Json::Object(first).with(json)),
-            false => format!("{}: {line}\n", file_name(name)),
+            true => self.object([first, json].concat()),
+            false => format!("{}: {}\n", file_name(name), painted(status, &line)),
         };
         end_progress(progress && std::io::stdout().is_terminal());
-        printed(shown.as_bytes(), status)
+        self.printed(shown.as_bytes(), status)
+    }
+
+    /// Tells, before the lines of answers, under what they are given; for programs each has it.
+    pub(super) fn tell_given(&self) {
+        let options = self.options();
+        if self.command.answers() && !options.json && !options.quiet {
+            complain(&format!("gx: {}", self.context.given.line()));
+        }
     }
 }
 

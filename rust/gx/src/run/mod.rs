@@ -12,13 +12,16 @@ use std::path::{Path, PathBuf};
 
 use crate::args::{self, Args, Command, Options, To};
 use crate::commands::{Answer, Context, Extra, Status};
+use crate::completions;
+use crate::given::{self, Source};
 use crate::help;
 use crate::input::{bytes_of, names_of, title, Reading};
 use crate::json::Json;
 use crate::names::settled_json;
 use crate::page;
+use crate::settings;
 use crate::trouble::Trouble;
-use print::{complain, print, printed};
+use print::{complain, painted, print, printed, Fields};
 use store::{store, store_in};
 
 /// The exit status for wrong usage.
@@ -26,18 +29,18 @@ const USAGE: u8 = 64;
 
 /// Does what the command line says, and returns the exit status.
 pub fn run(args: &[OsString]) -> u8 {
+    let shown = |text: String| printed(text.as_bytes(), Status::Yes).code();
     match args::read(args) {
-        Ok(Args::Help(command)) => {
-            let help = command.map_or(help::all(), help::of);
-            printed(help.as_bytes(), Status::Yes).code()
-        }
-        Ok(Args::Version) => {
-            let version = concat!("gx ", env!("CARGO_PKG_VERSION"), "\n");
-            printed(version.as_bytes(), Status::Yes).code()
-        }
+        Ok(Args::Help(command)) => shown(command.map_or(help::all(), help::of)),
+        Ok(Args::Version) => shown(format!("{}\n", given::versions().replacen(", ", "\n", 1))),
+        Ok(Args::Completions(shell)) => shown(completions::of(shell)),
         Ok(Args::Do(command, files, options)) => done(command, &files, *options),
         Err(wrong) => {
-            complain(&format!("gx: {wrong}\n\n{}", help::usage()));
+            let commands = match args.is_empty() {
+                true => format!("\n{}", help::commands()),
+                false => String::new(),
+            };
+            complain(&format!("gx: {wrong}\n\n{}{commands}", help::usage()));
             USAGE
         }
     }
@@ -53,23 +56,27 @@ fn done(command: Command, files: &[PathBuf], options: Options) -> u8 {
             },
             options,
             background: Default::default(),
+            given: Default::default(),
         },
+        settings: None,
         alike: matches!(files, [one, other] if title(one) == title(other)),
     };
+    let folders = files.iter().any(|file| file.is_dir());
+    let many = folders || (!command.takes_pair() && files.len() > 1);
+    let begun = run.read_settings().and_then(|()| run.read_names());
+    if let Err(trouble) = begun {
+        complain(&format!("gx: {}", trouble.lines()));
+        return trouble.status().code();
+    }
     if let Some(wrong) = run.wrong_outputs(files) {
         complain(&format!("gx: {wrong}\n"));
         return USAGE;
     }
-    if let Err(trouble) = run.read_names() {
-        complain(&format!("gx: {}", trouble.lines()));
-        return trouble.status().code();
-    }
-    let folders = files.iter().any(|file| file.is_dir());
-    let many = folders || (!command.takes_pair() && files.len() > 1);
     if let Err(trouble) = run.read_background() {
         run.print_trouble(&trouble, many);
         return trouble.status().code();
     }
+    run.tell_standard_input(files);
     if command == Command::Catalogue {
         return run.catalogue(files);
     }
@@ -88,6 +95,8 @@ fn done(command: Command, files: &[PathBuf], options: Options) -> u8 {
 struct Run {
     command: Command,
     context: Context,
+    /// The file of the settings.
+    settings: Option<PathBuf>,
     /// Two inputs have the same name, and only their folders tell them apart. Else no folder is printed as a part of an answer.
     alike: bool,
 }
@@ -102,9 +111,28 @@ impl Run {
         options.out.is_none() && !options.json && std::io::stdout().is_terminal()
     }
 
+    /// Takes the laboratory's settings, where there are any and they are not ruled out.
+    fn read_settings(&mut self) -> Result<(), Trouble> {
+        let Context { options, given, .. } = &mut self.context;
+        let found = match options.no_lab {
+            true => None,
+            false => settings::found(),
+        };
+        if let Some(path) = found {
+            let bytes = bytes_of(&path)?;
+            given.settings = Some(Source::new(&path, &bytes));
+            let settings = settings::of(&path, &bytes)?;
+            settings.complete(options, self.command);
+            self.settings = Some(path);
+        }
+        Ok(())
+    }
+
     fn read_names(&mut self) -> Result<(), Trouble> {
         if let Some(path) = &self.context.options.names {
-            self.context.reading.names = names_of(path)?;
+            let bytes = bytes_of(path)?;
+            self.context.given.names = Some(Source::new(path, &bytes));
+            self.context.reading.names = names_of(path, &bytes)?;
         }
         Ok(())
     }
@@ -116,12 +144,17 @@ impl Run {
             options,
             reading,
             background,
+            given,
         } = &mut self.context;
         if let Some(path) = &options.pairs {
-            background.list = reading.list_of(path, bytes_of(path)?)?;
+            let bytes = bytes_of(path)?;
+            given.pairs = Some(Source::new(path, &bytes));
+            background.list = reading.list_of(path, bytes)?;
         }
         if let Some(path) = &options.dictionary {
-            background.dictionary = reading.dictionary_of(path, bytes_of(path)?)?;
+            let bytes = bytes_of(path)?;
+            given.dictionary = Some(Source::new(path, &bytes));
+            background.dictionary = reading.dictionary_of(path, bytes)?;
             let words = &background.dictionary.names;
             let joined = reading.names.join_descriptions(words);
             joined.map_err(Trouble::Words)?;
@@ -130,6 +163,20 @@ impl Run {
             background.names.join(words).map_err(Trouble::Words)?;
         }
         Ok(())
+    }
+
+    /// Tells somebody at a terminal that the program waits for what is typed.
+    fn tell_standard_input(&self, files: &[PathBuf]) {
+        let waits = self.read(files).any(|file| file.as_os_str() == "-");
+        if waits && std::io::stdin().is_terminal() {
+            complain("gx: reads standard input; Ctrl-D ends it, and gx --help tells more\n");
+        }
+    }
+
+    /// An answer for programs, with what it is given under.
+    fn object(&self, mut fields: Fields) -> String {
+        fields.push(("given", self.context.given.json()));
+        format!("{}\n", Json::Object(fields))
     }
 
     /// One answer, in full.
@@ -160,21 +207,31 @@ impl Run {
             if !answer.notes.is_empty() {
                 fields.push(("settled", settled_json(&answer.notes)));
             }
-            let line = format!("{}\n", Json::Object(fields));
-            return printed(line.as_bytes(), answer.status);
+            return self.printed(self.object(fields).as_bytes(), answer.status);
         }
         let notes = answer.notes.iter();
         let notes: String = notes.map(|told| told.settled() + "\n").collect();
         let mut full = answer.full;
-        match (self.command.answers(), notes.is_empty()) {
-            (_, true) => (),
-            (true, false) => full.extend(format!("\n{notes}").bytes()),
+        if self.command.answers() {
+            let blank = if notes.is_empty() { "" } else { "\n" };
+            let given = self.context.given.line();
+            let text = painted(answer.status, &String::from_utf8_lossy(&full));
+            full = format!("{text}{blank}{notes}\n{given}").into_bytes();
+        } else if !notes.is_empty() {
             // What is printed is data.
-            (false, false) => complain(&format!("gx: {notes}")),
+            complain(&format!("gx: {notes}"));
         }
         match self.options().out {
             Some(_) => answer.status,
-            None => printed(&full, answer.status),
+            None => self.printed(&full, answer.status),
+        }
+    }
+
+    /// Prints, unless nothing is to be printed.
+    fn printed(&self, bytes: &[u8], status: Status) -> Status {
+        match self.options().quiet {
+            true => status,
+            false => printed(bytes, status),
         }
     }
 
@@ -188,13 +245,14 @@ impl Run {
             Trouble::Mistake { .. } | Trouble::Words(_) | Trouble::Refused { .. }
         );
         if self.options().json {
-            print(format!("{}\n", Json::Object(trouble.json())).as_bytes());
+            print(self.object(trouble.json()).as_bytes());
         } else if self.command.answers() && told {
             let lines = match self.alike {
                 true => trouble.lines(),
                 false => trouble.titled_lines(),
             };
-            print(lines.as_bytes());
+            let given = self.context.given.line();
+            print(format!("{}\n{given}", painted(Status::Bad, &lines)).as_bytes());
         } else {
             complain(&format!("gx: {}", trouble.lines()));
         }
@@ -228,7 +286,7 @@ impl Run {
             // The page may be what could not be written.
             return;
         }
-        let page = page::refused(trouble);
+        let page = page::refused(trouble, &self.context.given);
         let stored = match name {
             None => store(path, page.as_bytes()),
             Some(name) => store_in(&path.join(format!("{name}.html")), page.as_bytes()),

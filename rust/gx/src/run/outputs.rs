@@ -26,10 +26,11 @@ impl Run {
     }
 
     /// The files that are read, as they are named.
-    fn read<'a>(&'a self, files: &'a [PathBuf]) -> impl Iterator<Item = &'a PathBuf> {
+    pub(super) fn read<'a>(&'a self, files: &'a [PathBuf]) -> impl Iterator<Item = &'a PathBuf> {
         let options = &self.context.options;
         let beside = [&options.names, &options.pairs, &options.dictionary];
-        files.iter().chain(beside.into_iter().flatten())
+        let beside = beside.into_iter().flatten().chain(&self.settings);
+        files.iter().chain(beside)
     }
 
     /// What is wrong with the outputs of one answer: one is a file that is read, or two are one file.

@@ -1,6 +1,6 @@
 //! What is printed.
 
-use std::io::{ErrorKind, Write};
+use std::io::{ErrorKind, IsTerminal, Write};
 
 use crate::commands::Status;
 use crate::input::why;
@@ -22,6 +22,22 @@ pub(super) fn print(bytes: &[u8]) -> bool {
             false
         }
     }
+}
+
+/// The text with its first line in the colour of how it ends, where a terminal shows it and nobody rules it out.
+pub(super) fn painted(status: Status, text: &str) -> String {
+    let set = |name: &str| std::env::var_os(name).filter(|value| !value.is_empty());
+    let dumb = set("TERM").is_none_or(|terminal| terminal == "dumb");
+    if set("NO_COLOR").is_some() || dumb || !std::io::stdout().is_terminal() {
+        return text.into();
+    }
+    let colour = match status {
+        Status::Yes => "32",
+        Status::No => "31",
+        Status::Bad | Status::Fault => "35",
+    };
+    let (first, rest) = text.split_at(text.find('\n').unwrap_or(text.len()));
+    format!("\x1b[1;{colour}m{first}\x1b[0m{rest}")
 }
 
 /// The status of an answer, or bad where it could not be printed.

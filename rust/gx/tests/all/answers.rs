@@ -195,6 +195,7 @@ fn is_explained(c: &Input, d: &Input) {
         names: &names,
         whole: false,
         all: None,
+        given: &Default::default(),
     });
     let page = page.unwrap();
     let Explained::NotContained(failure) = &explained else {

@@ -421,6 +421,7 @@ fn what_a_page_shows_is_read_back() {
         names: &plain,
         whole: false,
         all: None,
+        given: &Default::default(),
     };
     assert!(page::page(sheet).is_ok());
     let names = &input.names;

@@ -414,7 +414,8 @@ fn wrong_usage() {
         &["catalogue"][..],
         &["catalogue", "supplier.txt"],
         &["catalogue", "-", "-"],
-        &["catalogue", "supplier.txt", "services", "--html", "page"],
+        &["catalogue", "supplier.txt", "services", "--svg", "page"],
+        &["catalogue", "supplier.txt", "services", "--only", "refused"],
         &["catalogue", "supplier.txt", "services", "--from", "paper"],
     ] {
         let ran = folder.gx(args);

@@ -628,7 +628,8 @@ fn the_help_names_each_command_and_option() {
             (0, &folder.gx(&["help", command.word()]))
         );
         for option in command.options() {
-            assert!(help.text().contains(&format!("\n  {option}")), "{option}");
+            let name = option.name;
+            assert!(help.text().contains(&format!("\n  {name}")), "{name}");
         }
     }
     let manual = std::fs::read_to_string(repository("rust/gx/gx.1")).unwrap();
@@ -639,7 +640,8 @@ fn the_help_names_each_command_and_option() {
             command.word()
         );
         for option in command.options() {
-            assert!(manual.contains(&option.replace('-', "\\-")), "{option}");
+            let name = option.name.replace('-', "\\-");
+            assert!(manual.contains(&name), "{name}");
         }
     }
 }

@@ -3,7 +3,7 @@
 
 use std::path::Path;
 
-use crate::support::{repository, Folder};
+use crate::support::{repository, without_given, Folder};
 
 const NAMES: &str = "link 1 \"sample\" \"samples\"\nlink 2 \"core\" \"cores\"\nlink 32768 \"field\" \"fields\"\nproperty 7 \"sealed\"\nproperty 8 \"<wet & 'cold'>\"\n";
 
@@ -11,6 +11,8 @@ pub fn is_golden(name: &str, bytes: &[u8]) {
     let path = Path::new(env!("CARGO_MANIFEST_DIR"))
         .join("tests/golden")
         .join(name);
+    let text = without_given(&String::from_utf8_lossy(bytes));
+    let bytes = text.as_bytes();
     if std::env::var_os("GX_GOLDEN").is_some_and(|value| value == "write") {
         std::fs::write(&path, bytes).unwrap();
     }

@@ -18,9 +18,40 @@ pub struct Ran {
 }
 
 impl Ran {
+    /// What it printed, without what it says of the files that it was given: most tests have none.
     pub fn text(&self) -> String {
+        without_given(&self.whole())
+    }
+
+    /// All that it printed.
+    pub fn whole(&self) -> String {
         String::from_utf8(self.out.clone()).unwrap()
     }
+}
+
+/// An answer without under what it is given.
+pub fn without_given(text: &str) -> String {
+    let mut lines: Vec<String> = Vec::new();
+    for line in text.lines() {
+        match line.split_once(",\"given\":{") {
+            Some((fields, _)) => lines.push(format!("{fields}}}")),
+            None if line.starts_with("given: ") => drop(lines.pop()),
+            None if line.starts_with("<p class=\"given\">") => (),
+            None => lines.push(line.into()),
+        }
+    }
+    let end = if lines.is_empty() || !text.ends_with('\n') {
+        ""
+    } else {
+        "\n"
+    };
+    lines.join("\n") + end
+}
+
+/// What was told besides, without under what the answers are given.
+fn told(err: &str) -> String {
+    let told = err.lines().filter(|line| !line.starts_with("gx: given: "));
+    told.map(|line| format!("{line}\n")).collect()
 }
 
 /// A folder for the files of one test, which begins empty.
@@ -69,7 +100,7 @@ impl Folder {
         Ran {
             status: output.status.code().unwrap(),
             out: output.stdout,
-            err: String::from_utf8(output.stderr).unwrap(),
+            err: told(&String::from_utf8(output.stderr).unwrap()),
         }
     }
 }

@@ -22,6 +22,16 @@ use crate::{page, svg};
 pub(super) fn compare(context: &Context, c: &Path, d: &Path) -> Result<Answer, Trouble> {
     let supplier = context.description(c, 1)?;
     let service = context.description(d, 2)?;
+    of_inputs(context, supplier, service, d)
+}
+
+/// The same for descriptions that are read, the second of them from this file.
+pub(super) fn of_inputs(
+    context: &Context,
+    supplier: Input,
+    service: Input,
+    d: &Path,
+) -> Result<Answer, Trouble> {
     let names = words_of(&supplier, &service)?;
     let list = &context.background.list;
     let explained = compared(&context.background, &supplier, &service);
@@ -70,6 +80,7 @@ fn extras(
             names,
             whole: options.whole,
             all,
+            given: &context.given,
         })?;
         extras.push((Extra::Html, page.into_bytes()));
     }

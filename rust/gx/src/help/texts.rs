@@ -1,102 +1,8 @@
-//! The help.
+//! What the help says.
 
 use crate::args::Command;
 
-/// A few lines for wrong usage.
-pub fn usage() -> String {
-    "usage: gx COMMAND [OPTIONS] FILE...\n       gx --help, gx COMMAND --help\n".into()
-}
-
-/// The help of all.
-pub fn all() -> String {
-    let mut out = String::from(
-        "gx - see, write, check and explain descriptions\n\nusage: gx COMMAND [OPTIONS] FILE...\n\nCommands:\n",
-    );
-    for command in Command::ALL {
-        let (words, about) = about(command);
-        out.push_str(&format!("  {words:<28}{about}\n"));
-    }
-    out.push_str(ALL);
-    out
-}
-
-/// The help of one command.
-pub fn of(command: Command) -> String {
-    let (words, about) = about(command);
-    let mut out = format!(
-        "gx {words} - {about}\n\nusage: gx {} [OPTIONS] {}\n\n",
-        command.word(),
-        inputs(command)
-    );
-    out.push_str(detail(command));
-    out.push_str("\nOptions:\n");
-    for option in command.options() {
-        out.push_str(option_help(command, option));
-    }
-    out.push_str("  --help              this help\n\nExit status: ");
-    out.push_str(match command {
-        Command::Fit => "0 yes, 1 no, 2 refused or a mistake in the input, 64 wrong usage.\n",
-        Command::Compare => {
-            "0 contained, 1 not contained, 2 refused or a mistake in the input, 64 wrong usage.\n"
-        }
-        Command::Catalogue => {
-            "0 contained in each, 1 not in one or more, 2 refused or a mistake in an input, 64 wrong usage.\n"
-        }
-        _ => "0 done, 2 refused or a mistake in the input, 64 wrong usage.\n",
-    });
-    out.push_str("gx --help tells how inputs, texts and names files are written.\n");
-    out
-}
-
-fn inputs(command: Command) -> &'static str {
-    match command {
-        Command::Fit => "SPECIMEN DESCRIPTION",
-        Command::Compare | Command::Owl => "SUPPLIER SERVICE",
-        Command::Catalogue => "SUPPLIER SERVICES...",
-        _ => "[FILE...]",
-    }
-}
-
-fn about(command: Command) -> (&'static str, &'static str) {
-    match command {
-        Command::Show => (
-            "show FILE",
-            "a description, specimen, list of pairs or dictionary as text",
-        ),
-        Command::Write => ("write FILE", "a text as blocks"),
-        Command::Check => (
-            "check FILE",
-            "whether the reader accepts it; a refusal in words",
-        ),
-        Command::Normal => ("normal FILE", "the normal form of a description"),
-        Command::Fit => (
-            "fit SPECIMEN DESCRIPTION",
-            "whether the specimen's top item fits",
-        ),
-        Command::Compare => (
-            "compare SUPPLIER SERVICE",
-            "whether the first is contained in the second; a no explained",
-        ),
-        Command::Catalogue => (
-            "catalogue SUPPLIER SERVICES",
-            "which services contain the supplier's description",
-        ),
-        Command::Unfold => (
-            "unfold FILE",
-            "a description with its named entries replaced by what they stand for",
-        ),
-        Command::Owl => (
-            "owl SUPPLIER SERVICE",
-            "the same question in OWL 2 functional syntax",
-        ),
-        Command::FromOwl => (
-            "from-owl FILE",
-            "a description from an OWL class expression",
-        ),
-    }
-}
-
-fn detail(command: Command) -> &'static str {
+pub(super) fn detail(command: Command) -> &'static str {
     match command {
         Command::Show => SHOW,
         Command::Write => "Reads a text and writes its blocks, or the bytes of a list of pairs or a dictionary, to standard output or into a file. Nothing is\nwritten where the library refuses them. Without --dictionary a description may name any description from 1 to 64.\n",
@@ -148,6 +54,9 @@ Answers for each service whether every item that fits the supplier's description
 'contained' or 'not contained'. 'gx compare' explains a no. Services are files, folders of files, or one file that is a list: the
 blocks of up to 64 services laid end to end, where each block numbered 1 begins one. A service that is refused stops none of the
 others. The library is asked once for 64 services. With --pairs and --dictionary the answers are those of 'gx compare' with them.
+--why tells of each no which entry fails first; --only contained tells the services alone that contain the description; with --any
+one such service is enough for a yes. --html writes a page with a table, index.html in that folder, in which each service leads to a
+page of its own.
 ";
 
 const FROM_OWL: &str = "\
@@ -159,31 +68,16 @@ properties that exclude each other: --sort pairs writes these, and not the descr
 Names are property_7 and link_1 of <urn:goltximen#>, or others whose label or last part the names file knows.
 ";
 
-fn option_help(command: Command, option: &str) -> &'static str {
-    match (option, command) {
-        ("--names", _) => "  --names FILE        the words of properties, links and named descriptions\n",
-        ("--pairs", _) => "  --pairs FILE        the list of properties that exclude each other\n",
-        ("--dictionary", _) => "  --dictionary FILE   the dictionary of the descriptions that are named\n",
-        ("--json", _) => "  --json              the answer for programs, one object on a line\n",
-        ("--recursive", _) => "  --recursive         a folder stands for the files in its folders too\n",
-        ("--from", _) => "  --from FORM         the inputs are 'blocks' or 'text', whatever they look like\n",
-        ("--sort", Command::FromOwl) => "  --sort SORT         write the 'description' (without this option) or the 'pairs'\n",
-        ("--sort", _) => "  --sort SORT         the input is a 'description', a 'specimen', a list of 'pairs' or a 'dictionary'\n",
-        ("--to", _) => "  --to FORM           write 'text' (without this option), 'desk' (5,1 [3,2,1; 4,2,1]) or 'blocks'\n",
-        ("--numbers", _) => "  --numbers           in text, write each entry's number\n",
-        ("--out", _) => "  --out FILE          write into this file; for folders, into this folder\n",
-        ("--svg", _) => "  --svg FILE          draw the specimen; for folders, into this folder\n",
-        ("--html", _) => "  --html FILE         write a page with the answer, both descriptions and the drawing; for folders, into this folder\n",
-        ("--specimen", _) => "  --specimen FILE     write the specimen's blocks, where there is one; for folders, into this folder\n",
-        ("--whole", _) => "  --whole             draw each group of a large specimen\n",
-        ("--all", _) => "  --all               tell all entries that fail, not only the first\n",
-        ("--class", _) => "  --class NAME        the class whose definition is read, where there are several\n",
-        _ => "",
-    }
-}
-
-const ALL: &str = "
+pub(super) const ALL: &str = "
 Every answer is that of the proved library; gx reads, writes, draws and words it.
+
+The file laboratory.gx of this folder, or of the nearest folder above that has one, tells the files that all answers are given under;
+the variable GX_LAB names another, and --no-lab takes none. It has lines like
+    names laboratory.names
+    pairs soil.pairs
+    dictionary cores.dictionary
+with files beside it. An option of the command line counts before it. Each answer says under which files it was given, with their
+SHA-256.
 
 Inputs are files, or standard input as -, also where no FILE is given. They are blocks or text, told apart by their bytes: an
 input with a zero byte, or an empty one, is blocks (the second byte of all accepted blocks is zero); any other is text. --from
@@ -258,5 +152,5 @@ Exit status: 0 yes, contained, accepted or done; 1 no or not contained; 2 refuse
 or an output that would replace an input; 70 an error of gx. For several files it is the highest of theirs. Files are written whole
 or not at all. What is shown is read back before.
 
-gx COMMAND --help tells the options. gx --version tells the version.
+gx COMMAND --help tells the options. gx --version tells the version, and that of the library.
 ";

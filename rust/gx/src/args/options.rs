@@ -1,0 +1,132 @@
+//! The options, each with its words and the commands that take it: what reads the command line, the help and the completions go by
+//! this table.
+
+use super::Command::{
+    self, Catalogue, Check, Compare, Fit, FromOwl, Normal, Owl, Show, Unfold, Write,
+};
+
+/// An option.
+#[derive(Clone, Copy, Debug)]
+pub struct Opt {
+    /// With its two signs before: `--out`.
+    pub name: &'static str,
+    /// One letter that stands for it.
+    pub short: Option<char>,
+    /// What its value is called in the help, where it has one.
+    pub value: Option<&'static str>,
+    /// The values that it takes, where these are words.
+    pub words: &'static [&'static str],
+    /// The help.
+    pub about: &'static str,
+    /// The commands that take it.
+    pub of: &'static [Command],
+}
+
+impl Opt {
+    /// The option of this name.
+    pub fn called(name: &str) -> Option<&'static Opt> {
+        OPTIONS.iter().find(|option| option.name == name)
+    }
+
+    /// The option that this letter stands for.
+    pub fn of_letter(letter: char) -> Option<&'static Opt> {
+        OPTIONS.iter().find(|option| option.short == Some(letter))
+    }
+}
+
+const ALL: &[Command] = &Command::ALL;
+const UNDER: &[Command] = &[Check, Normal, Fit, Compare, Catalogue, Owl];
+const NAMING: &[Command] = &[
+    Show, Write, Check, Normal, Fit, Compare, Catalogue, Unfold, Owl,
+];
+const READING: &[Command] = &[
+    Show, Write, Check, Normal, Fit, Compare, Catalogue, Unfold, Owl,
+];
+const TEXTS: &[Command] = &[Show, Normal, Unfold, FromOwl];
+
+const fn flag(name: &'static str, about: &'static str, of: &'static [Command]) -> Opt {
+    Opt {
+        name,
+        short: None,
+        value: None,
+        words: &[],
+        about,
+        of,
+    }
+}
+
+const fn file(name: &'static str, about: &'static str, of: &'static [Command]) -> Opt {
+    Opt {
+        value: Some("FILE"),
+        ..flag(name, about, of)
+    }
+}
+
+const fn word(
+    name: &'static str,
+    words: &'static [&'static str],
+    about: &'static str,
+    of: &'static [Command],
+) -> Opt {
+    Opt {
+        value: Some("WORD"),
+        words,
+        ..flag(name, about, of)
+    }
+}
+
+/// All options.
+pub const OPTIONS: &[Opt] = &[
+    file("--names", "the words of properties, links and named descriptions", ALL),
+    file("--pairs", "the list of properties that exclude each other", UNDER),
+    file("--dictionary", "the dictionary of the descriptions that are named", NAMING),
+    flag("--no-lab", "without the settings of laboratory.gx", ALL),
+    flag("--json", "the answer for programs, one object on a line", ALL),
+    Opt {
+        short: Some('q'),
+        ..flag("--quiet", "print nothing but what is wrong; the exit status answers", ALL)
+    },
+    flag("--recursive", "a folder stands for the files in its folders too", ALL),
+    word("--from", &["blocks", "text"], "the inputs are 'blocks' or 'text', whatever they look like", READING),
+    word(
+        "--sort",
+        &["description", "specimen", "pairs", "dictionary"],
+        "the input is a 'description', a 'specimen', a list of 'pairs' or a 'dictionary'; of from-owl, write the 'description' or the 'pairs'",
+        &[Show, Write, Check, FromOwl],
+    ),
+    word(
+        "--to",
+        &["text", "desk", "blocks"],
+        "write 'text' (without this option), 'desk' (5,1 [3,2,1; 4,2,1]) or 'blocks'",
+        TEXTS,
+    ),
+    flag("--numbers", "in text, write each entry's number", TEXTS),
+    Opt {
+        short: Some('o'),
+        ..file(
+            "--out",
+            "write into this file; for folders, into this folder",
+            &[Show, Write, Normal, Unfold, Owl, FromOwl],
+        )
+    },
+    file("--svg", "draw the specimen; for folders, into this folder", &[Compare]),
+    file(
+        "--html",
+        "write a page with the answer; for folders, and of a catalogue, into this folder, with an index",
+        &[Compare, Catalogue],
+    ),
+    file(
+        "--specimen",
+        "write the specimen's blocks, where there is one; for folders, into this folder",
+        &[Compare],
+    ),
+    flag("--whole", "draw each group of a large specimen", &[Compare]),
+    flag("--all", "tell all entries that fail, not only the first", &[Compare]),
+    flag("--why", "tell of each no which entry fails first", &[Catalogue]),
+    word("--only", &["contained"], "tell only the services that contain the description", &[Catalogue]),
+    flag("--any", "one service that contains the description is enough for a yes", &[Catalogue]),
+    Opt {
+        value: Some("NAME"),
+        ..flag("--class", "the class whose definition is read, where there are several", &[FromOwl])
+    },
+];
