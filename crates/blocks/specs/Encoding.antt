@@ -49,12 +49,26 @@ unfoldable pub row_bytes : ℕ → List ℕ
 row_bytes x =
     word_bytes (x % 65536) ++ (word_bytes (x / 65536 % 65536) ++ (word_bytes (x / 4294967296 % 65536) ++ word_bytes (x / 281474976710656)))
 
--- the bytes that `count` of `given` packed entries take, where an output of so many bytes has room for them; else 0
-unfoldable pub bytes_written : ℕ → ℕ → ℕ → ℕ
-bytes_written bytes given count =
-    cond (nat_le count given && (nat_le count 2016 && nat_le (512 * blocks_for plain count) bytes)) (512 * blocks_for plain count) 0
+-- the first w of them: those of an entry of w bytes
+unfoldable pub row_bytes_of : ℕ → ℕ → List ℕ
+row_bytes_of w x = take w (row_bytes x)
 
--- the output with the first `count` packed entries as blocks at its start, where it has room for them; "later bytes unchanged"
+module _ (F : Frame) where
+  -- the bytes that `count` of `given` packed entries take, where `most` are not too few and an output of so many bytes has room for them; else 0
+  abbrev pub framed_bytes : (most bytes given count : ℕ) → ℕ
+  framed_bytes most bytes given count =
+      cond (nat_le count given && (nat_le count most && nat_le (512 * blocks_for F count) bytes)) (512 * blocks_for F count) 0
+
+  -- the output with the first `count` packed entries, by the bytes of each, as blocks at its start, where it has room for them; later bytes stay
+  abbrev pub framed_written : (ℕ → List ℕ) → (most : ℕ) (out rows : List ℕ) (count : ℕ) → List ℕ
+  framed_written row most out rows count =
+      cond (framed_bytes most (length out) (length rows) count == 0) out
+      (encode_rows F (map row (take count rows)) ++ drop (512 * blocks_for F count) out)
+
+-- the same of entries of 8 bytes, of which at most 2,016 are written
+unfoldable pub bytes_written : ℕ → ℕ → ℕ → ℕ
+bytes_written bytes given count = framed_bytes plain 2016 bytes given count
+
 unfoldable pub written : List ℕ → List ℕ → ℕ → List ℕ
 written out rows count =
     cond (bytes_written (length out) (length rows) count == 0) out

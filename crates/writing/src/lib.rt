@@ -5,4 +5,4 @@
 
 mod writer;
 
-pub use writer::{bytes_for, write_entries};
+pub use writer::{bytes_for, write_entries, write_stored};

@@ -1,14 +1,16 @@
-// Entries written as blocks from the start of an output.
-ghost use Rattle.std.specs.Prelude.{◌≡◌, ◌∷◌, [], map, ◌+◌, ◌*◌, ◌≤◌, length, take, drop, replicate};
+// Entries written as blocks from the start of an output: rows of WIDTH bytes, ROOM of them to a block.
+ghost use Rattle.std.specs.Prelude.{◌≡◌, ◌∷◌, [], map, ◌+◌, ◌*◌, ◌<◌, ◌≤◌, length, take, drop, replicate};
 ghost use Rattle.base.specs.Stores.{stored};
 ghost use Rattle.blocks.specs.Words.{word_bytes};
-ghost use Rattle.blocks.specs.Frame.{plain};
-ghost use Rattle.blocks.specs.Encoding.{joined, row_bytes, block_bytes, blocks_for, encode_from, bytes_written, written};
+ghost use Rattle.blocks.specs.Frame.{framed, plain, stored_frame};
+ghost use Rattle.blocks.specs.Encoding.{joined, row_bytes_of, block_bytes, blocks_for, framed_bytes, encode_from, bytes_written, framed_written, written};
 
 use blocks::{block_check, block_second};
 
-// The most entries that are written.
+// The most entries that are written, and in the shorter stored form.
 const MOST: usize = 2016;
+
+const MOST_STORED: usize = 1008;
 
 // Stores bytes from an index on.
 fn put(out: &mut [u8], at: usize, bytes: &[u8])
@@ -26,58 +28,82 @@ fn put_word(out: &mut [u8], at: usize, x: u16)
     put(out, at, &x.to_le_bytes());
 }
 
-// Stores packed entries, the 8 bytes of each low byte first.
-fn put_rows(out: &mut [u8], at: usize, rows: &[u64])
-    requires { (at + 8 * length rows.now ≤ length out.old) × (length rows.now ≤ 63) }
-    ensures { out.new ≡ stored out.old at (joined (map row_bytes rows.now)) }
+// Stores packed entries, the first WIDTH bytes of each, low byte first.
+fn put_rows<const WIDTH: usize>(out: &mut [u8], at: usize, rows: &[u64])
+    requires { (WIDTH ≤ 8) × (at + WIDTH * length rows.now ≤ length out.old) }
+    ensures { out.new ≡ stored out.old at (joined (map (row_bytes_of WIDTH) rows.now)) }
 {
     for (j, row) in rows.iter().enumerate() {
-        put(out, at + 8 * j, &row.to_le_bytes());
+        put(out, at + WIDTH * j, &row.to_le_bytes()[..WIDTH]);
     }
 }
 
 // Stores block i, counted from 0: its number, its used count, its entries, zeros, the second sum, and the check.
-fn put_block(block: &mut [u8], i: u16, rows: &[u64])
-    requires { (length block.old ≡ 512) × (i ≤ 31) × (length rows.now ≤ 63) }
-    ensures { block.new ≡ block_bytes plain i (map row_bytes rows.now) }
+fn put_block<const WIDTH: usize, const ROOM: usize>(block: &mut [u8], i: u16, rows: &[u64])
+    requires { (WIDTH * ROOM ≡ 504) × (WIDTH ≤ 8) × (ROOM ≤ 504) × (length block.old ≡ 512) × (i ≤ 31) × (length rows.now ≤ ROOM) }
+    ensures { block.new ≡ block_bytes (framed WIDTH ROOM) i (map (row_bytes_of WIDTH) rows.now) }
 {
     put_word(block, 0, i + 1);
     put_word(block, 2, rows.len() as u16);
-    put_rows(block, 4, rows);
-    block[4 + 8 * rows.len()..508].fill(0);
+    put_rows::<WIDTH>(block, 4, rows);
+    block[4 + WIDTH * rows.len()..508].fill(0);
     let second = block_second(block, 0);
     put_word(block, 508, second);
     let check = block_check(block, 0);
     put_word(block, 510, check);
 }
 
-// The blocks that so many entries take: 63 to a block, and one block where there is no entry.
-fn blocks_for(count: usize) -> usize
-    ensures { result ≡ blocks_for plain count }
+// The blocks that so many entries take: ROOM to a block, and one block where there is no entry.
+fn blocks_for<const WIDTH: usize, const ROOM: usize>(count: usize) -> usize
+    requires { 0 < ROOM }
+    ensures { result ≡ blocks_for (framed WIDTH ROOM) count }
 {
-    count.div_ceil(63).max(1)
+    count.div_ceil(ROOM).max(1)
 }
 
 // The bytes that so many entries take.
 pub fn bytes_for(count: u16) -> usize
     ensures { (result ≡ 512 * blocks_for plain count) × (result ≤ 533504) }
 {
-    512 * blocks_for(usize::from(count))
+    512 * blocks_for::<8, 63>(usize::from(count))
 }
 
 // Stores the n blocks of packed entries. Blocks are lent by index: of what `chunks_exact_mut` lends only the length is known afterwards.
-fn put_blocks(out: &mut [u8], rows: &[u64], n: usize)
-    requires { (n ≡ blocks_for plain (length rows.now)) × (length rows.now ≤ 2016) × (512 * n ≤ length out.old) }
-    ensures { out.new ≡ stored out.old 0 (encode_from plain n 0 (map row_bytes rows.now)) }
+fn put_blocks<const WIDTH: usize, const ROOM: usize>(out: &mut [u8], rows: &[u64], n: usize)
+    requires { (WIDTH * ROOM ≡ 504) × (WIDTH ≤ 8) × (ROOM ≤ 504) × (n ≡ blocks_for (framed WIDTH ROOM) (length rows.now)) × (n ≤ 32) × (512 * n ≤ length out.old) }
+    ensures { out.new ≡ stored out.old 0 (encode_from (framed WIDTH ROOM) n 0 (map (row_bytes_of WIDTH) rows.now)) }
 {
     for i in 0..n {
-        let end = rows.len().min(63 * i + 63);
-        put_block(
+        let end = rows.len().min(ROOM * i + ROOM);
+        put_block::<WIDTH, ROOM>(
             &mut out[512 * i..512 * i + 512],
             i as u16,
-            &rows[63 * i..end],
+            &rows[ROOM * i..end],
         );
     }
+}
+
+// Writes the first `count` packed entries, of WIDTH bytes each, as blocks from the start of the output, and returns the number of bytes written.
+#[inline(always)]
+fn write_framed<const WIDTH: usize, const ROOM: usize>(
+    out: &mut [u8],
+    rows: &[u64],
+    count: usize,
+    most: usize,
+) -> usize
+    requires { (WIDTH * ROOM ≡ 504) × (WIDTH ≤ 8) × (ROOM ≤ 504) × (most ≤ ROOM * 32) }
+    ensures { (result ≡ framed_bytes (framed WIDTH ROOM) most (length out.old) (length rows.now) count)
+        × (out.new ≡ framed_written (framed WIDTH ROOM) (row_bytes_of WIDTH) most out.old rows.now count) }
+{
+    if rows.len() < count || most < count {
+        return 0;
+    }
+    let n = blocks_for::<WIDTH, ROOM>(count);
+    if out.len() < 512 * n {
+        return 0;
+    }
+    put_blocks::<WIDTH, ROOM>(out, &rows[..count], n);
+    512 * n
 }
 
 // Writes the first `count` packed entries as blocks from the start of the output, and returns the number of bytes written;
@@ -88,13 +114,13 @@ pub fn write_entries(out: &mut [u8], rows: &[u64], count: usize) -> usize
     ensures { (result ≡ bytes_written (length out.old) (length rows.now) count)
         × (out.new ≡ written out.old rows.now count) }
 {
-    if rows.len() < count || MOST < count {
-        return 0;
-    }
-    let n = blocks_for(count);
-    if out.len() < 512 * n {
-        return 0;
-    }
-    put_blocks(out, &rows[..count], n);
-    512 * n
+    write_framed::<8, 63>(out, rows, count, MOST)
+}
+
+// The same in the shorter stored form, 84 entries of 6 bytes to a block and at most 1,008 of them: the low 6 bytes of each packed entry.
+pub fn write_stored(out: &mut [u8], rows: &[u64], count: usize) -> usize
+    ensures { (result ≡ framed_bytes stored_frame 1008 (length out.old) (length rows.now) count)
+        × (out.new ≡ framed_written stored_frame (row_bytes_of 6) 1008 out.old rows.now count) }
+{
+    write_framed::<6, 84>(out, rows, count, MOST_STORED)
 }
