@@ -1,8 +1,10 @@
 // Entries read by number straight from the lent blocks.
-ghost use Rattle.std.specs.Prelude.{◌≡◌, ◌+◌, ◌*◌, ◌/◌, ◌^◌, ◌<◌, ◌≤◌, length, take, drop, MatchOption};
+ghost use Rattle.std.specs.Prelude.{◌≡◌, ◌+◌, ◌-◌, ◌*◌, ◌/◌, ◌^◌, ◌<◌, ◌≤◌, length, take, drop, MatchOption};
+ghost use Rattle.base.specs.Links.{is_single};
 ghost use Rattle.blocks.specs.Frame.{plain, entry_pos};
 ghost use Rattle.blocks.specs.Entries.{entry_from, entry_of, packed};
 
+use crate::sizes::{BLOCK, ENTRIES, ENTRY, FIRST_SINGLE};
 use crate::words::{byte, word};
 use crate::{Entry, Link, Property};
 
@@ -22,13 +24,23 @@ impl Entry {
     }
 }
 
+impl Link {
+    // Whether it leads to one item only.
+    #[inline(always)]
+    pub fn is_single(self) -> bool
+        ensures { result ≡ is_single self.0 }
+    {
+        FIRST_SINGLE <= self.0
+    }
+}
+
 // The index of the first byte of entry n, counted from 1, which lies in the block of that entry.
 #[tactic(auto, unfolding(crate::specs::Frame::entry_pos))]
 fn entry_pos(n: usize) -> usize
     requires { (1 ≤ n) × (n ≤ 2 ^ 60 + 1) }
-    ensures { (result ≡ entry_pos plain n) × (result + 12 ≤ 512 * ((n + 62) / 63)) }
+    ensures { (result ≡ entry_pos plain n) × (result + 12 ≤ BLOCK * ((n + ENTRIES - 1) / ENTRIES)) }
 {
-    512 * ((n - 1) / 63) + 4 + 8 * ((n - 1) % 63)
+    BLOCK * ((n - 1) / ENTRIES) + 4 + ENTRY * ((n - 1) % ENTRIES)
 }
 
 // The bytes of an entry that start at an index, if all are there.

@@ -5,6 +5,7 @@ ghost use Rattle.blocks.specs.Entries.{entry_from};
 ghost use Rattle.blocks.specs.code.Blockwise.{entries_left, entries_there};
 
 use crate::Entry;
+use crate::sizes::{BLOCK, ENTRIES, ENTRY};
 
 impl<'a> From<&'a [u8; 8]> for Entry {
     ghost from_gives = { λ bytes e. e ≡ entry_from bytes.now 0 };
@@ -38,7 +39,7 @@ pub fn entries_in_order<'a>(s: &'a [u8], total: usize) -> InOrder<'a>
     ensures items { entries_left result.here.now result.later.now result.left ≡ entries_there s.now total }
     ensures none { length result.here.now ≡ 0 → entries_there s.now total ≡ [] }
 {
-    let Some((block, later)) = s.split_first_chunk::<512>() else {
+    let Some((block, later)) = s.split_first_chunk::<BLOCK>() else {
         let (none, _) = s.split_at(0);
         return InOrder {
             here: none.as_chunks::<8>().0,
@@ -46,9 +47,9 @@ pub fn entries_in_order<'a>(s: &'a [u8], total: usize) -> InOrder<'a>
             left: 0,
         };
     };
-    let count = total.min(63);
+    let count = total.min(ENTRIES);
     InOrder {
-        here: block[4..4 + 8 * count].as_chunks::<8>().0,
+        here: block[4..4 + ENTRY * count].as_chunks::<8>().0,
         later,
         left: total - count,
     }

@@ -11,6 +11,7 @@ mod causes;
 mod entries;
 mod in_order;
 pub mod kinds;
+pub mod sizes;
 mod words;
 
 pub use entries::{nth_entry, pack};

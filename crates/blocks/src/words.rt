@@ -4,6 +4,8 @@ ghost use Rattle.base.specs.Range.{sum};
 ghost use Rattle.blocks.specs.Words.{check_of, second_of, word_at};
 ghost use Rattle.blocks.specs.code.WordPairs.{pair, weighted_pair};
 
+use crate::sizes::BLOCK;
+
 // The byte at an index; 0 past the end.
 pub fn byte(s: &[u8], at: usize) -> u8
     ensures { result ≡ slice_index s.now at }
@@ -63,9 +65,9 @@ fn sum_bytes(bytes: &[u8]) -> u16
 // The check of block i, counted from 0: its first 255 words added, wrapping at 65,536. Bytes past the end count as 0. Where all are there the
 // sum is compiled for their number.
 pub fn block_check(s: &[u8], i: u16) -> u16
-    ensures { result ≡ check_of s.now (512 * i) }
+    ensures { result ≡ check_of s.now (BLOCK * i) }
 {
-    let at = 512 * usize::from(i);
+    let at = BLOCK * usize::from(i);
     match s.get(at..at + 510) {
         Some(whole) => sum_bytes(whole),
         None => sum_bytes(part(s, at, 510)),
@@ -99,9 +101,9 @@ fn weigh_bytes(bytes: &[u8]) -> u16
 // The second sum of block i, counted from 0: its first 254 words, each times its number. Bytes past the end count as 0, as above. One function for
 // both would be handed the sum and the number of bytes, which is all that is here.
 pub fn block_second(s: &[u8], i: u16) -> u16
-    ensures { result ≡ second_of s.now (512 * i) }
+    ensures { result ≡ second_of s.now (BLOCK * i) }
 {
-    let at = 512 * usize::from(i);
+    let at = BLOCK * usize::from(i);
     match s.get(at..at + 508) {
         Some(whole) => weigh_bytes(whole),
         None => weigh_bytes(part(s, at, 508)),

@@ -87,7 +87,7 @@ impl<'a> Totals<'a> {
         ensures { (es : List Entry) → (n : ℕ) → TotalsOf es n self.now.rows.now self.now.used → Singles es n
             → result ≡ leb (items_up_to es owner l.0 n) number }
     {
-        if 32768 <= l.0 && 0 < number {
+        if l.is_single() && 0 < number {
             return true;
         }
         self.total_of(owner, l) <= u32::from(number)

@@ -3,17 +3,18 @@ ghost use Rattle.std.specs.Prelude.{◌≡◌, ◌≤◌, ℕ, List, length};
 ghost use Rattle.std.specs.Iterator.{item_count, YieldsFirstRef};
 ghost use Rattle.lists.specs.Parts.{first_length, parts_of};
 
+use blocks::sizes::BLOCK;
 use std::marker::Model;
 
 // The length of the first description: the offset of the first later whole block with number 1, which begins the second one; with no
-// such block, the whole length. Later means not the block at offset 0, whole that all its 512 bytes are there.
+// such block, the whole length. Later means not the block at offset 0, whole that all its bytes are there.
 pub fn part_length(s: &[u8]) -> usize
     ensures { (result ≡ first_length s.now) × (result ≤ length s.now) }
 {
-    let n = s.len() / 512;
+    let n = s.len() / BLOCK;
     (1..n)
-        .find(|i| blocks::word(s, 512 * *i) == 1)
-        .map_or(s.len(), |i| 512 * i)
+        .find(|i| blocks::word(s, BLOCK * *i) == 1)
+        .map_or(s.len(), |i| BLOCK * i)
 }
 
 // The descriptions of a list that are left, each as its bytes.

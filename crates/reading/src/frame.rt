@@ -6,6 +6,7 @@ ghost use Rattle.blocks.specs.Faults.{block_faults, first};
 ghost use Rattle.blocks.specs.Reading.{answer};
 ghost use Rattle.blocks.specs.code.ReadingSteps.{block_refusal};
 
+use blocks::sizes::BLOCK;
 use blocks::{Cause, Refusal, block_check, block_second, word};
 
 // Whether the bytes from one index up to another are zero. All of them are looked at, as in a block that is right
@@ -38,7 +39,7 @@ fn check_wrong(s: &[u8], i: usize) -> bool
     requires { i ≤ 31 }
     ensures { result ≡ check_wrong s.now i }
 {
-    let at = 512 * i;
+    let at = BLOCK * i;
     if word(s, at + 510) != block_check(s, i as u16) {
         return true;
     }
@@ -47,10 +48,10 @@ fn check_wrong(s: &[u8], i: usize) -> bool
 
 // Whether block i of n breaks number 3: its number, its used count, or a byte due to be zero is wrong.
 fn frame_wrong<const WIDTH: usize, const ROOM: usize>(s: &[u8], n: usize, i: usize) -> bool
-    requires { (WIDTH * ROOM ≡ 504) × (i < n) × (n ≤ 32) × (512 * n ≤ length s.now) }
+    requires { (WIDTH * ROOM ≡ 504) × (i < n) × (n ≤ 32) × (BLOCK * n ≤ length s.now) }
     ensures { result ≡ frame_wrong (framed WIDTH ROOM) s.now n i }
 {
-    let at = 512 * i;
+    let at = BLOCK * i;
     if usize::from(word(s, at)) != i + 1 {
         return true;
     }
@@ -67,7 +68,7 @@ fn block_refusal<const WIDTH: usize, const ROOM: usize>(
     n: usize,
     i: usize,
 ) -> Option<Cause>
-    requires { (WIDTH * ROOM ≡ 504) × (i < n) × (n ≤ 32) × (512 * n ≤ length s.now) }
+    requires { (WIDTH * ROOM ≡ 504) × (i < n) × (n ≤ 32) × (BLOCK * n ≤ length s.now) }
     ensures { result ≡ block_refusal (framed WIDTH ROOM) s.now n i }
 {
     if check_wrong(s, i) {
@@ -85,7 +86,7 @@ pub(crate) fn check_frames<const WIDTH: usize, const ROOM: usize>(
     n: usize,
     input: u16,
 ) -> Result<(), Refusal>
-    requires { (WIDTH * ROOM ≡ 504) × (512 * n ≤ length s.now) × (n ≤ 32) }
+    requires { (WIDTH * ROOM ≡ 504) × (BLOCK * n ≤ length s.now) × (n ≤ 32) }
     ensures { result ≡ answer input tt (first (block_faults (framed WIDTH ROOM) s.now n 0 n)) }
 {
     let mut i: usize = 0;

@@ -9,6 +9,7 @@ ghost use Rattle.blocks.specs.declared.Schema.{Schema};
 
 use crate::frame::check_frames;
 use crate::single::check_entries;
+use blocks::sizes::{BLOCK, ENTRIES, ENTRY, STORED_ENTRIES, STORED_ENTRY};
 use blocks::{Cause, Refusal, Schema, word};
 
 // The most blocks that an input may have.
@@ -25,19 +26,19 @@ fn limit_of(schema: Schema) -> usize
 fn blocks_read(s: &[u8], most: usize) -> Option<usize>
     requires { most ≤ 32 }
     ensures { MatchOption result (length_over most s.now ≡ true)
-        (λ n. (length_over most s.now ≡ false) × (n ≡ blocks_in s.now) × (1 ≤ n) × (n ≤ 32) × (512 * n ≤ length s.now)) }
+        (λ n. (length_over most s.now ≡ false) × (n ≡ blocks_in s.now) × (1 ≤ n) × (n ≤ 32) × (BLOCK * n ≤ length s.now)) }
 {
     let n = s.len();
     if n == 0 {
         return None;
     }
-    if n % 512 != 0 {
+    if n % BLOCK != 0 {
         return None;
     }
-    if most < n / 512 {
+    if most < n / BLOCK {
         return None;
     }
-    Some(n / 512)
+    Some(n / BLOCK)
 }
 
 // How many entries n blocks have whose frames are sound.
@@ -46,7 +47,7 @@ fn entries_in<const WIDTH: usize, const ROOM: usize>(s: &[u8], n: usize) -> usiz
     ensures { (result ≡ total_in (framed WIDTH ROOM) s.now) × (result ≤ 16128) }
 {
     let last = n - 1;
-    ROOM * last + usize::from(word(s, 512 * last + 2))
+    ROOM * last + usize::from(word(s, BLOCK * last + 2))
 }
 
 // Reads the entries of an input whose blocks are sound.
@@ -85,14 +86,14 @@ fn read_framed<const WIDTH: usize, const ROOM: usize>(
 pub fn read_blocks(s: &[u8], schema: Schema, input: u16) -> Result<u16, Refusal>
     ensures { result ≡ answer input (total_in plain s.now) (first (fault (length_wrong schema s.now) Cause.Length 0 ∷ block_faults plain s.now (blocks_in s.now) 0 (blocks_in s.now))) }
 {
-    read_framed::<8, 63>(s, limit_of(schema), input)
+    read_framed::<ENTRY, ENTRIES>(s, limit_of(schema), input)
 }
 
-// The same of an input in the shorter stored form: 84 entries of 6 bytes to a block, and at most 12 blocks.
+// The same of an input in the shorter stored form: of at most 12 blocks.
 pub fn read_stored_blocks(s: &[u8], input: u16) -> Result<u16, Refusal>
     ensures { result ≡ answer input (total_in stored_frame s.now) (first (frame_faults stored_frame 12 s.now)) }
 {
-    read_framed::<6, 84>(s, 12, input)
+    read_framed::<STORED_ENTRY, STORED_ENTRIES>(s, 12, input)
 }
 
 // Reads an input as a description, with or without names, or a specimen: its number of entries, or the refusal by the first number that applies. The

@@ -277,7 +277,7 @@ pub(crate) fn first_rule_fault(
     total: usize,
     input: u16,
 ) -> Result<(), Refusal>
-    requires { (total ≡ length (entries_of s.now)) × (total ≤ 2016) × (512 * ((total + 62) / 63) ≤ length s.now) }
+    requires { (total ≡ length (entries_of s.now)) × (total ≤ 2016) × Whole s.now total }
     ensures { result ≡ answer input tt (first (rule_faults schema (entries_of s.now) 1 total)) }
 {
     if total < 64 {

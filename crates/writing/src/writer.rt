@@ -5,6 +5,7 @@ ghost use Rattle.blocks.specs.Words.{word_bytes};
 ghost use Rattle.blocks.specs.Frame.{framed, plain, stored_frame};
 ghost use Rattle.blocks.specs.Encoding.{joined, row_bytes_of, block_bytes, blocks_for, framed_bytes, encode_from, bytes_written, framed_written, written};
 
+use blocks::sizes::{BLOCK, ENTRIES, ENTRY, STORED_ENTRIES, STORED_ENTRY};
 use blocks::{block_check, block_second};
 
 // The most entries that are written, and in the shorter stored form.
@@ -40,7 +41,7 @@ fn put_rows<const WIDTH: usize>(out: &mut [u8], at: usize, rows: &[u64])
 
 // Stores block i, counted from 0: its number, its used count, its entries, zeros, the second sum, and the check.
 fn put_block<const WIDTH: usize, const ROOM: usize>(block: &mut [u8], i: u16, rows: &[u64])
-    requires { (WIDTH * ROOM ≡ 504) × (WIDTH ≤ 8) × (ROOM ≤ 504) × (length block.old ≡ 512) × (i ≤ 31) × (length rows.now ≤ ROOM) }
+    requires { (WIDTH * ROOM ≡ 504) × (WIDTH ≤ 8) × (ROOM ≤ 504) × (length block.old ≡ BLOCK) × (i ≤ 31) × (length rows.now ≤ ROOM) }
     ensures { block.new ≡ block_bytes (framed WIDTH ROOM) i (map (row_bytes_of WIDTH) rows.now) }
 {
     put_word(block, 0, i + 1);
@@ -63,20 +64,20 @@ fn blocks_for<const WIDTH: usize, const ROOM: usize>(count: usize) -> usize
 
 // The bytes that so many entries take.
 pub fn bytes_for(count: u16) -> usize
-    ensures { (result ≡ 512 * blocks_for plain count) × (result ≤ 533504) }
+    ensures { (result ≡ BLOCK * blocks_for plain count) × (result ≤ 533504) }
 {
-    512 * blocks_for::<8, 63>(usize::from(count))
+    BLOCK * blocks_for::<ENTRY, ENTRIES>(usize::from(count))
 }
 
 // Stores the n blocks of packed entries. Blocks are lent by index: of what `chunks_exact_mut` lends only the length is known afterwards.
 fn put_blocks<const WIDTH: usize, const ROOM: usize>(out: &mut [u8], rows: &[u64], n: usize)
-    requires { (WIDTH * ROOM ≡ 504) × (WIDTH ≤ 8) × (ROOM ≤ 504) × (n ≡ blocks_for (framed WIDTH ROOM) (length rows.now)) × (n ≤ 32) × (512 * n ≤ length out.old) }
+    requires { (WIDTH * ROOM ≡ 504) × (WIDTH ≤ 8) × (ROOM ≤ 504) × (n ≡ blocks_for (framed WIDTH ROOM) (length rows.now)) × (n ≤ 32) × (BLOCK * n ≤ length out.old) }
     ensures { out.new ≡ stored out.old 0 (encode_from (framed WIDTH ROOM) n 0 (map (row_bytes_of WIDTH) rows.now)) }
 {
     for i in 0..n {
         let end = rows.len().min(ROOM * i + ROOM);
         put_block::<WIDTH, ROOM>(
-            &mut out[512 * i..512 * i + 512],
+            &mut out[BLOCK * i..BLOCK * i + BLOCK],
             i as u16,
             &rows[ROOM * i..end],
         );
@@ -99,11 +100,11 @@ fn write_framed<const WIDTH: usize, const ROOM: usize>(
         return 0;
     }
     let n = blocks_for::<WIDTH, ROOM>(count);
-    if out.len() < 512 * n {
+    if out.len() < BLOCK * n {
         return 0;
     }
     put_blocks::<WIDTH, ROOM>(out, &rows[..count], n);
-    512 * n
+    BLOCK * n
 }
 
 // Writes the first `count` packed entries as blocks from the start of the output, and returns the number of bytes written;
@@ -114,13 +115,13 @@ pub fn write_entries(out: &mut [u8], rows: &[u64], count: usize) -> usize
     ensures { (result ≡ bytes_written (length out.old) (length rows.now) count)
         × (out.new ≡ written out.old rows.now count) }
 {
-    write_framed::<8, 63>(out, rows, count, MOST)
+    write_framed::<ENTRY, ENTRIES>(out, rows, count, MOST)
 }
 
-// The same in the shorter stored form, 84 entries of 6 bytes to a block and at most 1,008 of them: the low 6 bytes of each packed entry.
+// The same in the shorter stored form, at most 1,008 entries: the low 6 bytes of each packed one.
 pub fn write_stored(out: &mut [u8], rows: &[u64], count: usize) -> usize
     ensures { (result ≡ framed_bytes stored_frame 1008 (length out.old) (length rows.now) count)
         × (out.new ≡ framed_written stored_frame (row_bytes_of 6) 1008 out.old rows.now count) }
 {
-    write_framed::<6, 84>(out, rows, count, MOST_STORED)
+    write_framed::<STORED_ENTRY, STORED_ENTRIES>(out, rows, count, MOST_STORED)
 }
