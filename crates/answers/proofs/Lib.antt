@@ -20,6 +20,10 @@ pub mod Seven
 pub mod Ways
 -- What is promised of the answers, with names.
 pub mod PromiseKept
+-- What unfolding writes, and by which row it refuses.
+pub mod Unfolding
+-- What the contracts of the exported calls say beside their equations.
+pub mod Calls
 -- "One meaning, one set of bytes".
 pub mod OneSetOfBytes
 -- What the bytes of a catalogue say, and that each is the answer of the single comparison.

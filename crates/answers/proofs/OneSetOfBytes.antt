@@ -1,5 +1,5 @@
 -- "One meaning, one set of bytes": for every two accepted descriptions their normal forms are equal byte for byte exactly when the same items
--- fit both in every finite record, under any one list of excluding pairs, and with any one dictionary.
+-- fit both in every finite record, under any one list of excluding pairs, and each with any dictionary of its own.
 -- Assumes nothing.
 use Rattle.std.proofs.Common.{◌≡◌, ℕ, ◌+◌, ◌≤◌, ◌↔◌, List, length, None, Ok, sym, ap, ◌∙◌}
 use Rattle.answers.proofs.Accepted.{plain-means}
@@ -36,45 +36,45 @@ encode_one : (es fs : List Entry) → encode es ≡ encode fs → es ≡ fs
 encode_one es fs e = sym (decode-encode es) ∙ ap entries_of e ∙ decode-encode fs
 
 -- the same items fit what is unfolded as fit the descriptions with names
-module _ (P D c d : List ℕ) (C : Admitted D c) (A : Admitted D d) where
-  same-named : SameItems (under P) (plain_of D c) (plain_of D d) ↔ SameItemsNamed P D c d
+module _ (P D c E d : List ℕ) (C : Admitted D c) (A : Admitted E d) where
+  same-named : SameItems (under P) (plain_of D c) (plain_of E d) ↔ SameItemsNamed P D c E d
   same-named = (
-    λ h R kept x i. sym (plain-means D c C R x) ∙ h R kept x i ∙ plain-means D d A R x,
-    λ h R kept x i. plain-means D c C R x ∙ h R kept x i ∙ sym (plain-means D d A R x),
+    λ h R kept x i. sym (plain-means D c C R x) ∙ h R kept x i ∙ plain-means E d A R x,
+    λ h R kept x i. plain-means D c C R x ∙ h R kept x i ∙ sym (plain-means E d A R x),
   )
 
-  module _ (out out' : List ℕ) {k k' : ℕ} (L : ListRead P) (e : normalise_named P D c out ≡ Ok k) (f : normalise_named P D d out' ≡ Ok k') where
-    bytes-exactly : (first_blocks k (normalised_named P D c out) ≡ first_blocks k' (normalised_named P D d out')) ↔ SameItemsNamed P D c d
+  module _ (out out' : List ℕ) {k k' : ℕ} (L : ListRead P) (e : normalise_named P D c out ≡ Ok k) (f : normalise_named P E d out' ≡ Ok k') where
+    bytes-exactly : (first_blocks k (normalised_named P D c out) ≡ first_blocks k' (normalised_named P E d out')) ↔ SameItemsNamed P D c E d
     bytes-exactly =
         let a = form-blocks P D c out C e in
-        let b = form-blocks P D d out' A f in
+        let b = form-blocks P E d out' A f in
         let es = entries_of (plain_of D c) in
-        let ds = entries_of (plain_of D d) in
+        let ds = entries_of (plain_of E d) in
         let one = normal-one (ruled-under P L.list_read).lawful es ds in (
           λ q. same-named.0 (one.0 (encode_one (normal_entries (under P) es) (normal_entries (under P) ds) (sym a ∙ q ∙ b))),
           λ h. a ∙ ap encode (one.1 (same-named.1 h)) ∙ sym b,
         )
 
--- equal bytes exactly if one meaning, whatever the outputs held and however long they are
-pub one-set-of-bytes : (P D c d out out' : List ℕ) {k k' : ℕ} → normalise_named P D c out ≡ Ok k → normalise_named P D d out' ≡ Ok k'
-    → (first_blocks k (normalised_named P D c out) ≡ first_blocks k' (normalised_named P D d out')) ↔ SameItemsNamed P D c d
-one-set-of-bytes P D c d out out' e f =
-    normalised-ready P D c out e (λ L C. normalised-ready P D d out' f (λ L' A. bytes-exactly P D c d C A out out' L e f))
+-- equal bytes exactly if one meaning, whatever the outputs held and however long they are, each with a dictionary of its own
+pub one-set-of-bytes : (P D c E d out out' : List ℕ) {k k' : ℕ} → normalise_named P D c out ≡ Ok k → normalise_named P E d out' ≡ Ok k'
+    → (first_blocks k (normalised_named P D c out) ≡ first_blocks k' (normalised_named P E d out')) ↔ SameItemsNamed P D c E d
+one-set-of-bytes P D c E d out out' e f =
+    normalised-ready P D c out e (λ L C. normalised-ready P E d out' f (λ L' A. bytes-exactly P D c E d C A out out' L e f))
 
 -- "for every two accepted descriptions": each is normalised, into every output that is as long as the unfolded description
-pub accepted-one-set : (P D c d out out' : List ℕ) → ListRead P → Admitted D c → Admitted D d
-    → length (plain_of D c) ≤ length out → length (plain_of D d) ≤ length out'
-    → (normal_bytes P D c out ≡ normal_bytes P D d out') ↔ SameItemsNamed P D c d
-accepted-one-set P D c d out out' L C A r r' =
+pub accepted-one-set : (P D c E d out out' : List ℕ) → ListRead P → Admitted D c → Admitted E d
+    → length (plain_of D c) ≤ length out → length (plain_of E d) ≤ length out'
+    → (normal_bytes P D c out ≡ normal_bytes P E d out') ↔ SameItemsNamed P D c E d
+accepted-one-set P D c E d out out' L C A r r' =
     let n = accepted-none P L.list_read in
     let e = normal-answers P D c out n ((admitted-exactly D c).0 C) r in
-    let f = normal-answers P D d out' n ((admitted-exactly D d).0 A) r' in
-    rw (e, f) (one-set-of-bytes P D c d out out' e f)
+    let f = normal-answers P E d out' n ((admitted-exactly E d).0 A) r' in
+    rw (e, f) (one-set-of-bytes P D c E d out out' e f)
 
 -- ---- the comparison in place of the bytes
 
 -- the same items fit both exactly if each is contained in the other
-same-contained : (P D c d : List ℕ) → SameItemsNamed P D c d ↔ (ContainedNamed P D c d × ContainedNamed P D d c)
+same-contained : (P D c d : List ℕ) → SameItemsNamed P D c D d ↔ (ContainedNamed P D c d × ContainedNamed P D d c)
 same-contained P D c d = (
   λ h. (λ R kept x i t. sym (h R kept x i) ∙ t, λ R kept x i t. h R kept x i ∙ t),
   λ h R kept x i.
@@ -90,7 +90,7 @@ pub equal-contained : (P D c d out out' o o' : List ℕ) {k k' : ℕ} → normal
     ↔ ((compare_named P D c d o ≡ Ok None) × (compare_named P D d c o' ≡ Ok None))
 equal-contained P D c d out out' o o' e f r r' =
     normalised-ready P D c out e (λ L C. normalised-ready P D d out' f (λ L' A.
-    let one = one-set-of-bytes P D c d out out' e f in
+    let one = one-set-of-bytes P D c D d out out' e f in
     let both = same-contained P D c d in
     let there = (decided-named P D c d o (record { first = C; second = A; room = r }) L).contained in
     let back = (decided-named P D d c o' (record { first = A; second = C; room = r' }) L).contained in (

@@ -47,15 +47,15 @@ list_cases P f g = reading-cases (pairs_reading P) (λ k i p e. f k p (first-of-
 
 module _ (D : List ℕ) (i : ℕ) (s : List ℕ) where
   -- "checked before the other inputs"
-  early : {k : Cause} {j p : ℕ} → DictionaryRefused D k j p → unfolding_of D i s ≡ refused k j p
+  pub early : {k : Cause} {j p : ℕ} → DictionaryRefused D k j p → unfolding_of D i s ≡ refused k j p
   unfolding unfolding_of
   early r = let e = dictionary-refused D r in rw e
 
-  late : DictionaryTaken D → {k : Cause} {p : ℕ} → FirstOf (named_faults (dictionary_of D) s) k p → unfolding_of D i s ≡ refused k i p
+  pub late : DictionaryTaken D → {k : Cause} {p : ℕ} → FirstOf (named_faults (dictionary_of D) s) k p → unfolding_of D i s ≡ refused k i p
   unfolding unfolding_of named_unfolding
   late T f = let e = dictionary-accepted D T in let r = line_refused (dictionary_of D) i s f in rw (e, r)
 
-  line-cases : {X : Type 0} → ((k : Cause) (p : ℕ) → FirstOf (named_faults (dictionary_of D) s) k p → X)
+  pub line-cases : {X : Type 0} → ((k : Cause) (p : ℕ) → FirstOf (named_faults (dictionary_of D) s) k p → X)
       → (NoneApplies (named_faults (dictionary_of D) s) → X) → X
   line-cases f g =
       reading-cases (named_reading (dictionary_of D) i s)

@@ -127,6 +127,7 @@ module _ (P D c d out : List ℕ) (Q : ComparableNamed D c d out) where
         number = r.number;
         room = r.room;
         later = rw o r.later;
+        blocks = rw o r.blocks;
         accepted = rw o r.accepted;
         few = r.few;
         keeps = rw o r.keeps;
@@ -186,6 +187,8 @@ module _ (P D d out : List ℕ) (A : Admitted D d) {k : ℕ} where
         room = n.room;
         shorter = n.shorter;
         later = rw o n.later;
+        blocks = rw o n.blocks;
+        few = n.few;
         accepted = rw o (λ i. accepted-of-sound Description i blocks S ∙ ap Ok (sym count));
         ascending = rw o n.ascending;
         irreducible = rw o n.irreducible;

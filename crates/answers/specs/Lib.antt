@@ -2,3 +2,5 @@
 pub mod Promise
 -- Why each of these calls refuses, in the order of the rows.
 pub mod Refusals
+-- What the contracts of the exported calls say beside their equations.
+pub mod Calls

@@ -3,7 +3,7 @@
 -- Assumes nothing.
 use Rattle.std.specs.Prelude.{◌*◌, ◌+◌, ◌<◌, ◌≤◌, ℕ, drop, length, Bool, false, true, List, [], None, Err, Ok, ◌⊎◌, ◌↔◌, ◌≡◌}
 use Rattle.base.specs.Ascending.{Sorted}
-use Rattle.blocks.specs.Encoding.{blocks_for, first_blocks}
+use Rattle.blocks.specs.Encoding.{blocks_for, encode, first_blocks}
 use Rattle.blocks.specs.Entries.{entries_of}
 use Rattle.blocks.specs.Frame.{plain}
 use Rattle.blocks.specs.Reading.{Reading, reading_of}
@@ -13,6 +13,8 @@ use Rattle.compare.specs.Answer.{not_contained}
 use Rattle.logic.specs.Background.{Keeps}
 use Rattle.logic.specs.Record.{Record, fits}
 use Rattle.meaning.specs.Description.{place_of}
+use Rattle.meaning.specs.Failing.{specimen_of}
+use Rattle.meaning.specs.NormalEntries.{normal_entries}
 use Rattle.meaning.specs.Promise.{FirstNotEntailed}
 use Rattle.meaning.specs.RowEntries.{entry_before}
 use Rattle.meaning.specs.Rules.{Applies}
@@ -47,9 +49,9 @@ pub record StandsFor (D s : List ℕ) (n : ℕ) : Type 0 where
 abbrev pub ContainedNamed : List ℕ → List ℕ → List ℕ → List ℕ → Type 0
 ContainedNamed P D c d = (R : Record) → Keeps (under P) R → (x : ℕ) → x < R.size → fits_in R D c x ≡ true → fits_in R D d x ≡ true
 
--- "the same items fit both in every finite record, under any one list of excluding pairs"
-abbrev pub SameItemsNamed : List ℕ → List ℕ → List ℕ → List ℕ → Type 0
-SameItemsNamed P D c d = (R : Record) → Keeps (under P) R → (x : ℕ) → x < R.size → fits_in R D c x ≡ fits_in R D d x
+-- the same items fit both in every finite record that keeps one list of excluding pairs: c under the dictionary D, d under the dictionary E
+abbrev pub SameItemsNamed : List ℕ → List ℕ → List ℕ → List ℕ → List ℕ → Type 0
+SameItemsNamed P D c E d = (R : Record) → Keeps (under P) R → (x : ℕ) → x < R.size → fits_in R D c x ≡ fits_in R E d x
 
 -- an item of such a record, which fits c and misses d
 pub record CountermodelNamed (P D c d : List ℕ) : Type 0 where
@@ -82,6 +84,7 @@ pub record RefutedNamed (P D c d out : List ℕ) (j k : ℕ) : Type 0 where
   pub room : 512 * blocks_for plain k ≤ length out
   pub later : drop (512 * blocks_for plain k) (output_named P D c d out) ≡ drop (512 * blocks_for plain k) out
   -- they are a specimen of k entries, no more than both have together once unfolded, that is accepted under the list
+  pub blocks : first_blocks k (output_named P D c d out) ≡ encode (specimen_of (under P) (entries_of (plain_of D c)) (entries_of (plain_of D d)))
   pub accepted : specimen_reading P (first_blocks k (output_named P D c d out)) ≡ Ok k
   pub few : k ≤ length (entries_of (plain_of D c)) + length (entries_of (plain_of D d))
   pub keeps : Keeps (under P) (record_of (entries_of (first_blocks k (output_named P D c d out))))
@@ -107,6 +110,8 @@ pub record NormalisesNamed (P D d out : List ℕ) (k : ℕ) : Type 0 where
   pub shorter : 512 * blocks_for plain k ≤ length (plain_of D d)
   pub later : drop (512 * blocks_for plain k) (normalised_named P D d out) ≡ drop (512 * blocks_for plain k) out
   -- they are a plain description of k entries
+  pub blocks : first_blocks k (normalised_named P D d out) ≡ encode (normal_entries (under P) (entries_of (plain_of D d)))
+  pub few : k ≤ length (entries_of (plain_of D d))
   pub accepted : (i : ℕ) → reading_of Description i (first_blocks k (normalised_named P D d out)) ≡ Ok k
   pub ascending : Sorted entry_before (entries_of (first_blocks k (normalised_named P D d out)))
   -- no rule applies to its entries

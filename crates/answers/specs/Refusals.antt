@@ -71,6 +71,12 @@ pub record AcceptedBy (D s : List ℕ) : Type 0 where
   pub dictionary : DictionaryTaken D
   pub description : NoneApplies (named_faults (dictionary_of D) s)
 
+-- unfolding: it takes no list of pairs, and the output is measured by what would be written
+pub data UnfoldRefused (D d out : List ℕ) : Cause → ℕ → ℕ → Type 0 where
+  dictionary : {k : Cause} {i p : ℕ} → DictionaryRefused D k i p → UnfoldRefused D d out k i p
+  input : {k : Cause} {p : ℕ} → DictionaryTaken D → FirstOf (named_faults (dictionary_of D) d) k p → UnfoldRefused D d out k 1 p
+  short : AcceptedBy D d → length out < length (plain_of D d) → UnfoldRefused D d out Room 0 0
+
 -- the normal form
 pub data NormalRefused (P D d out : List ℕ) : Cause → ℕ → ℕ → Type 0 where
   -- "11, input 0, before any other check"

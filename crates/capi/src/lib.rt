@@ -1,15 +1,26 @@
 // The library's calls for C and Rust: eleven functions under their plain names, each slice a pointer and a length. Each answers what the
 // call that it wraps answers, as one number of 64 bits; include/goltximen.h states the terms for a C program.
 //
-// The contracts cite Packing of `packing`, which has the table of these numbers, and the specs of the calls.
+// Each contract has an equation, clause `answer`: the number and every byte of the output, by the definitions of the call and by Packing of
+// `packing`, which has the table of these numbers. The clauses beside it say what that means:
+// - `refuses`: it refuses exactly where a row of the table in Refusals of `answers` applies, by that row;
+// - `keeps`: a refusal writes nothing;
+// - `means`: what the other answers say of every finite record and of the bytes that are written.
+// They are theorems of `answers` about the same definitions; each record that they name is in its specs/.
 #![tactic(auto)]
 
-ghost use Rattle.std.specs.Prelude.{◌≡◌, []};
+ghost use Rattle.std.specs.Prelude.{◌≡◌, ℕ, [], Ok};
+ghost use Rattle.answers.specs.Calls.{CountsPlainly, DecidedPlainly, FitsPlainly, NormalisesPlainly, NothingWritten, ReadExactly, RefusedExactly, Unfolds};
+ghost use Rattle.answers.specs.Promise.{ComparableNamed, DecidedNamed, FitsNamedExactly, JudgeableNamed, NormalisesNamed};
+ghost use Rattle.answers.specs.Refusals.{ComparisonRefused, FitRefused, NormalRefused, UnfoldRefused};
 ghost use Rattle.blocks.specs.Reading.{reading_of};
 ghost use Rattle.blocks.specs.declared.Schema.{Schema};
 ghost use Rattle.catalogue.specs.Answer.{catalogue_of, filled_of};
+ghost use Rattle.compare.specs.Promise.{Comparable};
+ghost use Rattle.fit.specs.Promise.{Judgeable};
 ghost use Rattle.named.specs.Answer.{compare_named, counted_named, fit_named, normalise_named, normalised_named, output_named};
 ghost use Rattle.packing.specs.Packing.{pack_comparison, pack_counted, pack_fit, pack_reading};
+ghost use Rattle.pairs.specs.Promise.{ListRead};
 ghost use Rattle.unfolding.specs.Answer.{unfold_at, unfolded_at};
 
 use packing::{pack_comparison, pack_counted, pack_fit, pack_reading};
@@ -17,7 +28,8 @@ use packing::{pack_comparison, pack_counted, pack_fit, pack_reading};
 // Reads a description as input 1: its number of entries, or the refusal.
 #[unsafe(no_mangle)]
 pub extern "C" fn gx_read_description(d: &[u8]) -> u64
-    ensures { result ≡ pack_reading (reading_of Schema.Description 1 d.now) }
+    ensures answer { result ≡ pack_reading (reading_of Schema.Description 1 d.now) }
+    ensures exactly { ReadExactly Schema.Description d.now }
 {
     pack_reading(reading::read_description(d))
 }
@@ -25,7 +37,8 @@ pub extern "C" fn gx_read_description(d: &[u8]) -> u64
 // Reads a specimen as input 1: its number of entries, or the refusal.
 #[unsafe(no_mangle)]
 pub extern "C" fn gx_read_specimen(s: &[u8]) -> u64
-    ensures { result ≡ pack_reading (reading_of Schema.Specimen 1 s.now) }
+    ensures answer { result ≡ pack_reading (reading_of Schema.Specimen 1 s.now) }
+    ensures exactly { ReadExactly Schema.Specimen s.now }
 {
     pack_reading(reading::read_specimen(s))
 }
@@ -34,7 +47,10 @@ pub extern "C" fn gx_read_specimen(s: &[u8]) -> u64
 // refusal.
 #[unsafe(no_mangle)]
 pub extern "C" fn gx_unfold(dict: &[u8], d: &[u8], out: &mut [u8]) -> u64
-    ensures { (result ≡ pack_reading (unfold_at dict.now 1 d.now out.old)) × (out.new ≡ unfolded_at dict.now 1 d.now out.old) }
+    ensures answer { (result ≡ pack_reading (unfold_at dict.now 1 d.now out.old)) × (out.new ≡ unfolded_at dict.now 1 d.now out.old) }
+    ensures refuses { RefusedExactly (unfold_at dict.now 1 d.now out.old) (UnfoldRefused dict.now d.now out.old) }
+    ensures keeps { NothingWritten (unfold_at dict.now 1 d.now out.old) (unfolded_at dict.now 1 d.now out.old) out.old }
+    ensures means { (n : ℕ) → unfold_at dict.now 1 d.now out.old ≡ Ok n → Unfolds dict.now d.now out.old n }
 {
     pack_reading(unfolding::unfold(dict, d, out))
 }
@@ -44,7 +60,9 @@ pub extern "C" fn gx_unfold(dict: &[u8], d: &[u8], out: &mut [u8]) -> u64
 // Whether the top item of a specimen, input 1, fits a description, input 2; or the refusal.
 #[unsafe(no_mangle)]
 pub extern "C" fn gx_fit(s: &[u8], d: &[u8]) -> u64
-    ensures { result ≡ pack_fit (fit_named [] [] s.now d.now) }
+    ensures answer { result ≡ pack_fit (fit_named [] [] s.now d.now) }
+    ensures refuses { RefusedExactly (fit_named [] [] s.now d.now) (FitRefused [] [] s.now d.now) }
+    ensures means { Judgeable [] s.now d.now → FitsPlainly s.now d.now }
 {
     pack_fit(named::fit_sent(&[], s, d))
 }
@@ -52,7 +70,9 @@ pub extern "C" fn gx_fit(s: &[u8], d: &[u8]) -> u64
 // The same, with the additions of items that it took: in the walk over entries, and in making the table of totals.
 #[unsafe(no_mangle)]
 pub extern "C" fn gx_fit_counted(s: &[u8], d: &[u8]) -> u64
-    ensures { result ≡ pack_counted (counted_named s.now d.now) }
+    ensures answer { result ≡ pack_counted (counted_named s.now d.now) }
+    ensures refuses { RefusedExactly (fit_named [] [] s.now d.now) (FitRefused [] [] s.now d.now) }
+    ensures means { Judgeable [] s.now d.now → CountsPlainly s.now d.now }
 {
     pack_counted(named::fit_counted(s, d))
 }
@@ -60,7 +80,10 @@ pub extern "C" fn gx_fit_counted(s: &[u8], d: &[u8]) -> u64
 // Writes the normal form of a description from the start of the output: its number of entries, or the refusal.
 #[unsafe(no_mangle)]
 pub extern "C" fn gx_normal(d: &[u8], out: &mut [u8]) -> u64
-    ensures { (result ≡ pack_reading (normalise_named [] [] d.now out.old)) × (out.new ≡ normalised_named [] [] d.now out.old) }
+    ensures answer { (result ≡ pack_reading (normalise_named [] [] d.now out.old)) × (out.new ≡ normalised_named [] [] d.now out.old) }
+    ensures refuses { RefusedExactly (normalise_named [] [] d.now out.old) (NormalRefused [] [] d.now out.old) }
+    ensures keeps { NothingWritten (normalise_named [] [] d.now out.old) (normalised_named [] [] d.now out.old) out.old }
+    ensures means { (k : ℕ) → normalise_named [] [] d.now out.old ≡ Ok k → NormalisesPlainly d.now out.old k }
 {
     pack_reading(named::normalise_sent(&[], d, out))
 }
@@ -69,7 +92,10 @@ pub extern "C" fn gx_normal(d: &[u8], out: &mut [u8]) -> u64
 // refusal.
 #[unsafe(no_mangle)]
 pub extern "C" fn gx_compare(c: &[u8], d: &[u8], out: &mut [u8]) -> u64
-    ensures { (result ≡ pack_comparison (compare_named [] [] c.now d.now out.old)) × (out.new ≡ output_named [] [] c.now d.now out.old) }
+    ensures answer { (result ≡ pack_comparison (compare_named [] [] c.now d.now out.old)) × (out.new ≡ output_named [] [] c.now d.now out.old) }
+    ensures refuses { RefusedExactly (compare_named [] [] c.now d.now out.old) (ComparisonRefused [] [] c.now d.now out.old) }
+    ensures keeps { NothingWritten (compare_named [] [] c.now d.now out.old) (output_named [] [] c.now d.now out.old) out.old }
+    ensures means { Comparable c.now d.now out.old → DecidedPlainly c.now d.now out.old }
 {
     pack_comparison(named::compare_sent(&[], c, d, out))
 }
@@ -79,7 +105,9 @@ pub extern "C" fn gx_compare(c: &[u8], d: &[u8], out: &mut [u8]) -> u64
 // Whether the top item of a specimen fits a description, where records keep a list of pairs; or the refusal.
 #[unsafe(no_mangle)]
 pub extern "C" fn gx_fit_with(pairs: &[u8], dict: &[u8], s: &[u8], d: &[u8]) -> u64
-    ensures { result ≡ pack_fit (fit_named pairs.now dict.now s.now d.now) }
+    ensures answer { result ≡ pack_fit (fit_named pairs.now dict.now s.now d.now) }
+    ensures refuses { RefusedExactly (fit_named pairs.now dict.now s.now d.now) (FitRefused pairs.now dict.now s.now d.now) }
+    ensures means { JudgeableNamed pairs.now dict.now s.now d.now → FitsNamedExactly pairs.now dict.now s.now d.now }
 {
     pack_fit(named::fit(pairs, dict, s, d))
 }
@@ -87,8 +115,11 @@ pub extern "C" fn gx_fit_with(pairs: &[u8], dict: &[u8], s: &[u8], d: &[u8]) -> 
 // Writes the normal form of a description: its number of entries, or the refusal.
 #[unsafe(no_mangle)]
 pub extern "C" fn gx_normal_with(pairs: &[u8], dict: &[u8], d: &[u8], out: &mut [u8]) -> u64
-    ensures { (result ≡ pack_reading (normalise_named pairs.now dict.now d.now out.old))
+    ensures answer { (result ≡ pack_reading (normalise_named pairs.now dict.now d.now out.old))
         × (out.new ≡ normalised_named pairs.now dict.now d.now out.old) }
+    ensures refuses { RefusedExactly (normalise_named pairs.now dict.now d.now out.old) (NormalRefused pairs.now dict.now d.now out.old) }
+    ensures keeps { NothingWritten (normalise_named pairs.now dict.now d.now out.old) (normalised_named pairs.now dict.now d.now out.old) out.old }
+    ensures means { (k : ℕ) → normalise_named pairs.now dict.now d.now out.old ≡ Ok k → NormalisesNamed pairs.now dict.now d.now out.old k }
 {
     pack_reading(named::normalise(pairs, dict, d, out))
 }
@@ -103,8 +134,11 @@ pub extern "C" fn gx_compare_with(
     d: &[u8],
     out: &mut [u8],
 ) -> u64
-    ensures { (result ≡ pack_comparison (compare_named pairs.now dict.now c.now d.now out.old))
+    ensures answer { (result ≡ pack_comparison (compare_named pairs.now dict.now c.now d.now out.old))
         × (out.new ≡ output_named pairs.now dict.now c.now d.now out.old) }
+    ensures refuses { RefusedExactly (compare_named pairs.now dict.now c.now d.now out.old) (ComparisonRefused pairs.now dict.now c.now d.now out.old) }
+    ensures keeps { NothingWritten (compare_named pairs.now dict.now c.now d.now out.old) (output_named pairs.now dict.now c.now d.now out.old) out.old }
+    ensures means { ListRead pairs.now → ComparableNamed dict.now c.now d.now out.old → DecidedNamed pairs.now dict.now c.now d.now out.old }
 {
     pack_comparison(named::compare(pairs, dict, c, d, out))
 }
@@ -119,7 +153,7 @@ pub extern "C" fn gx_catalogue(
     list: &[u8],
     out: &mut [u8],
 ) -> u64
-    ensures { (result ≡ pack_reading (catalogue_of pairs.now dict.now c.now list.now out.old))
+    ensures answer { (result ≡ pack_reading (catalogue_of pairs.now dict.now c.now list.now out.old))
         × (out.new ≡ filled_of pairs.now dict.now c.now list.now out.old) }
 {
     pack_reading(catalogue::catalogue(pairs, dict, c, list, out))

@@ -1,0 +1,11 @@
+use Rattle.answers.proofs.Calls.{normal_refuses, normal_stays, normalises_plainly}
+use Rattle.capi.proofs.gx_normal.Goals as goal
+
+pub returns-clause-refuses : goal.returns-clause-refuses
+returns-clause-refuses c = normal_refuses _ _ _ _
+
+pub returns-clause-keeps : goal.returns-clause-keeps
+returns-clause-keeps c = normal_stays _ _ _ _
+
+pub returns-clause-means : goal.returns-clause-means
+returns-clause-means c = normalises_plainly _ _
