@@ -33,16 +33,17 @@ pub(crate) const WALKING: Form = Form {
 /// "Entry: kind (1 byte), zero (1 byte), owner, name, number (2 bytes each)."
 #[derive(Clone, Copy, Debug, Default, PartialEq, Eq)]
 pub struct Entry {
-    /// The kind, 1 to 7 or 9 in accepted inputs.
+    /// The kind, 1 to 9 in accepted inputs.
     pub kind: u8,
     /// The byte that is zero in accepted inputs.
     pub zero: u8,
-    /// "Owner 0 is the top; otherwise it is an earlier entry".
+    /// "Owner 0 is the top; otherwise it is an earlier entry". In a delivered
+    /// record an item.
     pub owner: u16,
     /// The property or link, or 0 for kind 6; for kind 9 the number of a
     /// description in the dictionary.
     pub name: u16,
-    /// n for kinds 3 and 4, count - 1 for kind 7, otherwise 0.
+    /// n for kinds 3 and 4, count - 1 for kind 7, an item for kind 8, otherwise 0.
     pub number: u16,
 }
 

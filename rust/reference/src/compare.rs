@@ -155,10 +155,13 @@ fn supports(place: Option<&Place>, e: &Entry, pairs: &Pairs) -> bool {
 
 /// "a place with one counts as lacking the other"
 fn lacks(facts: &[Fact], property: Property, pairs: &Pairs) -> bool {
-    facts.contains(&Fact::Lacks(property))
-        || pairs
-            .partners(property)
-            .any(|partner| facts.contains(&Fact::Has(partner)))
+    let mut partners: Vec<Property> = pairs.partners(property).collect();
+    partners.sort();
+    facts.iter().any(|fact| match fact {
+        Fact::Lacks(other) => *other == property,
+        Fact::Has(other) => partners.binary_search(other).is_ok(),
+        _ => false,
+    })
 }
 
 /// The n of an at least of this link.

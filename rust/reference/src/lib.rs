@@ -12,6 +12,10 @@
 //! of excluding pairs and a dictionary; [`fit`], [`normal_form`] and [`compare`]
 //! are the calls with no pairs and no dictionary. [`unfold`] takes a dictionary.
 //!
+//! [`narrowest`] and [`fit_all`] take both, [`hierarchy`], [`earning`],
+//! [`failing`] and [`missing`] a list of pairs; [`to_stored`], [`from_stored`],
+//! [`read_sheet`] and the [`Desk`] take neither.
+//!
 //! No call panics, whatever bytes it is given. [`notation`] is for tests.
 
 #![forbid(unsafe_code)]

@@ -10,14 +10,15 @@
 #[derive(Clone, Copy, Debug, PartialEq, Eq)]
 pub struct Refusal {
     /// The number in the first column of the table of refusals, 1 to 7, or a
-    /// number that a request adds: 8, 9 or 11 to 14.
+    /// number that a request adds, 8 to 19.
     pub number: u8,
     /// The input that is refused: 1 or 2; 0 for numbers 7 and 11; 2 for a list
     /// of services and 2 to 65 for the services in it; 100 for the dictionary
     /// and 101 to 164 for its descriptions.
     pub input: u16,
-    /// The block, entry or pair that decides, or 0 for numbers 1, 7, 8 and 14
-    /// and for a list of pairs of a wrong length.
+    /// The block, entry or pair that decides, or 0 for numbers 1, 7, 8, 14 and
+    /// 16 to 18, for a wrong total of items and for a list of pairs of a wrong
+    /// length.
     pub place: u32,
 }
 

@@ -5,7 +5,7 @@ use reference::{earning, encode, Entry};
 use crate::chance::{description, Chance, Size};
 use crate::comparing::{every_tiny_description, weakened};
 use crate::marks::{check_fewest, contained, fewest_of_all_sets};
-use crate::naming::refusal;
+use crate::naming::{chain, refusal};
 use crate::notation::{blocks, entries, entry, list, FILL};
 use crate::wrong::{marked, needs, refused, wrong_descriptions};
 
@@ -145,17 +145,33 @@ fn outputs() {
     }
 }
 
-/// 1,008 entries of which each is needed, or none.
+/// 1,008 entries of which each is needed.
 #[test]
-fn the_largest() {
+fn all_of_the_largest() {
     let each: Vec<Entry> = (1..=1008).map(|n| entry(1, 0, n, 0)).collect();
     assert_eq!(earned(&[], &each, &each), (true, vec![true; 1008]));
-    // What is impossible below goes up 32 links.
-    let mut deep: Vec<Entry> = (0..32).map(|owner| entry(5, owner, 1, 0)).collect();
+}
+
+/// What is impossible below goes up 32 links, and what is beside goes.
+#[test]
+fn the_deepest() {
+    let mut deep = chain(32);
     deep.extend((0..32).map(|owner| entry(3, owner, 1, 1)));
     deep.push(entry(6, 32, 0, 0));
     let mut due = vec![true; 65];
     deep.extend((0..943).map(|n| entry(1, n % 33, n + 1, 0)));
     due.resize(1008, false);
     assert_eq!(earned(&[], &deep, &entries("6")), (true, due));
+}
+
+/// A property that 64 others exclude, and 400 times the lack of it.
+#[test]
+fn the_most_pairs() {
+    let pairs: Vec<_> = (2..=65).map(|other| (1, other)).collect();
+    let mut c: Vec<Entry> = (100..499).map(|n| entry(1, 0, n, 0)).collect();
+    c.push(entry(1, 0, 65, 0));
+    let mut due = vec![false; 399];
+    due.push(true);
+    let d = vec![entry(2, 0, 1, 0); 400];
+    assert_eq!(earned(&list(&pairs), &c, &d), (true, due));
 }

@@ -154,8 +154,19 @@ impl Trial {
     }
 }
 
-/// With one property and no pairs, then with two that exclude each other.
-const TRIALS: [(u16, &[(u16, u16)]); 2] = [(1, &[]), (2, &[(1, 2)])];
+/// With one property, with two, and with two that exclude each other.
+const TRIALS: [(u16, &[(u16, u16)]); 3] = [(1, &[]), (2, &[]), (2, &[(1, 2)])];
+
+#[test]
+fn how_much_is_tried() {
+    for (link, records) in [(1, [1092, 8456, 3606]), (32_768, [48, 312, 141])] {
+        for ((properties, pairs), count) in TRIALS.into_iter().zip(records) {
+            let trial = Trial::of(properties, link, pairs);
+            assert_eq!(trial.records.len(), count);
+            assert_eq!(trial.all.len(), [96, 125][usize::from(properties) - 1]);
+        }
+    }
+}
 
 /// What contains what by the comparison.
 #[test]
