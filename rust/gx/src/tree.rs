@@ -61,6 +61,23 @@ pub fn alone(entries: &[Entry], entry: usize) -> Vec<Entry> {
         .collect()
 }
 
+/// What a group's items have, as a specimen of which one of them is the top item.
+pub fn beneath(entries: &[Entry], tree: &Tree, group: usize) -> Vec<Entry> {
+    let mut out = Vec::new();
+    let mut open = vec![(group, 0)];
+    // Owners come before what they own, since each is taken out before its own are put in.
+    while let Some((owner, number)) = open.pop() {
+        for &owned in tree.owned(owner) {
+            out.push(Entry {
+                owner: number,
+                ..entries[owned - 1]
+            });
+            open.push((owned, (out.len() & 0xffff) as u16));
+        }
+    }
+    out
+}
+
 /// The links from the top to the place where an entry stands.
 pub fn way(entries: &[Entry], number: usize) -> Vec<Link> {
     let owners = owners(entries, number);

@@ -34,6 +34,8 @@ pub enum Trouble {
         mistake: Box<Mistake>,
         /// The line with a sign under it.
         shown: String,
+        /// More mistakes of the same text, with their lines.
+        more: Vec<(Mistake, String)>,
     },
     /// Two words of one number, or one of two, in the inputs of a call.
     Words(Box<Conflict>),
@@ -72,7 +74,13 @@ impl Trouble {
         match self {
             Trouble::File { why, .. } => format!("cannot be read: {why}"),
             Trouble::Unwritten { why, .. } => format!("cannot be written: {why}"),
-            Trouble::Mistake { mistake, .. } => format!("mistake: {mistake}"),
+            Trouble::Mistake { mistake, more, .. } => {
+                let more = match more.len() {
+                    0 => String::new(),
+                    count => format!(" (and {count} more)"),
+                };
+                format!("mistake: {mistake}{more}")
+            }
             Trouble::Words(conflict) => {
                 let Position { line, column } = conflict.other.place.at;
                 format!("mistake: line {line}, column {column}: {}", conflict.line())
@@ -105,7 +113,7 @@ impl Trouble {
 
     /// On several lines, with the file and what stands around the place.
     pub fn lines(&self) -> String {
-        format!("{}: {}", file_name(self.file()), self.told())
+        self.lines_of(&file_name(self.file()))
     }
 
     /// The file's name without its folder.
@@ -115,7 +123,27 @@ impl Trouble {
 
     /// The same with the file's name without its folder, for what is not to depend on where the file lies.
     pub fn titled_lines(&self) -> String {
-        format!("{}: {}", file_name(self.title()), self.told())
+        self.lines_of(&file_name(self.title()))
+    }
+
+    /// The same where the file is named so: mistakes as `file:line:column: ...`.
+    fn lines_of(&self, file: &str) -> String {
+        let Trouble::Mistake {
+            mistake,
+            shown,
+            more,
+            ..
+        } = self
+        else {
+            return format!("{file}: {}", self.told());
+        };
+        let told = |mistake: &Mistake, shown: &str| {
+            let Position { line, column } = mistake.at;
+            format!("{file}:{line}:{column}: {}\n{shown}\n", mistake.told())
+        };
+        let more = more.iter().map(|(mistake, shown)| told(mistake, shown));
+        let more: String = more.collect();
+        told(mistake, shown) + &more
     }
 
     fn told(&self) -> String {
@@ -152,9 +180,13 @@ impl Trouble {
             Trouble::Unwritten { why, .. } => with("unwritten", why),
             Trouble::Empty { .. } => with("no input", &self.line()),
             Trouble::Fault { why, .. } => with("error", why),
-            Trouble::Mistake { mistake, .. } => {
+            Trouble::Mistake { mistake, more, .. } => {
                 let mut fields = vec![("answer", Json::text("mistake")), of.clone()];
                 fields.extend(mistake.json());
+                if !more.is_empty() {
+                    let more = more.iter().map(|(mistake, _)| Json::Object(mistake.json()));
+                    fields.push(("more", Json::List(more.collect())));
+                }
                 fields
             }
             Trouble::Words(conflict) => {

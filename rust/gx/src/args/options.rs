@@ -113,7 +113,7 @@ pub const OPTIONS: &[Opt] = &[
     file(
         "--html",
         "write a page with the answer; for folders, and of a catalogue, into this folder, with an index",
-        &[Compare, Catalogue],
+        &[Fit, Compare, Catalogue],
     ),
     file(
         "--specimen",

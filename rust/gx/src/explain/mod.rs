@@ -55,6 +55,8 @@ pub struct Specimen {
     pub property: Option<Property>,
     /// How many items there are of the link that the entry bounds.
     pub count: u32,
+    /// Whether these are several groups, as a specimen may have them that is not the library's.
+    pub several: bool,
 }
 
 /// The answer of the comparison, explained where it is a no.
@@ -119,6 +121,52 @@ fn failure(
         supplier_owners: leading(&supplier.entries, &way),
         specimen: marked(specimen, &way, says),
         way,
+    }
+}
+
+impl Failure {
+    /// That a specimen does not meet an entry of a description, at this item.
+    pub fn of_specimen(
+        specimen: &[Entry],
+        description: &[Entry],
+        entry: usize,
+        item: usize,
+    ) -> Failure {
+        let says = description[entry - 1].says();
+        let tree = Tree::new(specimen);
+        let mut path = owners(specimen, item);
+        path.extend(Some(item).filter(|&item| item > 0));
+        let bounded = match says {
+            Says::AtLeast(link, _) | Says::AtMost(link, _) => groups(specimen, &tree, item, link),
+            _ => Vec::new(),
+        };
+        let property = match says {
+            Says::Lacks(property) => Some(property),
+            _ => None,
+        };
+        if let [(group, _)] = bounded.as_slice() {
+            path.push(*group);
+        }
+        Failure {
+            entry,
+            says,
+            owners: owners(description, entry),
+            way: way(description, entry),
+            said: Vec::new(),
+            excluding: Vec::new(),
+            place_known: true,
+            supplier: Vec::new(),
+            supplier_always_met: false,
+            supplier_owners: Vec::new(),
+            specimen: Specimen {
+                entries: specimen.to_vec(),
+                at: path.last().copied().unwrap_or(0),
+                path,
+                property,
+                count: bounded.iter().map(|(_, count)| count).sum(),
+                several: bounded.len() > 1,
+            },
+        }
     }
 }
 
@@ -197,16 +245,22 @@ fn marked(entries: Vec<Entry>, way: &[Link], says: Says) -> Specimen {
         at,
         property,
         count: bounded.map_or(0, |(_, count)| count),
+        several: false,
         entries,
     }
 }
 
-/// The group of this link at a place, and its count.
+/// The first group of this link at a place, and its count; a specimen of the library's has no other.
 fn group(entries: &[Entry], tree: &Tree, owner: usize, link: Link) -> Option<(usize, u32)> {
+    groups(entries, tree, owner, link).first().copied()
+}
+
+/// The groups of this link at a place, and their counts.
+fn groups(entries: &[Entry], tree: &Tree, owner: usize, link: Link) -> Vec<(usize, u32)> {
     let owned = tree.owned(owner).iter();
-    let mut groups = owned.filter_map(|&number| match entries[number - 1].says() {
+    let groups = owned.filter_map(|&number| match entries[number - 1].says() {
         Says::Group(of, count) if of == link => Some((number, count)),
         _ => None,
     });
-    groups.next()
+    groups.collect()
 }

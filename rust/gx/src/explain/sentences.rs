@@ -103,6 +103,20 @@ impl Failure {
         match self.says {
             Says::Has(property) => format!("{begin}{which} lacks {}", words.property(property)),
             Says::Lacks(property) => format!("{begin}{which} has {}", words.property(property)),
+            Says::AtLeast(link, n) if self.specimen.several => {
+                let items = words.items(self.specimen.count, link);
+                format!(
+                    "{begin}{which} has {items}, not at least {}",
+                    grouped(n.into())
+                )
+            }
+            Says::AtMost(link, n) if self.specimen.several => {
+                let items = words.items(self.specimen.count, link);
+                format!(
+                    "{begin}{which} has {items}, not at most {}",
+                    grouped(n.into())
+                )
+            }
             Says::AtLeast(_, n) if self.specimen.count > 0 => {
                 format!("{begin}, not at least {}", grouped(n.into()))
             }

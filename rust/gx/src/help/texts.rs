@@ -8,7 +8,8 @@ pub(super) fn detail(command: Command) -> &'static str {
         Command::Write => "Reads a text and writes its blocks, or the bytes of a list of pairs or a dictionary, to standard output or into a file. Nothing is\nwritten where the library refuses them. Without --dictionary a description may name any description from 1 to 64.\n",
         Command::Check => CHECK,
         Command::Normal => NORMAL,
-        Command::Fit => "Answers whether the top item of the specimen fits the description; for a no it names the first entry that is not met.\nWith --pairs a specimen is refused in which an item has both properties of a pair (12).\n",
+        Command::Fit => "Answers whether the top item of the specimen fits the description; for a no it names the first entry that is not met and the item that
+does not meet it, with its path and line.\nWith --pairs a specimen is refused in which an item has both properties of a pair (12).\n",
         Command::Compare => COMPARE,
         Command::Catalogue => CATALOGUE,
         Command::Unfold => UNFOLD,

@@ -105,7 +105,23 @@ pub fn mistaken(path: &Path, mistake: Mistake, text: &str) -> Trouble {
         file: named(path),
         shown: mistake.shown_in(text),
         mistake: Box::new(mistake),
+        more: Vec::new(),
     }
+}
+
+/// The trouble that the mistakes of a text are, the first of them this one.
+pub fn all_mistaken(path: &Path, first: Mistake, text: &str, names: &Names) -> Trouble {
+    let mut later = crate::text::mistakes(text, names);
+    later.retain(|mistake| mistake.at > first.at);
+    let mut trouble = mistaken(path, first, text);
+    if let Trouble::Mistake { more, .. } = &mut trouble {
+        let shown = |mistake: Mistake| {
+            let shown = mistake.shown_in(text);
+            (mistake, shown)
+        };
+        *more = later.into_iter().map(shown).collect();
+    }
+    trouble
 }
 
 /// What a folder has.

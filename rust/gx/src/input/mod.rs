@@ -16,7 +16,8 @@ use crate::trouble::Trouble;
 
 pub use accepted::{accepted, accepted_dictionary, accepted_list, accepted_services, keeping};
 pub use files::{
-    bytes_of, files_of, mistaken, named, names_of, text_of, title, unreadable, why, Listed,
+    all_mistaken, bytes_of, files_of, mistaken, named, names_of, text_of, title, unreadable, why,
+    Listed,
 };
 pub use form::Form;
 pub use reading::Reading;

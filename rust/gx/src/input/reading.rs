@@ -3,8 +3,8 @@
 use std::path::Path;
 
 use super::{
-    accepted, accepted_dictionary, accepted_list, bytes_of, mistaken, named, text_of, title, Form,
-    Input,
+    accepted, accepted_dictionary, accepted_list, all_mistaken, bytes_of, mistaken, named, text_of,
+    title, Form, Input,
 };
 use crate::blocks;
 use crate::dictionary::{self, Dictionary, Naming};
@@ -150,7 +150,7 @@ impl Reading {
     fn text(&self, path: &Path, bytes: &[u8], sort: Option<Sort>) -> Result<Input, Trouble> {
         let text = text_of(path, bytes)?;
         let parsed = text::parse(text, &self.names);
-        let parsed = parsed.map_err(|mistake| mistaken(path, mistake, text))?;
+        let parsed = parsed.map_err(|first| all_mistaken(path, first, text, &self.names))?;
         if let (Some(due), Some((said, at))) = (sort, parsed.sort) {
             if due != said {
                 let expected = format!("a {} here", due.word());

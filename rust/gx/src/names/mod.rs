@@ -64,6 +64,13 @@ impl Names {
         self.links.number(word).map(Link)
     }
 
+    /// Whether there is no word.
+    pub fn is_empty(&self) -> bool {
+        [&self.properties, &self.links, &self.descriptions]
+            .iter()
+            .all(|book| book.all().next().is_none())
+    }
+
     /// All words of properties, links or descriptions.
     pub fn all(&self, of: &str) -> Vec<&str> {
         let book = match of {

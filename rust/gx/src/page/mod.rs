@@ -3,6 +3,7 @@
 
 mod all;
 mod description;
+mod fitting;
 mod folds;
 mod index;
 mod readback;
@@ -24,6 +25,7 @@ use crate::whereabouts;
 use crate::words::{self, Words, APART};
 use description::{listing, Marks};
 
+pub use fitting::{fitting, Fitting};
 pub use index::{index, Row};
 
 /// What a page of a comparison is made of.

@@ -247,7 +247,7 @@ impl Run {
         if self.options().json {
             print(self.object(trouble.json()).as_bytes());
         } else if self.command.answers() && told {
-            let lines = match self.alike {
+            let lines = match self.alike || matches!(trouble, Trouble::Mistake { .. }) {
                 true => trouble.lines(),
                 false => trouble.titled_lines(),
             };

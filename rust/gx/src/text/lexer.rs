@@ -63,6 +63,16 @@ pub struct Token {
     pub at: Position,
 }
 
+impl Token {
+    /// The end of a line that is nowhere.
+    pub fn line() -> Token {
+        Token {
+            sign: Sign::Line,
+            at: Position::default(),
+        }
+    }
+}
+
 /// The rest of a text.
 #[derive(Clone, Debug)]
 pub struct Lexer<'a> {
@@ -106,6 +116,19 @@ impl<'a> Lexer<'a> {
             }
         }
         Ok(())
+    }
+
+    /// Passes over the rest of the line, and says how many brackets it leaves open, with these before.
+    pub fn skip_line(&mut self, mut open: usize) -> usize {
+        while let Some(sign) = self.rest.chars().next().filter(|&sign| sign != '\n') {
+            match sign {
+                '[' => open += 1,
+                ']' => open = open.saturating_sub(1),
+                _ => (),
+            }
+            self.take();
+        }
+        open
     }
 
     /// The next sign.

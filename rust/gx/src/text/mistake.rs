@@ -33,6 +33,8 @@ pub struct Mistake {
     pub expected: String,
     /// What stands there.
     pub found: String,
+    /// What may help, if anything does.
+    pub hint: String,
 }
 
 impl Mistake {
@@ -42,7 +44,27 @@ impl Mistake {
             at,
             expected: expected.into(),
             found: found.into(),
+            hint: String::new(),
         }
+    }
+
+    /// The mistake with what may help.
+    pub fn hinted(self, hint: impl Into<String>) -> Mistake {
+        Mistake {
+            hint: hint.into(),
+            ..self
+        }
+    }
+
+    /// What was expected and what stands there, without where.
+    pub fn told(&self) -> String {
+        let Mistake {
+            expected,
+            found,
+            hint,
+            ..
+        } = self;
+        format!("expected {expected}, found {found}{hint}")
     }
 
     /// For programs.
@@ -50,6 +72,9 @@ impl Mistake {
         let mut fields = self.at.json().to_vec();
         fields.push(("expected", Json::text(&self.expected)));
         fields.push(("found", Json::text(&self.found)));
+        if let Some(hint) = self.hint.strip_prefix("; ") {
+            fields.push(("hint", Json::text(hint)));
+        }
         fields
     }
 
@@ -67,10 +92,6 @@ impl Mistake {
 impl fmt::Display for Mistake {
     fn fmt(&self, f: &mut fmt::Formatter<'_>) -> fmt::Result {
         let Position { line, column } = self.at;
-        write!(
-            f,
-            "line {line}, column {column}: expected {}, found {}",
-            self.expected, self.found
-        )
+        write!(f, "line {line}, column {column}: {}", self.told())
     }
 }

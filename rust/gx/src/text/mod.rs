@@ -40,7 +40,7 @@ mod write;
 
 pub use lexer::{Lexer, Sign, Token};
 pub use mistake::{Mistake, Position};
-pub use parse::{is_headed, parse, parse_dictionary, parse_pairs};
+pub use parse::{is_headed, mistakes, parse, parse_dictionary, parse_pairs, MOST_MISTAKES};
 pub use parse::{Parsed, ParsedDictionary, ParsedPairs, DICTIONARY, EXCLUDES, PAIRS};
 pub use write::{description, desk, desk_dictionary, desk_pairs, dictionary};
 pub use write::{entry, pair, pairs, property, quoted, text, Numbers};

@@ -10,6 +10,7 @@ use super::lexer::{Lexer, Sign, Token};
 use super::mistake::{Mistake, Position};
 use crate::entry::{Entry, Sort};
 use crate::names::Names;
+use crate::suggest::meant;
 
 pub use dictionary::{parse_dictionary, ParsedDictionary, DICTIONARY};
 pub use pairs::{parse_pairs, ParsedPairs, EXCLUDES, PAIRS};
@@ -29,6 +30,8 @@ pub struct Parsed {
 
 const AN_ENTRY: &str =
     "an entry (has, lacks, at least, at most, every, nothing fits, named, group, or kind,name,number)";
+/// The words that entries begin with.
+const BEGINNINGS: [&str; 7] = ["has", "lacks", "at", "every", "nothing", "named", "group"];
 const A_KIND: &str = "a kind from 1 to 7, or 9";
 const THE_END: &str = "a new line, ';' or ']' after the entry";
 const MOST_ENTRIES: usize = 65_535;
@@ -61,6 +64,48 @@ pub fn parse(text: &str, names: &Names) -> Result<Parsed, Mistake> {
         positions,
         words: parser.learnt,
     })
+}
+
+/// So many mistakes of a text are told.
+pub const MOST_MISTAKES: usize = 20;
+
+/// The mistakes of a text, where it has one: the first of each line, up to [`MOST_MISTAKES`].
+pub fn mistakes(text: &str, names: &Names) -> Vec<Mistake> {
+    let mut found = Vec::new();
+    let mut parser = Parser {
+        lexer: Lexer::new(text),
+        next: Token::line(),
+        names,
+        learnt: Names::default(),
+        rows: Vec::new(),
+        stop: None,
+        open: Vec::new(),
+    };
+    let heading = parser.heading();
+    let headed = matches!(heading, Ok(Some(_)));
+    let mut read = heading.map(|_| false);
+    loop {
+        match read {
+            Ok(true) => break,
+            Ok(false) => (),
+            Err(mistake) => {
+                let last = parser.next.sign == Sign::End || parser.rows.len() == MOST_ENTRIES;
+                // The end of a text that has mistakes may lack a bracket for these alone.
+                if !last || found.is_empty() {
+                    found.push(mistake);
+                }
+                if last || found.len() == MOST_MISTAKES {
+                    return found;
+                }
+                parser.pass_mistake();
+            }
+        }
+        read = parser.next_entry(headed || !found.is_empty());
+    }
+    if found.is_empty() {
+        found.extend(numbered(&parser.rows).err());
+    }
+    found
 }
 
 /// An entry as it is written.
@@ -162,16 +207,33 @@ impl<'a> Parser<'a> {
     /// All entries. A text without any has to say by its heading that it is meant so: the empty description is fitted by
     /// everything.
     fn entries(&mut self, headed: bool) -> Result<(), Mistake> {
-        loop {
-            self.skip_lines()?;
-            match (&self.next.sign, self.open.is_empty()) {
-                (Sign::End, true) if self.rows.is_empty() && !headed => {
-                    return self.expected("an entry, or 'description' for one without entries")
-                }
-                (Sign::End, true) => return Ok(()),
-                _ => self.entry_or_close()?,
+        while !self.next_entry(headed)? {}
+        Ok(())
+    }
+
+    /// The next entry or bracket; whether the text has ended instead.
+    fn next_entry(&mut self, headed: bool) -> Result<bool, Mistake> {
+        self.skip_lines()?;
+        match (&self.next.sign, self.open.is_empty()) {
+            (Sign::End, true) if self.rows.is_empty() && !headed => {
+                self.expected("an entry, or 'description' for one without entries")
             }
+            (Sign::End, true) => Ok(true),
+            _ => self.entry_or_close().map(|()| false),
         }
+    }
+
+    /// Goes on at the next line after a mistake, in the places that the line opens.
+    fn pass_mistake(&mut self) {
+        if self.next.sign == Sign::Line {
+            return;
+        }
+        let at = self.next.at;
+        let before = usize::from(self.next.sign == Sign::Open);
+        let opened = self.lexer.skip_line(before);
+        let owner = self.rows.last().map_or(0, |row| row.number);
+        self.open.extend(vec![(owner, at); opened]);
+        self.next = Token::line();
     }
 
     /// An entry, or the bracket that closes the place that was opened last.
@@ -324,7 +386,10 @@ impl<'a> Parser<'a> {
                 (9, self.named_description()?, 0)
             }
             "group" => return self.group(),
-            _ => return self.expected(AN_ENTRY),
+            _ => {
+                let mistake = Mistake::new(self.next.at, AN_ENTRY, self.next.sign.named());
+                return Err(mistake.hinted(meant(word, BEGINNINGS)));
+            }
         };
         Ok(Entry {
             kind,

@@ -117,12 +117,15 @@ fn the_supplier_is_read_first() {
     let folder = desk("catalogue-supplier");
     with_bad_ones(&folder);
     for (supplier, words) in [
-        ("bad-1.txt", "mistake: line 1"),
+        ("bad-1.txt", "1:1: expected an entry"),
         ("bad-2.blocks", "refused 2: "),
         ("bad-3.blocks", "refused 1: the input is empty"),
     ] {
         let ran = folder.gx(&["catalogue", &format!("services/{supplier}"), "services"]);
-        let due = format!("{supplier}: {words}");
+        let due = match supplier {
+            "bad-1.txt" => format!("services/{supplier}:{words}"),
+            _ => format!("{supplier}: {words}"),
+        };
         assert_eq!((ran.status, ran.err.as_str()), (2, ""));
         assert!(ran.text().starts_with(&due), "{}", ran.text());
     }

@@ -237,7 +237,8 @@ fn fit_answers() {
         )
     );
     let ran = folder.gx(&["fit", "bad", "service", "--names", "names"]);
-    let due = "no: the specimen does not meet entry 2 of the description: of every sample, at most 1 layer\n";
+    let due = "no: the specimen does not meet entry 2 of the description: of every sample, at most 1 layer\n\n    \
+               asked by entry 2 (line 2)\n    the item that fails: entry 1 of the specimen (line 1)\n    1 sample, which has 2 layers, not at most 1\n";
     assert_eq!((ran.status, ran.text().as_str()), (1, due));
     let ran = folder.gx(&["fit", "service", "good", "--names", "names"]);
     assert_eq!(ran.status, 2);
@@ -484,7 +485,7 @@ fn refusals_go_where_answers_do_not() {
     ] {
         let ran = folder.gx(&args);
         assert_eq!((ran.status, ran.out.len()), (2, 0), "{args:?}");
-        assert!(ran.err.starts_with("gx: empty: "), "{}", ran.err);
+        assert!(ran.err.starts_with("gx: empty:"), "{}", ran.err);
     }
     for args in [
         vec!["check", "empty"],
@@ -505,7 +506,7 @@ fn mistakes_and_missing_files_are_told() {
         .put("bad", "hass property 7")
         .put("good", "1,7");
     let ran = folder.gx(&["compare", "good", "bad"]);
-    let due = "bad: mistake: line 1, column 1: expected an entry (has, lacks, at least, at most, every, nothing fits, named, group, or kind,name,number), found 'hass'\n  hass property 7\n  ^\n";
+    let due = "bad:1:1: expected an entry (has, lacks, at least, at most, every, nothing fits, named, group, or kind,name,number), found 'hass'; did you mean 'has'?\n  hass property 7\n  ^\n";
     assert_eq!((ran.status, ran.text().as_str()), (2, due));
     let ran = folder.gx(&["compare", "good", "empty", "--json"]);
     assert!(
@@ -558,7 +559,7 @@ fn huge_inputs_are_refused() {
         .gx(&["check", "text"]);
     assert!(
         ran.text()
-            .contains("line 65536, column 1: expected at most 65,535 entries"),
+            .contains("text:65536:1: expected at most 65,535 entries"),
         "{}",
         ran.text()
     );
@@ -579,7 +580,7 @@ fn inputs_of_the_other_form_can_be_forced() {
     let ran = folder.put("latin", latin).gx(&["check", "latin"]);
     assert!(
         ran.text()
-            .contains("line 1, column 18: expected text in UTF-8, found the byte e4"),
+            .contains("latin:1:18: expected text in UTF-8, found the byte e4"),
         "{}",
         ran.text()
     );
@@ -669,7 +670,7 @@ fn owl_both_ways() {
     let other = "ObjectUnionOf(:property_1 :property_2)";
     let ran = folder.gx_with(&["from-owl"], other.as_bytes());
     assert_eq!((ran.status, ran.out.len()), (2, 0));
-    assert!(ran.err.contains("line 1, column 1") && ran.err.contains("found 'ObjectUnionOf'"));
+    assert!(ran.err.contains("standard input:1:1: ") && ran.err.contains("found 'ObjectUnionOf'"));
     let deep = "ObjectAllValuesFrom(:link_1 ".repeat(40) + ":property_1" + &")".repeat(40);
     let ran = folder.put("deep", deep).gx(&["from-owl", "deep"]);
     assert_eq!((ran.status, ran.out.len()), (2, 0));

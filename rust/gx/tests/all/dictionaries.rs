@@ -469,7 +469,11 @@ fn too_large_once_unfolded() {
         );
     }
     let ran = folder.gx(&["compare", "dict", "d", "--dictionary", "dict"]);
-    assert!(ran.text().starts_with("dict: mistake:"), "{}", ran.text());
+    assert!(
+        ran.text().starts_with("dict:1:1: expected "),
+        "{}",
+        ran.text()
+    );
     folder.put("c", "1,7");
     let ran = folder.gx(&["compare", "c", "d", "--dictionary", "dict", "--json"]);
     let begin = "{\"answer\":\"refused\",\"refusal\":14,\"input\":2,\"place\":0,\"line\":null,\"words\":\"once unfolded it has 1,100 entries, and the most is 1,008\"}\n";
@@ -651,7 +655,7 @@ fn a_no_tells_where_an_entry_comes_from() {
     let ran = gx(&["fit", "s", "e"]);
     let due = "no: the specimen does not meet entry 5 of the description (entry 1 of description 1 \"sealed core\", named by entry 3 of description 2 \"good sample\", \
                named by entry 3 as sent): every core of every sample has property sealed\n";
-    assert_eq!((ran.status, ran.text().as_str()), (1, due));
+    assert!(ran.status == 1 && ran.text().starts_with(due));
     let ran = gx(&["unfold", "e", "--numbers"]);
     let due = "#1 lacks property 9\n#2 every link 1 \"sample\" [\n    #3 at least 1 link 2 \"core\"\n    #4 every link 2 \"core\" [\n        #5 has property 7 \"sealed\"\n        \
                #6 at most 2 link 3 \"layer\"\n    ]\n]\n";

@@ -25,7 +25,7 @@ fn a_line_for_each_file() {
     let ran = folder.gx(&["check", "suppliers"]);
     let due = "\
 a.txt: accepted: a description of 2 entries in 1 block
-b.txt: mistake: line 1, column 1: expected an entry (has, lacks, at least, at most, every, nothing fits, named, group, or kind,name,number), found 'hass'
+b.txt: mistake: line 1, column 1: expected an entry (has, lacks, at least, at most, every, nothing fits, named, group, or kind,name,number), found 'hass'; did you mean 'has'?
 c.blocks: refused 1: the input is empty: it has 0 bytes, and the least is one block of 512
 d.txt: accepted: a description of 2 entries in 1 block
 ";

@@ -6,9 +6,9 @@ use gx::dictionary::Part;
 use gx::entry::Sort;
 use gx::names::Names;
 use gx::owl::{question, read};
-use gx::text::{desk, dictionary, parse, parse_dictionary, text, Mistake, Numbers};
+use gx::text::{desk, dictionary, mistakes, parse, parse_dictionary, text, Mistake, Numbers};
 
-use crate::support::ours;
+use crate::support::{ours, Folder};
 
 pub fn is_at(mistake: &Mistake, line: usize, column: usize, expected: &str, found: &str) {
     let told = format!("{mistake}");
@@ -215,6 +215,65 @@ fn a_mistake_is_shown_under_its_line() {
     assert_eq!(mistake.shown_in(text), "   at last 1 link 2\n      ^");
 }
 
+#[test]
+fn up_to_twenty_are_told_in_one_run() {
+    let folder = Folder::new("many-mistakes");
+    std::fs::create_dir_all(folder.path().join("in")).unwrap();
+    let text = "every sampel [\n    hass sealed\n    lacks frozn\n    at lest 1 core\n]\nhas sealed extra\n1,7\n";
+    folder
+        .put(
+            "names",
+            "link 1 \"sample\"\nlink 2 \"core\"\nproperty 7 \"sealed\"\nproperty 8 \"frozen\"",
+        )
+        .put("in/text", text);
+    let ran = folder.gx(&["check", "in/text", "--names", "names"]);
+    let told: Vec<String> = ran.text().lines().step_by(3).map(String::from).collect();
+    for (line, due) in told.iter().zip([
+        "in/text:1:7: expected a word that the names file, or the text before, gives to a link, found \"sampel\"; did you mean 'sample'?",
+        "in/text:2:5: expected an entry (has, lacks, at least, at most, every, nothing fits, named, group, or kind,name,number), found 'hass'; did you mean 'has'?",
+        "in/text:3:11: expected a word that the names file, or the text before, gives to a property, found \"frozn\"; did you mean 'frozen'?",
+        "in/text:4:8: expected 'least' or 'most', found 'lest'",
+        "in/text:6:5: ",
+    ]) {
+        assert!(line.starts_with(due), "{line}");
+    }
+    assert_eq!((ran.status, told.len()), (2, 5), "{}", ran.text());
+    let ran = folder.gx(&["check", "in", "--names", "names"]);
+    assert!(
+        ran.text()
+            .ends_with("did you mean 'sample'? (and 4 more)\n"),
+        "{}",
+        ran.text()
+    );
+    let ran = folder.gx(&["check", "in/text", "--names", "names", "--json"]);
+    let text = ran.text();
+    assert!(
+        text.contains("\"hint\":\"did you mean 'sample'?\",\"more\":[{\"line\":2,"),
+        "{text}"
+    );
+    assert_eq!(text.matches("\"expected\":").count(), 5);
+    folder.put("many", "has\n".repeat(1000));
+    let ran = folder.gx(&["check", "many"]);
+    assert_eq!(ran.text().matches("many:").count(), 20);
+    assert_eq!(mistakes("1,7\n", &Names::default()), []);
+}
+
+#[test]
+fn what_is_missing_is_hinted() {
+    let folder = Folder::new("hints");
+    folder.put("text", "has sealed");
+    let ran = folder.gx(&["check", "text"]);
+    let due = "found \"sealed\"; no names file is given (--names FILE)\n";
+    assert!(ran.text().contains(due), "{}", ran.text());
+    let ran = folder.gx(&["check", "none"]);
+    assert_eq!(
+        ran.err,
+        "gx: none: cannot be read: no such file or directory\n"
+    );
+    let ran = folder.gx(&["show", "text", "--out", "none/x"]);
+    assert!(!ran.err.contains("os error"), "{}", ran.err);
+}
+
 /// The bytes with a few of them changed, taken away or repeated.
 fn spoilt(chance: &mut Chance, bytes: &[u8]) -> Vec<u8> {
     let mut bytes = bytes.to_vec();
@@ -254,6 +313,7 @@ fn spoilt_texts_are_mistakes_or_texts() {
         let bytes = spoilt(&mut chance, written.as_bytes());
         let spoilt = String::from_utf8_lossy(&bytes);
         for mistake in [
+            gx::text::mistakes(&spoilt, &names).pop(),
             parse(&spoilt, &names).err(),
             parse_dictionary(&spoilt, &names).err(),
             read(&spoilt, Some("Service"), &names).err(),

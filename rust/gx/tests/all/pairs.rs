@@ -441,7 +441,7 @@ fn usage_of_lists() {
     let ran = folder.gx(&["compare", "d", "d", "--pairs", "names"]);
     assert_eq!(ran.status, 2);
     assert!(
-        ran.text().starts_with("names: mistake: line 1"),
+        ran.text().starts_with("names:1:18: expected "),
         "{}",
         ran.text()
     );

@@ -139,3 +139,51 @@ fn a_list_of_services_has_pages_too() {
     let ran = folder.gx(&["catalogue", "pages/x.html", "x", "--html", "pages"]);
     assert_eq!((ran.status, ran.out.len()), (64, 0), "{}", ran.err);
 }
+
+#[test]
+fn fit_tells_which_item_fails() {
+    let folder = Folder::new("fit-item");
+    folder
+        .put("names", "link 1 \"sample\" \"samples\"\nlink 2 \"core\" \"cores\"\nproperty 7 \"sealed\"")
+        .put("s", "specimen\ngroup of 2 sample [\n    has sealed\n    group of 1 core [ has sealed ]\n]\ngroup of 3 sample [\n    has sealed\n    group of 4 core [\n        has property 9\n    ]\n]\n")
+        .put("d", "every sample [\n    has sealed\n    every core [\n        has sealed\n    ]\n]\n")
+        .put("most", "every sample [ at most 3 core ]")
+        .put("top", "at least 6 sample");
+    let args = ["fit", "s", "d", "--names", "names", "--html", "page"];
+    let ran = folder.gx(&args);
+    let due = "no: the specimen does not meet entry 4 of the description: every core of every sample has property sealed
+
+    asked by entry 4 (line 4)
+    the item that fails: entry 7 of the specimen (line 8)
+    3 samples, each of which has 4 cores, each of which lacks property sealed
+";
+    assert_eq!((ran.status, ran.text().as_str()), (1, due));
+    let page = String::from_utf8(folder.get("page")).unwrap();
+    for part in [
+        "Does not fit</h1>",
+        "<small>its entry 7, line 8, of <bdi>s</bdi></small>",
+        "<li id=\"description-4\">",
+        "<h2 id=\"specimen\">",
+        "✕ fails here",
+    ] {
+        assert!(page.contains(part), "{part}");
+    }
+    assert_eq!(page.matches("<mark>").count(), 1);
+    let ran = folder.gx(&["fit", "s", "d", "--names", "names", "--json"]);
+    let due = "{\"answer\":\"no\",\"entry\":4,\"line\":4,\"asks\":\"every core of every sample has property sealed\",\
+        \"item\":7,\"item_line\":8,\"path\":[5,7],\"shows\":\"";
+    assert!(ran.text().starts_with(due), "{}", ran.text());
+    for (d, due) in [
+        ("most", "the item that fails: entry 7 of the specimen (line 8)\n    3 samples, each of which has 4 cores, not at most 3\n"),
+        ("top", "the item that fails: the top item\n    the top item has 5 samples, not at least 6\n"),
+    ] {
+        let ran = folder.gx(&["fit", "s", d, "--names", "names"]);
+        assert!(ran.text().ends_with(due), "{}", ran.text());
+    }
+    folder.put("yes", "every sample [ has sealed ]");
+    let ran = folder.gx(&["fit", "s", "yes", "--names", "names", "--html", "page"]);
+    assert_eq!(ran.status, 0);
+    assert!(String::from_utf8(folder.get("page"))
+        .unwrap()
+        .contains("</span> Fits</h1>"));
+}

@@ -124,16 +124,16 @@ fn mistakes_in_them_are_told() {
     for (text, line, expected) in [
         (
             "name lab.names",
-            "line 1, column 1",
+            "laboratory.gx:1:1: ",
             "'names', 'pairs' or 'dictionary'",
         ),
         (
             "names lab.names\nnames lab.names",
-            "line 2, column 1",
+            "laboratory.gx:2:1: ",
             "each setting once",
         ),
-        ("names\n", "line 1, column 6", "a file"),
-        ("names a; b", "line 1, column 8", "stands in quotes"),
+        ("names\n", "laboratory.gx:1:6: ", "a file"),
+        ("names a; b", "laboratory.gx:1:8: ", "stands in quotes"),
     ] {
         let folder = laboratory("lab-mistakes");
         folder.put("laboratory.gx", text);

@@ -3,6 +3,7 @@
 use super::{Mistake, Parser, Position, Sign, THE_END};
 use crate::entry::{Link, Named, Property};
 use crate::names::clashing;
+use crate::suggest::meant;
 use crate::text::quoted;
 
 impl Parser<'_> {
@@ -131,6 +132,17 @@ impl Parser<'_> {
         Ok((words.join(" "), at))
     }
 
+    /// A near word that is known; and where none is, and there is no names file, that there is none.
+    fn hint(&self, sort: &str, word: &str) -> String {
+        let known = [self.names, &self.learnt].map(|names| names.all(sort));
+        match meant(word, known.concat()) {
+            hint if hint.is_empty() && self.names.is_empty() => {
+                "; no names file is given (--names FILE)".into()
+            }
+            hint => hint,
+        }
+    }
+
     /// The number that a word stands for: in the names that are given, or in the text before. Where these say two things, the word
     /// says nothing.
     fn one_of(
@@ -148,7 +160,7 @@ impl Parser<'_> {
                 Err(Mistake::new(at, expected, quoted(word)))
             }
             [Some(number), _] | [None, Some(number)] => Ok(number),
-            [None, None] => Err(unknown(at, sort, word)),
+            [None, None] => Err(unknown(at, sort, word).hinted(self.hint(sort, word))),
         }
     }
 }
