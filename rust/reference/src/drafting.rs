@@ -99,7 +99,7 @@ pub enum Call {
     GoBack(u16),
     /// Drops a stand.
     Drop(u16),
-    /// Writes the description over an output of this many bytes of zero.
+    /// Writes the description over an output of this many bytes.
     Write(usize),
 }
 
@@ -108,8 +108,9 @@ pub enum Call {
 pub struct Outcome {
     /// The number of entries, or the refusal.
     pub answer: Result<usize, Refusal>,
-    /// The output after the call; empty but for [`Call::Write`].
-    pub output: Vec<u8>,
+    /// The bytes written, from the start of the output: none unless the call is
+    /// [`Call::Write`] and is not refused.
+    pub written: Vec<u8>,
 }
 
 /// What each call of a list answers, from an empty desk.
@@ -119,7 +120,7 @@ pub fn desk_answers(calls: &[Call]) -> Vec<Outcome> {
 }
 
 fn outcome(desk: &mut Desk, call: Call) -> Outcome {
-    let mut output = Vec::new();
+    let mut written = Vec::new();
     let answer = match call {
         Call::Add(entry) => desk.add(entry),
         Call::TakeOff => desk.take_off(),
@@ -127,9 +128,14 @@ fn outcome(desk: &mut Desk, call: Call) -> Outcome {
         Call::GoBack(stand) => desk.go_back(stand),
         Call::Drop(stand) => desk.drop_stand(stand),
         Call::Write(length) => {
-            output.resize(length, 0);
-            desk.write_out(&mut output)
+            // Bytes beyond those to be written stay, so they need not be there.
+            written.resize(length.min(length_in_blocks(&desk.held)), 0);
+            let answer = desk.write_out(&mut written);
+            if answer.is_err() {
+                written.clear();
+            }
+            answer
         }
     };
-    Outcome { answer, output }
+    Outcome { answer, written }
 }

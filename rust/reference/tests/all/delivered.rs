@@ -206,13 +206,15 @@ fn blocks_of_a_record() {
     record_refused(&[], 3, &with_checks(wrong), refusal(3, 1, 32));
 }
 
-/// The first entry that is wrong decides, and in it 4, then 10, then 9.
-#[test]
-fn entries_of_a_record() {
-    let s = 32_768;
+/// A link that never leads to two items.
+const S: u16 = 32_768;
+
+/// Entries that no record of three items has after a link by S from item 1 to
+/// item 2, each with the number that refuses it: 4, then 10, then 9.
+fn wrong_entries() -> [(Entry, u8); 20] {
     let mut zero = has(1, 1);
     zero.zero = 1;
-    for (last, number) in [
+    [
         (entry(0, 1, 1, 0), 4),
         (entry(2, 1, 1, 0), 4),
         (entry(5, 1, 1, 0), 4),
@@ -230,29 +232,39 @@ fn entries_of_a_record() {
         (linked(1, 1, 0), 10),
         (linked(4, 1, 1), 10),
         (linked(1, 1, 4), 10),
-        (linked(1, s, 4), 10),
-        (linked(1, s, 3), 9),
-        (linked(1, s, 1), 9),
-    ] {
-        let good = [
-            linked(1, s, 2),
-            has(3, s),
-            linked(1, s - 1, 2),
-            linked(2, s, 3),
-        ];
+        (linked(1, S, 4), 10),
+        (linked(1, S, 3), 9),
+        (linked(1, S, 1), 9),
+    ]
+}
+
+/// The first entry that is wrong decides.
+#[test]
+fn entries_of_a_record() {
+    let good = [
+        linked(1, S, 2),
+        has(3, S),
+        linked(1, S - 1, 2),
+        linked(2, S, 3),
+    ];
+    for (last, number) in wrong_entries() {
         let entries = [&good[..], &[last], &[entry(0, 0, 0, 0)]].concat();
         record_refused(&[], 3, &encode(&entries), refusal(number, 1, 5));
     }
-    // Another link, another item, the same pair again, a link to many.
+}
+
+/// Another link, another item, the same pair again, a link to many.
+#[test]
+fn links_that_keep_the_rule() {
     let good = [
-        linked(1, s, 2),
-        linked(1, s, 2),
-        linked(1, s + 1, 3),
-        linked(2, s, 3),
-        linked(3, s, 3),
-        linked(1, s - 1, 1),
-        linked(1, s - 1, 3),
-        has(1, s),
+        linked(1, S, 2),
+        linked(1, S, 2),
+        linked(1, S + 1, 3),
+        linked(2, S, 3),
+        linked(3, S, 3),
+        linked(1, S - 1, 1),
+        linked(1, S - 1, 3),
+        has(1, S),
         has(3, 65_535),
     ];
     assert_eq!(fitting(&[], 3, &good, &[]), [true; 3]);
