@@ -11,6 +11,7 @@ use crate::dictionary::{Dictionary, read_named};
 use crate::passes::unfold_rows;
 use crate::rows::{Rows, load};
 use crate::tables::Tables;
+use blocks::sizes::BLOCK;
 use blocks::{Cause, Refusal};
 use writing::write_entries;
 
@@ -38,8 +39,8 @@ fn unfold_read(
 // Writes the entries of a table as blocks from the start of an output; false, and no byte changes, where it is too short.
 fn write_rows(out: &mut [u8], rows: &Rows) -> bool
     ensures few { length rows.now ≤ 1008 }
-    ensures short { result ≡ false → (length out.old < 512 * blocks_for plain (length rows.now)) × (out.new ≡ out.old) }
-    ensures long { result ≡ true → (512 * blocks_for plain (length rows.now) ≤ length out.old) × (out.new ≡ over (encode rows.now) out.old) }
+    ensures short { result ≡ false → (length out.old < BLOCK * blocks_for plain (length rows.now)) × (out.new ≡ out.old) }
+    ensures long { result ≡ true → (BLOCK * blocks_for plain (length rows.now) ≤ length out.old) × (out.new ≡ over (encode rows.now) out.old) }
 {
     let numbers = rows.numbers();
     write_entries(out, numbers, numbers.len()) != 0

@@ -14,6 +14,7 @@ ghost use Rattle.unfolding.specs.code.Known.{Known, MeasuredBy, Ready, Ready-pro
 use crate::Measured;
 use crate::measure::check;
 use crate::tables::{Described, Tables};
+use blocks::sizes::BLOCK;
 use blocks::{Cause, Refusal, Schema};
 use lists::{Parts, part_length, parts_in};
 use reading::read_blocks;
@@ -112,7 +113,7 @@ fn read_dictionary(bytes: &[u8], tables: &mut Tables) -> Result<u16, Refusal>
     ensures { (result ≡ dictionary_reading bytes.now)
         × ((n : ℕ) → result ≡ Ok n → (n ≡ tables.new.count) × Ready bytes.now tables.new) }
 {
-    if bytes.len() % 512 != 0 {
+    if bytes.len() % BLOCK != 0 {
         return Err(Refusal {
             cause: Cause::Length,
             input: 100,

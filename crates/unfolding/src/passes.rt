@@ -9,6 +9,7 @@ ghost use Rattle.unfolding.specs.code.Replacing.{NamesOf, Stood};
 use crate::dictionary::Dictionary;
 use crate::replace::{put_again, put_part};
 use crate::rows::{Rows, entry_of_row};
+use blocks::sizes::{BLOCK, ENTRIES};
 use blocks::{Entry, kinds, word};
 
 // Where what a name becomes stands: after how many entries, and how many entries it has.
@@ -25,8 +26,8 @@ fn put_described(dictionary: Dictionary, n: u16, o: u16, number: &mut [u16; 1009
     ensures { out.new ≡ out.old ++ map (relocate (length out.old) o) (inside (dictionary_of dictionary.entry.bytes.now) n) }
 {
     let part = dictionary.description(n);
-    let last = part.len() / 512 - 1;
-    let total = 63 * last + usize::from(word(part, 512 * last + 2));
+    let last = part.len() / BLOCK - 1;
+    let total = ENTRIES * last + usize::from(word(part, BLOCK * last + 2));
     put_part(part, total, dictionary.tables, o, number, out);
 }
 
