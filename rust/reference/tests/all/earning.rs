@@ -159,8 +159,8 @@ fn the_deepest() {
     deep.extend((0..32).map(|owner| entry(3, owner, 1, 1)));
     deep.push(entry(6, 32, 0, 0));
     let mut due = vec![true; 65];
-    deep.extend((0..943).map(|n| entry(1, n % 33, n + 1, 0)));
-    due.resize(1008, false);
+    deep.extend((0..235).map(|n| entry(1, n % 33, n + 1, 0)));
+    due.resize(300, false);
     assert_eq!(earned(&[], &deep, &entries("6")), (true, due));
 }
 

@@ -201,7 +201,7 @@ fn outputs() {
     }
 }
 
-/// 64 services of 1,008 entries.
+/// Services of 1,008 entries, each contained in all before it.
 #[test]
 fn the_largest() {
     let service = |k: u16| {
@@ -209,9 +209,9 @@ fn the_largest() {
         d.extend((0..976).map(|n| entry(3, n % 33, n + 1, k)));
         d
     };
-    let services: Vec<_> = (1..=64).map(service).collect();
-    let found = parts(&[], &laid_end_to_end(&services), 64);
-    for (c, d) in (0..64).flat_map(|c| (0..64).map(move |d| (c, d))) {
+    let services: Vec<_> = (1..=20).map(service).collect();
+    let found = parts(&[], &laid_end_to_end(&services), 20);
+    for (c, d) in (0..20).flat_map(|c| (0..20).map(move |d| (c, d))) {
         assert_eq!(found.table[c][d], u8::from(d <= c));
         assert_eq!(found.superiors[c][d], u8::from(d + 1 == c));
     }
