@@ -100,7 +100,8 @@ impl<'a> Line<'a> {
             1 => "1 is given".into(),
             _ => format!("{count} are given"),
         };
-        if self.command.takes_pair() && count != 2 {
+        let catalogue = self.command == Command::Owl && count > 2;
+        if self.command.takes_pair() && count != 2 && !catalogue {
             return Err(format!("{word} takes two inputs, and {given}"));
         }
         if self.command == Command::Catalogue && count < 2 {

@@ -130,7 +130,7 @@ impl Context {
             (Command::FromOwl, &[file]) => owl::from_owl(self, file),
             (Command::Fit, &[specimen, description]) => fit::fit(self, specimen, description),
             (Command::Compare, &[c, d]) => compare::compare(self, c, d),
-            (Command::Owl, &[c, d]) => owl::owl(self, c, d),
+            (Command::Owl, [c, services @ ..]) => owl::owl(self, c, services),
             _ => Err(Trouble::File {
                 file: command.word().into(),
                 why: "wrong number of inputs".into(),

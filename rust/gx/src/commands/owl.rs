@@ -2,11 +2,11 @@
 
 use std::path::Path;
 
-use super::{entries_json, list, words_of, Answer, Context, Status, Written};
+use super::{entries_json, list, Answer, Context, Status, Written};
 use crate::args::{Content, To};
-use crate::blocks::encode;
+use crate::blocks::{decode, encode};
 use crate::dictionary::Naming;
-use crate::entry::Sort;
+use crate::entry::{Entry, Sort};
 use crate::input::{accepted, accepted_list, bytes_of, mistaken, named, text_of, title, Input};
 use crate::json::Json;
 use crate::owl;
@@ -14,19 +14,34 @@ use crate::pairs::{encode as encode_pairs, List};
 use crate::trouble::Trouble;
 use crate::words;
 
-pub(super) fn owl(context: &Context, c: &Path, d: &Path) -> Result<Answer, Trouble> {
+pub(super) fn owl(context: &Context, c: &Path, services: &[&Path]) -> Result<Answer, Trouble> {
     let supplier = context.description(c, 1)?;
-    let service = context.description(d, 2)?;
-    let list = &context.background.list;
-    let names = words_of(&supplier, &service)?;
-    let question = owl::question(&list.pairs, &supplier.entries, &service.entries, &names);
+    let numbered = (2..).zip(services);
+    let services = numbered.map(|(input, service)| context.description(service, input));
+    let services = services.collect::<Result<Vec<Input>, Trouble>>()?;
+    let mut names = supplier.names.clone();
+    for service in &services {
+        names.join(&service.names).map_err(Trouble::Words)?;
+    }
+    let sent = |input: &Input| decode(&input.bytes);
+    let sent_supplier = sent(&supplier);
+    let sent: Vec<Vec<Entry>> = services.iter().map(sent).collect();
+    let titles = services.iter().map(|service| service.title.as_str());
+    let question = owl::questions(&owl::Asked {
+        pairs: &context.background.list.pairs,
+        dictionary: &context.background.dictionary.parts,
+        supplier: &sent_supplier,
+        services: titles.zip(sent.iter().map(Vec::as_slice)).collect(),
+        names: &names,
+    });
+    let counts: Vec<String> = [&supplier]
+        .into_iter()
+        .chain(&services)
+        .map(|input| words::entries(input.entries.len()))
+        .collect();
     Ok(Answer {
         status: Status::Yes,
-        line: format!(
-            "a question of {} and {}",
-            words::entries(supplier.entries.len()),
-            words::entries(service.entries.len())
-        ),
+        line: format!("a question of {}", words::listed(&counts)),
         json: vec![
             ("answer", Json::text("written")),
             ("owl", Json::text(&question)),

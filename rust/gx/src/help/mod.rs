@@ -131,7 +131,8 @@ fn lines(text: &str, width: usize) -> Vec<String> {
 fn inputs(command: Command) -> &'static str {
     match command {
         Command::Fit => "SPECIMEN DESCRIPTION",
-        Command::Compare | Command::Owl => "SUPPLIER SERVICE",
+        Command::Compare => "SUPPLIER SERVICE",
+        Command::Owl => "SUPPLIER SERVICE...",
         Command::Catalogue => "SUPPLIER SERVICES...",
         _ => "[FILE...]",
     }

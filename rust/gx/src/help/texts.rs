@@ -13,7 +13,7 @@ does not meet it, with its path and line.\nWith --pairs a specimen is refused in
         Command::Compare => COMPARE,
         Command::Catalogue => CATALOGUE,
         Command::Unfold => UNFOLD,
-        Command::Owl => "Writes an ontology with the classes Supplier and Service, and SupplierOnly for what fits the first and not the second. The\nsupplier's description is contained in the service's exactly if a reasoner finds Supplier below Service, or SupplierOnly\nunsatisfiable. Property 7 is the class property_7, link 1 the object property link_1; words become labels. Links from 32768 up\nare functional. With --pairs the two properties of a pair are disjoint classes. Named entries are unfolded.\n",
+        Command::Owl => "Writes an ontology with the classes Supplier and Service, and SupplierOnly for what fits the first and not the second. The\nsupplier's description is contained in the service's exactly if a reasoner finds Supplier below Service, or SupplierOnly\nunsatisfiable. Property 7 is the class property_7, link 1 the object property link_1; words become labels. Links from 32768 up\nare functional. With --pairs the two properties of a pair are disjoint classes. With --dictionary each\ndescription is a class with its definition, description_1 and so on. Of several services, or all of a catalogue, the classes are\nService_1, SupplierOnly_1 and so on.\n\nKonclude says whether SupplierOnly is satisfiable (two workers: with one it may hang), and classifies a catalogue:\n    gx owl supplier.txt service.txt -o question.ofn\n    Konclude satisfiability -w 2 -i question.ofn -x 'urn:goltximen#SupplierOnly'\n    gx owl supplier.txt services/* -o all.ofn\n    Konclude classification -w 2 -i all.ofn -o classes.owx\nFaCT++ and HermiT read the file through the OWL API, as in Prot\u{e9}g\u{e9}: start the\nreasoner there and look whether SupplierOnly is below owl:Nothing.\n",
         Command::FromOwl => FROM_OWL,
     }
 }
@@ -66,7 +66,7 @@ ObjectComplementOf a class, ObjectIntersectionOf, ObjectAllValuesFrom, ObjectMin
 ObjectExactCardinality, ObjectSomeValuesFrom owl:Thing, owl:Thing and owl:Nothing, and of links from 32768 up
 FunctionalObjectProperty; of anything else it says what it is and where. DisjointClasses of classes by their names are pairs of
 properties that exclude each other: --sort pairs writes these, and not the description.
-Names are property_7 and link_1 of <urn:goltximen#>, or others whose label or last part the names file knows.
+Classes description_1 and so on, with a definition, are put in where they are named. Names are property_7 and link_1 of <urn:goltximen#>, or others whose label or last part the names file knows.
 ";
 
 pub(super) const ALL: &str = "

@@ -9,6 +9,7 @@
 //! | every item by link 1 fits .. | `ObjectAllValuesFrom(:link_1 ..)` |
 //! | nothing fits | `owl:Nothing` |
 //! | several entries of one place | `ObjectIntersectionOf(..)` |
+//! | named 3 | `:description_3`, a class with its definition |
 //! | a place without entries | `owl:Thing` |
 //!
 //! Links from 32,768 up lead to one item only: the axiom `FunctionalObjectProperty(:link_32768)` says so to a reasoner. So does
@@ -18,11 +19,12 @@
 //! is finite.
 
 mod lexer;
+mod other;
 mod read;
 mod write;
 
 pub use read::{read, read_pairs, Found};
-pub use write::question;
+pub use write::{question, questions, Asked};
 
 /// Where the names of properties and links begin.
 pub(crate) const SPACE: &str = "urn:goltximen#";

@@ -1,14 +1,17 @@
 //! A description from OWL: a class expression, or a class that an ontology defines by one.
 
+mod expression;
+mod names;
+
 use std::collections::BTreeMap;
 
 use super::lexer::{tokens, Sign, Token};
 use super::{OWL, RDFS, SPACE};
-use crate::entry::{Entry, Link, Property};
+use crate::entry::{Entry, Property};
 use crate::names::Names;
 use crate::pairs::Pair;
-use crate::shown::turns;
 use crate::text::{Mistake, Position};
+use names::local;
 
 /// What was found.
 #[derive(Clone, Debug)]
@@ -87,6 +90,9 @@ struct Reader<'a> {
 
 impl<'a> Reader<'a> {
     fn new(text: &str, names: &'a Names) -> Result<Reader<'a>, Mistake> {
+        if let Some(mistake) = super::other::syntax(text) {
+            return Err(mistake);
+        }
         let spaces = [("owl:", OWL), ("rdfs:", RDFS), (":", SPACE)];
         let prefixes = spaces.map(|(prefix, iri)| (prefix.into(), iri.into()));
         Ok(Reader {
@@ -357,197 +363,4 @@ impl<'a> Reader<'a> {
         });
         Ok(number_of)
     }
-
-    /// A class expression, as entries of this owner.
-    fn expression(&mut self, owner: u16, depth: usize) -> Result<(), Mistake> {
-        if depth > DEEPEST {
-            return self.fault(format!("expressions at most {DEEPEST} deep"));
-        }
-        if self.iri(&self.next().sign).is_some() {
-            return self.class(owner, 1);
-        }
-        let word = match &self.next().sign {
-            Sign::Word(word) => word.clone(),
-            _ => return self.fault(A_CLASS),
-        };
-        match word.as_str() {
-            "ObjectIntersectionOf" => self.intersection(owner, depth),
-            "ObjectComplementOf" => self.complement(owner),
-            "ObjectAllValuesFrom" => self.every(owner, depth),
-            "ObjectSomeValuesFrom" => self.some(owner),
-            "ObjectMinCardinality" => self.cardinality(owner, &[3]),
-            "ObjectMaxCardinality" => self.cardinality(owner, &[4]),
-            "ObjectExactCardinality" => self.cardinality(owner, &[3, 4]),
-            _ => self.fault(A_CLASS),
-        }
-    }
-
-    /// A class by itself: an entry of this kind, 1 or 2.
-    fn class(&mut self, owner: u16, kind: u8) -> Result<(), Mistake> {
-        let iri = self.iri(&self.next().sign);
-        let Some(iri) = iri else {
-            return self.fault("a class by its name: only of that the complement is taken");
-        };
-        let at = self.next().at;
-        let thing = iri == format!("{OWL}Thing");
-        let nothing = iri == format!("{OWL}Nothing");
-        match (thing, nothing, kind) {
-            (true, _, 1) | (_, true, 2) => (),
-            (_, true, _) | (true, _, _) => {
-                self.push(6, owner, 0, 0, at)?;
-            }
-            _ => {
-                if self.is_defined(&iri) {
-                    let expected = "a class without a definition: named definitions are not taken";
-                    return self.fault(expected);
-                }
-                let property = self.property(&iri)?;
-                self.push(kind, owner, property.0, 0, at)?;
-            }
-        }
-        self.take();
-        Ok(())
-    }
-
-    fn intersection(&mut self, owner: u16, depth: usize) -> Result<(), Mistake> {
-        self.take();
-        self.open()?;
-        while self.next().sign != Sign::Close {
-            self.expression(owner, depth + 1)?;
-        }
-        self.close()
-    }
-
-    fn complement(&mut self, owner: u16) -> Result<(), Mistake> {
-        self.take();
-        self.open()?;
-        self.class(owner, 2)?;
-        self.close()
-    }
-
-    fn every(&mut self, owner: u16, depth: usize) -> Result<(), Mistake> {
-        let at = self.take().at;
-        self.open()?;
-        let link = self.link()?;
-        let number = self.push(5, owner, link.0, 0, at)?;
-        self.expression(number, depth + 1)?;
-        self.close()
-    }
-
-    /// `ObjectSomeValuesFrom(link owl:Thing)`, which is at least 1.
-    fn some(&mut self, owner: u16) -> Result<(), Mistake> {
-        let at = self.take().at;
-        self.open()?;
-        let link = self.link()?;
-        self.only_thing()?;
-        self.push(3, owner, link.0, 1, at)?;
-        self.close()
-    }
-
-    /// A cardinality, as entries of these kinds.
-    fn cardinality(&mut self, owner: u16, kinds: &[u8]) -> Result<(), Mistake> {
-        let at = self.take().at;
-        self.open()?;
-        let number = match &self.next().sign {
-            Sign::Word(word) => word.parse().ok(),
-            _ => None,
-        };
-        let Some(number) = number else {
-            return self.fault("a number from 0 to 65,535");
-        };
-        self.take();
-        let link = self.link()?;
-        if self.next().sign != Sign::Close {
-            self.only_thing()?;
-        }
-        for &kind in kinds {
-            self.push(kind, owner, link.0, number, at)?;
-        }
-        self.close()
-    }
-
-    /// What is counted has to be all items: descriptions count no others.
-    fn only_thing(&mut self) -> Result<(), Mistake> {
-        if self.iri(&self.next().sign) != Some(format!("{OWL}Thing")) {
-            return self.fault("owl:Thing: descriptions count all items by a link");
-        }
-        self.take();
-        Ok(())
-    }
-
-    fn link(&mut self) -> Result<Link, Mistake> {
-        let Some(iri) = self.iri(&self.next().sign) else {
-            return self.fault("an object property by its name");
-        };
-        let Some(link) = self.link_of(&iri) else {
-            return self.fault(format!(
-                "link_1 to link_65535 of <{SPACE}>, or a link's word in the names file"
-            ));
-        };
-        self.take();
-        Ok(link)
-    }
-
-    /// The link of an IRI, by its number or by its word.
-    fn link_of(&self, iri: &str) -> Option<Link> {
-        let number = numbered(iri, "link_").map(Link);
-        number.or_else(|| self.called(iri, |names, word| names.link_called(word)))
-    }
-
-    /// The property of an IRI, by its number or by its word.
-    fn property_of(&self, iri: &str) -> Option<Property> {
-        let number = numbered(iri, "property_").map(Property);
-        number.or_else(|| self.called(iri, |names, word| names.property_called(word)))
-    }
-
-    fn property(&self, iri: &str) -> Result<Property, Mistake> {
-        self.property_of(iri).map_or_else(
-            || self.fault(format!("property_1 to property_65535 of <{SPACE}>, or a property's word in the names file")),
-            Ok,
-        )
-    }
-
-    /// What the names file calls by the label or the local name of an IRI.
-    fn called<T>(&self, iri: &str, find: impl Fn(&Names, &str) -> Option<T>) -> Option<T> {
-        let label = self
-            .labels
-            .get(iri)
-            .and_then(|label| find(self.names, label));
-        let local = local(iri);
-        label
-            .or_else(|| find(self.names, local))
-            .or_else(|| find(self.names, &local.replace('_', " ")))
-    }
-
-    /// The words that labels give to properties and links by number.
-    fn words(&self) -> Names {
-        let mut words = Names::default();
-        for (iri, label) in &self.labels {
-            if label.trim() != label
-                || label.is_empty()
-                || label.contains(|sign: char| sign.is_control() || turns(sign))
-            {
-                continue;
-            }
-            let link = numbered(iri, "link_").map(Link);
-            let property = numbered(iri, "property_").map(Property);
-            // A label that stands for two things is no word for either; the numbers are shown then.
-            let _ = link.map(|link| words.name_link(link, label, Position::default(), self.names));
-            let _ = property.map(|property| {
-                words.name_property(property, label, Position::default(), self.names)
-            });
-        }
-        words
-    }
-}
-
-/// The last part of an IRI.
-fn local(iri: &str) -> &str {
-    iri.rsplit(['#', '/']).next().unwrap_or(iri)
-}
-
-/// The number at the end of one of our own names.
-fn numbered(iri: &str, begin: &str) -> Option<u16> {
-    let digits = iri.strip_prefix(SPACE)?.strip_prefix(begin)?;
-    digits.parse().ok().filter(|&number: &u16| number > 0)
 }

@@ -578,11 +578,16 @@ fn answers_with_dictionaries_are_the_library_s() {
         let count = usize::from(under.normal_form(&c, &mut out).unwrap());
         let args = ["normal", "c", "--dictionary", "dict", "--to", "blocks"];
         assert_eq!(folder.gx(&args).out, out[..512 * count.div_ceil(63).max(1)]);
-        let asked = folder.gx(&["owl", "c", "d", "--dictionary", "dict"]);
-        assert_eq!(
-            (asked.status, asked.out),
-            (0, folder.gx(&["owl", "plain-c", "plain-d"]).out)
-        );
+        // Named descriptions stay classes, which are put in where they are read.
+        let asked = folder.gx(&["owl", "c", "d", "--dictionary", "dict", "-o", "q.ofn"]);
+        assert_eq!(asked.status, 0, "{}", asked.err);
+        for (class, plain) in [("Supplier", "plain-c"), ("Service", "plain-d")] {
+            let read = folder.gx(&["from-owl", "q.ofn", "--class", class, "--to", "blocks"]);
+            let due = folder.gx(&["owl", plain, plain, "-o", "p.ofn"]);
+            assert_eq!(due.status, 0);
+            let due = folder.gx(&["from-owl", "p.ofn", "--class", class, "--to", "blocks"]);
+            assert_eq!((read.status, read.out), (0, due.out), "{}", read.err);
+        }
     }
 }
 

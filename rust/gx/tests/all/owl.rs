@@ -6,7 +6,7 @@ use gx::names::Names;
 use gx::owl::{question, read};
 use gx::text::{desk, parse};
 
-use crate::support::{description, ours};
+use crate::support::{description, ours, Folder};
 
 /// The same description with its entries in the order of the text.
 fn as_written(entries: &[Entry]) -> Vec<Entry> {
@@ -285,4 +285,97 @@ fn deep_nesting_is_a_mistake_and_no_crash() {
     let mistake = read(&text, None, &Names::default()).unwrap_err();
     assert!(mistake.expected.contains("deep"), "{mistake}");
     assert!(parse(&"5,1 [".repeat(70_000), &Names::default()).is_err());
+}
+
+#[test]
+fn other_syntaxes_are_recognised() {
+    let folder = Folder::new("owl-syntaxes");
+    for (text, found, at) in [
+        (
+            "<?xml version=\"1.0\"?>\n<rdf:RDF xmlns=\"x\"/>",
+            "RDF/XML",
+            "1:1",
+        ),
+        (
+            "<?xml version=\"1.0\"?>\n<Ontology xmlns=\"x\"/>",
+            "OWL/XML",
+            "1:1",
+        ),
+        ("\n @prefix : <urn:goltximen#> .", "Turtle", "2:2"),
+        ("PREFIX : <urn:goltximen#>\n", "Turtle", "1:1"),
+        (
+            "Prefix: : <urn:goltximen#>\nOntology: <x>",
+            "Manchester syntax",
+            "1:1",
+        ),
+    ] {
+        folder.put("o", text);
+        let ran = folder.gx(&["from-owl", "o"]);
+        let due = format!("gx: o:{at}: expected OWL 2 functional syntax, found {found}; save it as functional syntax (in Protégé: ");
+        assert!(ran.err.starts_with(&due), "{}", ran.err);
+        assert_eq!((ran.status, ran.out.len()), (2, 0));
+    }
+    let help = folder.gx(&["owl", "--help"]).text();
+    assert!(
+        help.contains("\n    Konclude satisfiability -w 2 -i question.ofn -x"),
+        "{help}"
+    );
+}
+
+#[test]
+fn named_descriptions_stay_classes() {
+    let folder = Folder::new("owl-named");
+    folder
+        .put("d.dictionary", "dictionary\ndescription 1 \"sealed core\" [has property 7; at most 2 link 3]\n[every link 2 [named 1]; has property 9]")
+        .put("c", "every link 1 [named 2; named 1]")
+        .put("d", "every link 1 [every link 2 [has property 7]]");
+    let args = [
+        "owl",
+        "c",
+        "d",
+        "--dictionary",
+        "d.dictionary",
+        "-o",
+        "q.ofn",
+    ];
+    assert_eq!(folder.gx(&args).status, 0);
+    let question = String::from_utf8(folder.get("q.ofn")).unwrap();
+    for part in [
+        "Declaration(Class(:description_1))\nAnnotationAssertion(rdfs:label :description_1 \"sealed core\")\nEquivalentClasses(:description_1\n",
+        "EquivalentClasses(:description_2\n",
+        "EquivalentClasses(:Supplier\n  ObjectAllValuesFrom(:link_1\n    ObjectIntersectionOf(\n      :description_2\n      :description_1)))",
+    ] {
+        assert!(question.contains(part), "{part} {question}");
+    }
+    let read = folder.gx(&["from-owl", "q.ofn", "--class", "Supplier", "--to", "desk"]);
+    let due = "5,1 [5,2 [1,7; 4,3,2]; 1,9; 1,7; 4,3,2]\n";
+    assert_eq!(
+        (read.status, read.text().as_str()),
+        (0, due),
+        "{}",
+        read.err
+    );
+}
+
+#[test]
+fn a_whole_catalogue_is_one_ontology() {
+    let folder = Folder::new("owl-catalogue");
+    folder
+        .put("c", "1,7; 1,8")
+        .put("a.txt", "1,7")
+        .put("b.txt", "1,9")
+        .put("e.txt", "1,8; 2,7");
+    let args = ["owl", "c", "a.txt", "b.txt", "e.txt", "-o", "q.ofn"];
+    assert_eq!(folder.gx(&args).status, 0);
+    let question = String::from_utf8(folder.get("q.ofn")).unwrap();
+    for (number, title) in [(1, "a.txt"), (2, "b.txt"), (3, "e.txt")] {
+        let label = format!("AnnotationAssertion(rdfs:label :Service_{number} \"{title}\")\n");
+        assert!(question.contains(&label), "{question}");
+        let only = format!("EquivalentClasses(:SupplierOnly_{number} ObjectIntersectionOf(:Supplier ObjectComplementOf(:Service_{number})))\n");
+        assert!(question.contains(&only), "{question}");
+        let class = format!("Service_{number}");
+        let read = folder.gx(&["from-owl", "q.ofn", "--class", &class, "--to", "blocks"]);
+        let due = folder.gx(&["write", title]).out;
+        assert_eq!((read.status, read.out), (0, due));
+    }
 }
