@@ -100,6 +100,8 @@ The entries are
     at least N link L       at most N link L
     every link L [ ... ]    nothing fits
     named D                 which stands for description D of a dictionary
+and, shown as what they stand for,
+    exactly N link L        no link L        some link L
 and in specimens
     has property P          group of COUNT link L [ ... ]
 or, as at the desk, kind,name,number: 5,1 [3,2,1; 4,2,1]. After a number may come its word in quotes; the word alone stands for

@@ -31,7 +31,9 @@ pub struct Parsed {
 const AN_ENTRY: &str =
     "an entry (has, lacks, at least, at most, every, nothing fits, named, group, or kind,name,number)";
 /// The words that entries begin with.
-const BEGINNINGS: [&str; 7] = ["has", "lacks", "at", "every", "nothing", "named", "group"];
+const BEGINNINGS: [&str; 10] = [
+    "has", "lacks", "at", "every", "nothing", "named", "group", "exactly", "no", "some",
+];
 const A_KIND: &str = "a kind from 1 to 7, or 9";
 const THE_END: &str = "a new line, ';' or ']' after the entry";
 const MOST_ENTRIES: usize = 65_535;
@@ -80,6 +82,7 @@ pub fn mistakes(text: &str, names: &Names) -> Vec<Mistake> {
         rows: Vec::new(),
         stop: None,
         open: Vec::new(),
+        second: None,
     };
     let heading = parser.heading();
     let headed = matches!(heading, Ok(Some(_)));
@@ -128,6 +131,8 @@ struct Parser<'a> {
     stop: Option<&'static str>,
     /// The owners of the places that are open, with where they were opened.
     open: Vec<(usize, Position)>,
+    /// The second of two entries that are written as one.
+    second: Option<Entry>,
 }
 
 impl<'a> Parser<'a> {
@@ -142,6 +147,7 @@ impl<'a> Parser<'a> {
             rows: Vec::new(),
             stop: None,
             open: Vec::new(),
+            second: None,
         })
     }
 
@@ -272,12 +278,15 @@ impl<'a> Parser<'a> {
             return Err(Mistake::new(at, "at most 65,535 entries", "one more"));
         }
         let owner = self.open.last().map_or(0, |&(owner, _)| owner);
-        self.rows.push(Row {
-            number,
-            owner,
-            entry,
-            at,
-        });
+        let second = self.second.take().map(|second| (number + 1, second));
+        for (number, entry) in [(number, entry)].into_iter().chain(second) {
+            self.rows.push(Row {
+                number,
+                owner,
+                entry,
+                at,
+            });
+        }
         if self.place_opens()? {
             if !entry.owns() {
                 let expected = format!("{THE_END}: only every and group own entries");
@@ -386,6 +395,12 @@ impl<'a> Parser<'a> {
                 (9, self.named_description()?, 0)
             }
             "group" => return self.group(),
+            "exactly" => return self.exactly(),
+            "no" | "some" => {
+                self.take()?;
+                let (kind, number) = if word == "no" { (4, 0) } else { (3, 1) };
+                (kind, self.link()?, number)
+            }
             _ => {
                 let mistake = Mistake::new(self.next.at, AN_ENTRY, self.next.sign.named());
                 return Err(mistake.hinted(meant(word, BEGINNINGS)));
@@ -415,6 +430,20 @@ impl<'a> Parser<'a> {
             number,
             ..Entry::default()
         })
+    }
+
+    /// `exactly n`, and the link: at least n, and then at most n.
+    fn exactly(&mut self) -> Result<Entry, Mistake> {
+        self.take()?;
+        let number = self.number("a number from 0 to 65,535")?;
+        let least = Entry {
+            kind: 3,
+            name: self.link()?,
+            number,
+            ..Entry::default()
+        };
+        self.second = Some(Entry { kind: 4, ..least });
+        Ok(least)
     }
 
     /// `group of n`, and the link. The count is one more than the number that is stored.

@@ -16,6 +16,7 @@ mod owl;
 mod pairs;
 mod reasoners;
 mod reception;
+mod schema;
 mod settings;
 mod support;
 mod texts;

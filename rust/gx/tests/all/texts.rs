@@ -166,6 +166,33 @@ fn words_alone_stand_for_their_numbers() {
 }
 
 #[test]
+fn short_forms_are_shown_as_what_they_stand_for() {
+    let names = names();
+    let written = "exactly 2 core; no sample; some link 7\nevery sample [\n    #9 exactly 0 link 5\n]\n#6 has property 3; #7 1,4; #8 1,5";
+    let entries = parse(written, &names).unwrap().entries;
+    let due = reference::notation::entries(
+        "3,2,2; 4,2,2; 4,1,0; 3,7,1; 5,1; 1,3; 1,4; 1,5; 3,5,0; 4,5,0",
+    );
+    let mut due = ours(&due);
+    due[8].owner = 5;
+    due[9].owner = 5;
+    assert_eq!(entries, due);
+    let shown = text(
+        Sort::Description,
+        &entries[..4],
+        &Names::default(),
+        Numbers::WhereNeeded,
+    );
+    assert_eq!(
+        shown,
+        "at least 2 link 2\nat most 2 link 2\nat most 0 link 1\nat least 1 link 7\n"
+    );
+    for wrong in ["exactly core", "exactly 2", "no", "some 2", "no property 7"] {
+        assert!(parse(wrong, &names).is_err(), "{wrong}");
+    }
+}
+
+#[test]
 fn numbers_are_written_only_where_the_order_needs_them() {
     let e = |kind, owner, name, number| Entry {
         kind,
