@@ -6,7 +6,7 @@ ghost use Rattle.base.specs.Chain.{OnChain};
 ghost use Rattle.pairs.specs.code.Index.{PairsIndexed, beside_at, bucket_of, named_at, named_count, partners};
 ghost use Rattle.std.specs.Iterator.{YieldsFirstBy, item_count};
 
-use crate::index::{bucket, index_pairs, number_beside};
+use crate::index::{INDEX_BYTES, bucket, index_pairs, number_beside};
 use crate::list::named_at;
 use blocks::Property;
 
@@ -18,13 +18,13 @@ const MOST_BYTES: usize = 259;
 #[derive(Clone, Copy)]
 pub struct Exclusions<'a> {
     pairs: &'a [u8],
-    index: &'a [u8; 512],
+    index: &'a [u8; INDEX_BYTES],
     ghost indexed: { PairsIndexed pairs.now index.now },
 }
 
 impl<'a> Exclusions<'a> {
     // The exclusions of a list, those of its first 64 pairs. What the index held before does not count.
-    pub fn new(pairs: &'a [u8], index: &'a mut [u8; 512]) -> Self
+    pub fn new(pairs: &'a [u8], index: &'a mut [u8; INDEX_BYTES]) -> Self
         ensures { result.pairs.now ≡ take 259 pairs.now }
     {
         let listed = &pairs[..pairs.len().min(MOST_BYTES)];
@@ -46,7 +46,7 @@ impl<'a> Exclusions<'a> {
 
     // The number at a place of the index, if there is one.
     fn link(self, i: usize) -> Option<u8>
-        requires { i < 512 }
+        requires { i < INDEX_BYTES }
         ensures number { unwrap_or result 0 ≡ get_or self.entry.index.now i 0 }
         ensures some { IfSome result (λ k. k ≢ 0) }
     {

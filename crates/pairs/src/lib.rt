@@ -11,4 +11,5 @@ mod list;
 mod reader;
 
 pub use exclusions::{Excluders, Exclusions};
+pub use index::INDEX_BYTES;
 pub use reader::read_pairs;

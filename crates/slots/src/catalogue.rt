@@ -14,9 +14,10 @@ ghost use Rattle.slots.specs.code.Judging.{JudgesAll, JudgesListed, JudgesSuppli
 use crate::failing::Supplier;
 use crate::filling::chained_slots;
 use crate::service::judge_plain;
+use blocks::sizes::BLOCK;
 use blocks::{Cause, Refusal, Schema};
 use lists::{Parts, parts_in};
-use pairs::Exclusions;
+use pairs::{Exclusions, INDEX_BYTES};
 use unfolding::{Dictionary, Tables};
 use writing::bytes_for;
 
@@ -130,7 +131,7 @@ fn judge_cut(
             place: 0,
         });
     }
-    if list.len() % 512 != 0 {
+    if list.len() % BLOCK != 0 {
         return Err(Refusal {
             cause: Cause::Length,
             input: 2,
@@ -189,7 +190,7 @@ pub fn judge_list(
         × (answers.new ≡ answers_after pairs.now dictionary.now c.now list.now answers.old) }
 {
     pairs::read_pairs(pairs)?;
-    let mut index = [0u8; 512];
+    let mut index = [0u8; INDEX_BYTES];
     let exclusions = Exclusions::new(pairs, &mut index);
     if dictionary.is_empty() {
         return judge_supplied(exclusions, Names { read: None }, c, list, answers);

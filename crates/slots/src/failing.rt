@@ -14,7 +14,7 @@ use crate::Unheld;
 use crate::filling::chained_slots;
 use crate::slots::Slots;
 use blocks::{Cause, Refusal, Schema};
-use pairs::Exclusions;
+use pairs::{Exclusions, INDEX_BYTES};
 
 // The answer of the number of the entry that fails, if one does, and of the number of slots.
 fn answer_of(failing: Option<usize>, used: usize) -> Option<Unheld>
@@ -182,7 +182,7 @@ fn failing_listed(
     requires { (pair_count pairs.now ≤ 64) × Ruled (under pairs.now) }
     ensures { Judges (under pairs.now) c.now d.now table.old result table.new }
 {
-    let mut index = [0u8; 512];
+    let mut index = [0u8; INDEX_BYTES];
     let exclusions = Exclusions::new(pairs, &mut index);
     failing_indexed(exclusions, c, d, table)
 }

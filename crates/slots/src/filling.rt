@@ -9,7 +9,7 @@ use crate::build::build;
 use crate::restrict::restrict_slots;
 use crate::settle::settle;
 use blocks::{Cause, Refusal, Schema};
-use pairs::Exclusions;
+use pairs::{Exclusions, INDEX_BYTES};
 
 // The slots of a description with `total` entries, settled, with the chains that find them; returns their number. Here and below each table is a
 // parameter, and no field: the passes are lent some to read and others to write at once, of which a struct of `&mut` slices gives no proof.
@@ -124,7 +124,7 @@ fn fill_listed(
     requires { pair_count pairs.now ≤ 64 }
     ensures { Fills (under pairs.now) d.now table.old bad.old full.old result table.new bad.new full.new }
 {
-    let mut index = [0u8; 512];
+    let mut index = [0u8; INDEX_BYTES];
     let exclusions = Exclusions::new(pairs, &mut index);
     fill_indexed(exclusions, d, table, bad, full)
 }
