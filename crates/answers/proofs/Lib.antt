@@ -28,3 +28,9 @@ pub mod Calls
 pub mod OneSetOfBytes
 -- What the bytes of a catalogue say, and that each is the answer of the single comparison.
 pub mod CatalogueKept
+-- The call on a catalogue: by which row it refuses,
+pub mod CatalogueOrder
+-- what a filled output says,
+pub mod CatalogueFilled
+-- and that it answers as for the unfolded inputs.
+pub mod CatalogueUnfolded

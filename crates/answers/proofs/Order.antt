@@ -40,7 +40,7 @@ use Rattle.pairs.specs.Pairs.{pair_faults, pairs_reading, under}
 
 -- ---- the list
 
-list_cases : (P : List ℕ) {X : Type 0} → ((k : Cause) (p : ℕ) → FirstOf (pair_faults P) k p → X) → (NoneApplies (pair_faults P) → X) → X
+pub list_cases : (P : List ℕ) {X : Type 0} → ((k : Cause) (p : ℕ) → FirstOf (pair_faults P) k p → X) → (NoneApplies (pair_faults P) → X) → X
 list_cases P f g = reading-cases (pairs_reading P) (λ k i p e. f k p (first-of-pairs P e).1.1) (λ n e. g (list.accepted-none P e))
 
 -- ---- a dictionary and a description
@@ -71,7 +71,7 @@ module _ (D s : List ℕ) where
       let r = none-accepted (dictionary_of D) 1 s B.description in
       admitted D 1 s {n = length (unfolded_by (dictionary_of D) (entries_of s))} (rw (e, r))
 
-  by-reading : Admitted D s → AcceptedBy D s
+  pub by-reading : Admitted D s → AcceptedBy D s
   by-reading A =
       both-taken D 1 s (A.read 1)
       (λ m k q w. record { dictionary = accepted-dictionary D q; description = accepted-none (dictionary_of D) 1 s w })

@@ -1,7 +1,7 @@
 -- Number 7 is returned last: exactly where the list, the dictionary and all descriptions are accepted and the output is shorter than the
 -- unfolded ones. The numbers that a dictionary and a description are refused with, and their inputs.
 -- Assumes nothing.
-use Rattle.std.proofs.Common.{◌≡◌, ℕ, ◌+◌, ◌<◌, ◌≤◌, ◌≢◌, ◌⊎◌, ◌↔◌, List, length, refl, inl, inr, ⊎_elim, arith}
+use Rattle.std.proofs.Common.{◌≡◌, ℕ, ◌+◌, ◌<◌, ◌≤◌, ◌≢◌, ◌⊎◌, ◌↔◌, List, length, None, Some, Ok, Err, refl, inl, inr, ⊎_elim, arith}
 use Rattle.answers.proofs.AnswerLaws.{refused-answered, same-refused}
 use Rattle.answers.proofs.DictionaryOrder.{dictionary-refused, line_refused}
 use Rattle.answers.proofs.Order.{comparison-refused-exactly, fit-refused-exactly, normal-refused-exactly}
@@ -18,15 +18,18 @@ use Rattle.blocks.specs.Promise.{FirstOf, NoneApplies}
 use Rattle.blocks.specs.Reading.{reading_of}
 use Rattle.blocks.specs.Refusals.{number_of, refused}
 use Rattle.blocks.specs.declared.Cause.{Cause}
-use Rattle.blocks.specs.declared.Cause.TheVariants.{Room}
 use Rattle.blocks.specs.declared.Entry.{Entry}
 use Rattle.blocks.specs.declared.Schema.TheVariants.{Named}
 use Rattle.clashes.proofs.Refusals as specimen
+use Rattle.compare.specs.Answer as comparison
+use Rattle.compare.specs.Answer.{Comparison}
+use Rattle.fit.specs.Answer as fit
 use Rattle.named.proofs.UnfoldedLaws.{dictionary-input}
 use Rattle.named.specs.Answer.{compare_named, fit_named, normalise_named}
 use Rattle.names.proofs.Legality.NamedReadings.{named-large, named-refused, named-taken}
 use Rattle.names.specs.NamedReading.{named_faults, plain_of, too_large}
 use Rattle.names.specs.Unfold.{unfolded_by}
+use Rattle.normal.specs.Answer as normal
 use Rattle.pairs.proofs.PairsRefused as list
 use Rattle.pairs.specs.Pairs.{pair_faults}
 
@@ -74,12 +77,22 @@ module _ (P D d out : List ℕ) where
   normal-last (normal-input n T f) z = absurd (not-seven (line-number _ d f) z)
   normal-last (normal-short n B h) z = (n, B, h)
 
-  pub normal-seven : (normalise_named P D d out ≡ refused Room 0 0) ↔
+  -- by the number that is returned
+  pub normal-seven : ((normal.returned (normalise_named P D d out)).number ≡ 7) ↔
       (NoneApplies (pair_faults P) × AcceptedBy D d × (length out < length (plain_of D d)))
   normal-seven = (
-    λ e. normal-last ((normal-refused-exactly P D d out).0 e) refl,
-    λ h. (normal-refused-exactly P D d out).1 (normal-short h.0 h.1 h.2),
+    λ e. reading-cases (normalise_named P D d out)
+        (λ k i p q. let z : number_of k ≡ 7 = rw q at e in normal-last ((normal-refused-exactly P D d out).0 q) z)
+        (λ n q. let z : ◌≡◌ {A = ℕ} 0 7 = rw q at e in absurd (omega arith)),
+    λ h. let q = (normal-refused-exactly P D d out).1 (normal-short h.0 h.1 h.2) in rw q,
   )
+
+-- only a refusal has number 7
+seven-refused : {X : Type 0} (r : Comparison) → (comparison.returned r).number ≡ 7
+    → ((k : Cause) (i p : ℕ) → r ≡ refused k i p → number_of k ≡ 7 → X) → X
+seven-refused (Ok None) e f = absurd (omega (arith, e))
+seven-refused (Ok (Some n)) e f = absurd (omega (arith, e))
+seven-refused (Err x) e f = f x.cause x.input x.place refl e
 
 module _ (P D c d out : List ℕ) where
   comparison-last : {k : Cause} {i p : ℕ} → ComparisonRefused P D c d out k i p → number_of k ≡ 7
@@ -90,11 +103,11 @@ module _ (P D c d out : List ℕ) where
   comparison-last (compares-second n B f) z = absurd (not-seven (line-number _ d f) z)
   comparison-last (compares-short n B B' h) z = (n, B, B', h)
 
-  pub comparison-seven : (compare_named P D c d out ≡ refused Room 0 0) ↔
+  pub comparison-seven : ((comparison.returned (compare_named P D c d out)).number ≡ 7) ↔
       (NoneApplies (pair_faults P) × AcceptedBy D c × AcceptedBy D d × (length out < length (plain_of D c) + length (plain_of D d)))
   comparison-seven = (
-    λ e. comparison-last ((comparison-refused-exactly P D c d out).0 e) refl,
-    λ h. (comparison-refused-exactly P D c d out).1 (compares-short h.0 h.1 h.2 h.3),
+    λ e. seven-refused (compare_named P D c d out) e (λ k i p q z. comparison-last ((comparison-refused-exactly P D c d out).0 q) z),
+    λ h. let q = (comparison-refused-exactly P D c d out).1 (compares-short h.0 h.1 h.2 h.3) in rw q,
   )
 
 -- "It has no output buffer"
@@ -105,5 +118,8 @@ module _ (P D s d : List ℕ) where
   fit-last (judges-specimen n T f) z = specimen.reading-number P s ((specimen.refused-exactly P s).1 (inr (n, (refl, f)))) z
   fit-last (judges-description n T y f) z = not-seven (line-number _ d f) z
 
-  pub fit-never-seven : {k : Cause} {i p : ℕ} → fit_named P D s d ≡ refused k i p → number_of k ≢ 7
-  fit-never-seven e = fit-last ((fit-refused-exactly P D s d).0 e)
+  pub fit-never-seven : (fit.returned (fit_named P D s d)).number ≢ 7
+  fit-never-seven e =
+      reading-cases (fit_named P D s d)
+      (λ k i p q. let z : number_of k ≡ 7 = rw q at e in fit-last ((fit-refused-exactly P D s d).0 q) z)
+      (λ b q. let z : ◌≡◌ {A = ℕ} 0 7 = rw q at e in omega arith)

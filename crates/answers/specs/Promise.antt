@@ -1,15 +1,18 @@
 -- What the promises on the calls that take a dictionary speak of: which items fit a description with names, descriptions that are accepted,
 -- containment and sameness with no unfolding in sight, and what each answer says.
 -- Assumes nothing.
-use Rattle.std.specs.Prelude.{◌*◌, ◌+◌, ◌<◌, ◌≤◌, ℕ, drop, length, Bool, false, true, List, [], None, Err, Ok, ◌⊎◌, ◌↔◌, ◌≡◌}
+use Rattle.std.specs.Prelude.{◌*◌, ◌+◌, ◌<◌, ◌≤◌, ℕ, drop, length, map, Bool, false, true, List, [], None, Err, Ok, ◌⊎◌, ◌↔◌, ◌≡◌}
 use Rattle.base.specs.Ascending.{Sorted}
-use Rattle.blocks.specs.Encoding.{blocks_for, encode, first_blocks}
+use Rattle.blocks.specs.Encoding.{blocks_for, encode, first_blocks, joined}
 use Rattle.blocks.specs.Entries.{entries_of}
 use Rattle.blocks.specs.Frame.{plain}
 use Rattle.blocks.specs.Reading.{Reading, reading_of}
 use Rattle.blocks.specs.declared.Schema.TheVariants.{Description}
+use Rattle.catalogue.specs.Answer.{filled_of}
+use Rattle.catalogue.specs.Promise.{byte_at, service_at}
 use Rattle.clashes.specs.Clash.{specimen_reading}
 use Rattle.compare.specs.Answer.{not_contained}
+use Rattle.lists.specs.Parts.{parts_of}
 use Rattle.logic.specs.Background.{Keeps}
 use Rattle.logic.specs.Record.{Record, fits}
 use Rattle.meaning.specs.Description.{place_of}
@@ -151,3 +154,22 @@ pub record FitsNamedExactly (P D s d : List ℕ) : Type 0 where
 pub record AsCompared (P D c d o : List ℕ) (byte : ℕ) : Type 0 where
   pub contained : (byte ≡ 1) ↔ (compare_named P D c d o ≡ Ok None)
   pub not-contained : (byte ≡ 0) ↔ AnswersNotNamed P D c d o
+
+-- what the byte of the service d says of every record, and that it is the answer of the single comparison
+pub record ByteMeans (P D c d : List ℕ) (byte : ℕ) : Type 0 where
+  -- 1 exactly if every item that fits c fits d, and 0 exactly if one fits c and misses d
+  pub contained : (byte ≡ 1) ↔ ContainedNamed P D c d
+  pub missed : (byte ≡ 0) ↔ CountermodelNamed P D c d
+  pub compared : (o : List ℕ) → length (plain_of D c) + length (plain_of D d) ≤ length o → AsCompared P D c d o byte
+
+-- What the answer that n bytes are filled says of the output.
+pub record Fills (P D c list out : List ℕ) (n : ℕ) : Type 0 where
+  -- one byte for each service, from the start of the output, and later bytes are unchanged
+  pub count : n ≡ length (parts_of list)
+  pub room : n ≤ length out
+  pub later : drop n (filled_of P D c list out) ≡ drop n out
+  pub each : (i : ℕ) → i < n → ByteMeans P D c (service_at list i) (byte_at P D c list out i)
+
+-- the list of services with each of them unfolded
+abbrev pub unfolded_list : List ℕ → List ℕ → List ℕ
+unfolded_list D list = joined (map (plain_of D) (parts_of list))

@@ -109,3 +109,45 @@ pub data FitRefused (P D s d : List ℕ) : Cause → ℕ → ℕ → Type 0 wher
   specimen : {k : Cause} {p : ℕ} → NoneApplies (pair_faults P) → DictionaryTaken D → FirstOf (specimen_faults P s) k p → FitRefused P D s d k 1 p
   description : {k : Cause} {p : ℕ} → NoneApplies (pair_faults P) → DictionaryTaken D → NoneApplies (specimen_faults P s)
       → FirstOf (named_faults (dictionary_of D) d) k p → FitRefused P D s d k 2 p
+
+-- ---- a catalogue
+
+-- the list of services is cut into 1 to 64
+pub record ListCut (list : List ℕ) : Type 0 where
+  pub some : length list ≢ 0
+  pub whole : length list % 512 ≡ 0
+  pub few : length (parts_of list) ≤ 64
+
+-- the lines of the service that n others stand before
+abbrev pub service_faults : List ℕ → List ℕ → ℕ → List Fault
+service_faults D services n = named_faults (dictionary_of D) (get_or (parts_of services) n [])
+
+-- the first service that is refused: as the input that is 1 more than its position, counted from 1
+pub record FirstService (D list : List ℕ) (k : Cause) (i p : ℕ) : Type 0 where
+  pub before : ℕ
+  pub there : before < length (parts_of list)
+  pub input : i ≡ 2 + before
+  pub accepted : (m : ℕ) → m < before → NoneApplies (service_faults D list m)
+  pub first : FirstOf (service_faults D list before) k p
+
+-- and when none is
+pub record ServicesTaken (D list : List ℕ) : Type 0 where
+  pub cut : ListCut list
+  pub each : (m : ℕ) → m < length (parts_of list) → NoneApplies (service_faults D list m)
+
+pub data CatalogueRefused (P D c list out : List ℕ) : Cause → ℕ → ℕ → Type 0 where
+  list : {k : Cause} {p : ℕ} → FirstOf (pair_faults P) k p → CatalogueRefused P D c list out k 0 p
+  dictionary : {k : Cause} {i p : ℕ} → NoneApplies (pair_faults P) → DictionaryRefused D k i p → CatalogueRefused P D c list out k i p
+  -- the supplier's description in full
+  supplier : {k : Cause} {p : ℕ} → NoneApplies (pair_faults P) → DictionaryTaken D → FirstOf (named_faults (dictionary_of D) c) k p
+      → CatalogueRefused P D c list out k 1 p
+  -- then 1 and 8 of the list of services, before any service is looked at
+  broken : NoneApplies (pair_faults P) → AcceptedBy D c → (length list ≡ 0) ⊎ (length list % 512 ≢ 0) → CatalogueRefused P D c list out Length 2 0
+  many : NoneApplies (pair_faults P) → AcceptedBy D c → length list ≢ 0 → length list % 512 ≡ 0 → 64 < length (parts_of list)
+      → CatalogueRefused P D c list out Count 2 0
+  -- then the services, each in full before the next
+  service : {k : Cause} {i p : ℕ} → NoneApplies (pair_faults P) → AcceptedBy D c → ListCut list → FirstService D list k i p
+      → CatalogueRefused P D c list out k i p
+  -- and 7 last: the output has fewer bytes than there are services
+  short : NoneApplies (pair_faults P) → AcceptedBy D c → ServicesTaken D list → length out < length (parts_of list)
+      → CatalogueRefused P D c list out Room 0 0

@@ -11,8 +11,8 @@
 
 ghost use Rattle.std.specs.Prelude.{◌≡◌, ℕ, [], Ok};
 ghost use Rattle.answers.specs.Calls.{CountsPlainly, DecidedPlainly, FitsPlainly, NormalisesPlainly, NothingWritten, ReadExactly, RefusedExactly, Unfolds};
-ghost use Rattle.answers.specs.Promise.{ComparableNamed, DecidedNamed, FitsNamedExactly, JudgeableNamed, NormalisesNamed};
-ghost use Rattle.answers.specs.Refusals.{ComparisonRefused, FitRefused, NormalRefused, UnfoldRefused};
+ghost use Rattle.answers.specs.Promise.{ComparableNamed, DecidedNamed, Fills, FitsNamedExactly, JudgeableNamed, NormalisesNamed};
+ghost use Rattle.answers.specs.Refusals.{CatalogueRefused, ComparisonRefused, FitRefused, NormalRefused, UnfoldRefused};
 ghost use Rattle.blocks.specs.Reading.{reading_of};
 ghost use Rattle.blocks.specs.declared.Schema.{Schema};
 ghost use Rattle.catalogue.specs.Answer.{catalogue_of, filled_of};
@@ -155,6 +155,12 @@ pub extern "C" fn gx_catalogue(
 ) -> u64
     ensures answer { (result ≡ pack_reading (catalogue_of pairs.now dict.now c.now list.now out.old))
         × (out.new ≡ filled_of pairs.now dict.now c.now list.now out.old) }
+    ensures refuses { RefusedExactly (catalogue_of pairs.now dict.now c.now list.now out.old)
+        (CatalogueRefused pairs.now dict.now c.now list.now out.old) }
+    ensures keeps { NothingWritten (catalogue_of pairs.now dict.now c.now list.now out.old)
+        (filled_of pairs.now dict.now c.now list.now out.old) out.old }
+    ensures means { (n : ℕ) → catalogue_of pairs.now dict.now c.now list.now out.old ≡ Ok n
+        → Fills pairs.now dict.now c.now list.now out.old n }
 {
     pack_reading(catalogue::catalogue(pairs, dict, c, list, out))
 }

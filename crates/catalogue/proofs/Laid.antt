@@ -30,12 +30,12 @@ taken-numbered K i d T =
     (λ k j p q. let z : refused k j p ≡ Ok T.entries = rw q at T.taken in let y : ◌≡◌ {A = ℕ} 0 1 = cc in absurd (omega arith))
     (λ m q. taken-read K i d q (λ n r. numbered (Named (length K)) d (sound-of-accepted (Named (length K)) i d r).blocks))
 
-all-numbered : (K : List (List Entry)) (n : ℕ) (ds : List (List ℕ)) → ((i : ℕ) → i < length ds → ServiceTaken K (n + i) (get_or ds i [])) → AllNumbered ds
+pub all-numbered : (K : List (List Entry)) (n : ℕ) (ds : List (List ℕ)) → ((i : ℕ) → i < length ds → ServiceTaken K (n + i) (get_or ds i [])) → AllNumbered ds
 all-numbered K n [] all = tt
 all-numbered K n (d ∷ ds) all =
     (taken-numbered K (n + 0) d (all 0 (omega arith)), all-numbered K (suc n) ds (λ i l. let z : suc n + i ≡ n + suc i = omega arith in rw z (all (suc i) (omega arith))))
 
-joined-whole : (ds : List (List ℕ)) → AllNumbered ds → length (joined ds) % 512 ≡ 0
+pub joined-whole : (ds : List (List ℕ)) → AllNumbered ds → length (joined ds) % 512 ≡ 0
 unfolding joined
 joined-whole [] A = refl
 joined-whole (d ∷ ds) A =
@@ -43,7 +43,7 @@ joined-whole (d ∷ ds) A =
     let long = A.0.long in
     omega (arith, length-append d (joined ds))
 
-joined-some : (ds : List (List ℕ)) → AllNumbered ds → 1 ≤ length ds → length (joined ds) ≢ 0
+pub joined-some : (ds : List (List ℕ)) → AllNumbered ds → 1 ≤ length ds → length (joined ds) ≢ 0
 unfolding joined
 joined-some [] A h = absurd (omega arith)
 joined-some (d ∷ ds) A h = λ z. let long = A.0.long in let some = A.0.some in omega (arith, length-append d (joined ds))
