@@ -218,6 +218,7 @@ fn by_hand() {
 /// Four stands; a name used again replaces its stand and is no fifth.
 #[test]
 fn stands_of_a_desk() {
+    assert_eq!(Desk::default().name(0), Err(refusal(18, 1, 0)));
     let mut desk = desk(&[1, 2, 3, 65_535].map(Call::Name));
     for stand in [0, 4, 65_534] {
         assert_eq!(desk.name(stand), Err(refusal(18, 1, 0)));
