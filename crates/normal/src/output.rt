@@ -7,6 +7,7 @@ ghost use Rattle.slots.specs.code.Standing.{Standing};
 
 use crate::settled::Workspace;
 use crate::tables::normal_rows;
+use blocks::sizes::{BLOCK, ENTRIES};
 use blocks::{Cause, Refusal};
 
 // The answer for a description whose slots stand in the tables: 7 where the output is shorter, else its normal form is written. `used` stays
@@ -55,14 +56,14 @@ fn normalise_in(
     write_normal(d, usize::from(used), table, bad, full, work, out)
 }
 
-// The same in tables of its own, for so many entries: a description of one block has at most 63, and one of four 252, and smaller tables are sooner
+// The same in tables of its own, for so many entries: a description of one block has few, and one of four at most 252, and smaller tables are sooner
 // cleared.
 fn normalise_sized<const ROWS: usize, const SLOTS: usize, const RUNS: usize>(
     pairs: &[u8],
     d: &[u8],
     out: &mut [u8],
 ) -> Result<u16, Refusal>
-    requires { (63 * min (length d.now) 8192 ≤ 512 * ROWS) × (1 ≤ ROWS) × (ROWS ≤ 1008) × (SLOTS ≡ ROWS + 1) × (RUNS ≡ 2 * SLOTS) }
+    requires { (ENTRIES * min (length d.now) 8192 ≤ BLOCK * ROWS) × (1 ≤ ROWS) × (ROWS ≤ 1008) × (SLOTS ≡ ROWS + 1) × (RUNS ≡ 2 * SLOTS) }
     ensures { (result ≡ normalise_of pairs.now d.now out.old) × (out.new ≡ normalised_of pairs.now d.now out.old) }
 {
     let mut table = [0u64; SLOTS];
@@ -89,8 +90,8 @@ fn normalise_sized<const ROWS: usize, const SLOTS: usize, const RUNS: usize>(
 pub fn normalise(pairs: &[u8], description: &[u8], out: &mut [u8]) -> Result<u16, Refusal>
     ensures { (result ≡ normalise_of pairs.now description.now out.old) × (out.new ≡ normalised_of pairs.now description.now out.old) }
 {
-    if description.len() <= 512 {
-        return normalise_sized::<63, 64, 128>(pairs, description, out);
+    if description.len() <= BLOCK {
+        return normalise_sized::<ENTRIES, 64, 128>(pairs, description, out);
     }
     if description.len() <= 2048 {
         return normalise_sized::<252, 253, 506>(pairs, description, out);
