@@ -1,9 +1,9 @@
 // The properties that exclude each other, by an index of the list of pairs: those beside a property in the list are found by walking along
 // the chain of its bucket, so that a property that no pair has costs one look.
-ghost use Rattle.std.specs.Prelude.{◌≡◌, ◌+◌, ◌*◌, ◌<◌, ◌≤◌, length, take, eqb, get_or, true, [], List, ◌≢◌, unwrap_or, IfSome};
+ghost use Rattle.std.specs.Prelude.{◌≡◌, ◌+◌, ◌*◌, ◌<◌, ◌≤◌, length, take, eqb, get_or, true, [], List, ◌≢◌, replicate, unwrap_or, IfSome};
 ghost use Rattle.std.proofs.Props.{props};
 ghost use Rattle.base.specs.Chain.{OnChain};
-ghost use Rattle.pairs.specs.code.Index.{PairsIndexed, beside_at, bucket_of, named_at, named_count, partners};
+ghost use Rattle.pairs.specs.code.Index.{PairsIndexed, beside_at, bucket_of, indexed_to, named_at, named_count, partners};
 ghost use Rattle.std.specs.Iterator.{YieldsFirstBy, item_count};
 
 use crate::index::{INDEX_BYTES, bucket, index_pairs, number_beside};
@@ -23,9 +23,10 @@ pub struct Exclusions<'a> {
 }
 
 impl<'a> Exclusions<'a> {
-    // The exclusions of a list, those of its first 64 pairs. What the index held before does not count.
+    /// The exclusions of a list, those of its first 64 pairs. What the index held before does not count; it holds that of these pairs.
     pub fn new(pairs: &'a [u8], index: &'a mut [u8; INDEX_BYTES]) -> Self
-        ensures { result.pairs.now ≡ take 259 pairs.now }
+        ensures listed { result.pairs.now ≡ take 259 pairs.now }
+        ensures held { result.index.now ≡ indexed_to (take 259 pairs.now) (replicate 512 0) (named_count (take 259 pairs.now)) }
     {
         let listed = &pairs[..pairs.len().min(MOST_BYTES)];
         index.fill(0);

@@ -8,8 +8,8 @@ use Rattle.clashes.proofs.clash.first_clash.Goals as goal
 
 pub returns-then-n-lt64 : goal.returns-then-n-lt64
 returns-then-n-lt64 c =
-    subst (λ (P : List ℕ). Finds (apart_ok P (entries_of c.args.s.now)) c.args.n c.clash_within.result) (c.new-exclusions.ensures ∙ list-whole _ c.requires.0) c.clash_within.ensures
+    subst (λ (P : List ℕ). Finds (apart_ok P (entries_of c.args.s.now)) c.args.n c.clash_within.result) (c.new-exclusions.ensures.listed ∙ list-whole _ c.requires.0) c.clash_within.ensures
 
 pub returns : goal.returns
 returns c =
-    subst (λ (P : List ℕ). Finds (apart_ok P (entries_of c.args.s.now)) c.args.n c.clash_within-2.result) (c.new-exclusions.ensures ∙ list-whole _ c.requires.0) c.clash_within-2.ensures
+    subst (λ (P : List ℕ). Finds (apart_ok P (entries_of c.args.s.now)) c.args.n c.clash_within-2.result) (c.new-exclusions.ensures.listed ∙ list-whole _ c.requires.0) c.clash_within-2.ensures

@@ -19,12 +19,12 @@ pub judge_supplied-requires : goal.judge_supplied-requires
 judge_supplied-requires c =
     let e = sym c.read_pairs.ensures ∙ c.in_ok-read_pairs.was in
     let few = list-few _ e in
-    rw (c.new-exclusions.ensures ∙ list-whole _ few) (ruled-under _ e)
+    rw (c.new-exclusions.ensures.listed ∙ list-whole _ few) (ruled-under _ e)
 
 pub returns-then-is_empty : goal.returns-then-is_empty
 returns-then-is_empty c =
     let e = sym c.read_pairs.ensures ∙ c.in_ok-read_pairs.was in
-    let whole = c.new-exclusions.ensures ∙ list-whole _ (list-few _ e) in
+    let whole = c.new-exclusions.ensures.listed ∙ list-whole _ (list-few _ e) in
     let none = nil_from_length c.args.dictionary.now (eqb-eq (sym c.is_empty.ensures ∙ c.if-is_empty.true)) in
     rw none (pairs-taken c.args.pairs.now [] c.args.c.now c.args.list.now c.args.answers.now e (rw whole at c.judge_supplied.ensures))
 
@@ -38,10 +38,10 @@ pub judge_supplied-requires-2 : goal.judge_supplied-requires-2
 judge_supplied-requires-2 c =
     let e = sym c.read_pairs.ensures ∙ c.in_ok-read_pairs.was in
     let few = list-few _ e in
-    rw (c.new-exclusions.ensures ∙ list-whole _ few) (ruled-under _ e)
+    rw (c.new-exclusions.ensures.listed ∙ list-whole _ few) (ruled-under _ e)
 
 pub returns : goal.returns
 returns c =
     let e = sym c.read_pairs.ensures ∙ c.in_ok-read_pairs.was in
-    let whole = c.new-exclusions.ensures ∙ list-whole _ (list-few _ e) in
+    let whole = c.new-exclusions.ensures.listed ∙ list-whole _ (list-few _ e) in
     pairs-taken c.args.pairs.now c.args.dictionary.now c.args.c.now c.args.list.now c.args.answers.now e (rw (whole, c.in_ok-read.ensures.accepted) at c.judge_supplied-2.ensures)

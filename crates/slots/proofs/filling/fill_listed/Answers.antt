@@ -10,4 +10,4 @@ returns c =
     let a = c.args in
     let f = c.fill_indexed in
     subst (λ (P : List ℕ). Fills (under P) a.d.now a.table.now a.bad.now a.full.now f.result f.new.table f.new.bad f.new.full)
-    (c.new-exclusions.ensures ∙ list-whole _ c.requires) f.ensures
+    (c.new-exclusions.ensures.listed ∙ list-whole _ c.requires) f.ensures
