@@ -10,7 +10,7 @@ ghost use Rattle.pairs.specs.Pairs.{under};
 ghost use Rattle.passes.specs.code.Restrict.{excluded_at};
 ghost use Rattle.passes.specs.code.Slots.{Slot};
 ghost use Rattle.slots.specs.code.Lent.{IndexedIn};
-ghost use Rattle.slots.specs.code.States.{beside_bounds, bounds_support, entry_slot, holds_in_state, holds_by_slots, least_asked, most_asked, nowhere, passed, state_below};
+ghost use Rattle.slots.specs.code.States.{beside_bounds, bounds_support, entry_slot, given, holds_in_state, holds_by_slots, needed, nowhere, passed, state_below};
 ghost use Rattle.slots.specs.code.Tables.{Readable, high_in, high_part, low_part, no_bound, slots_in};
 
 use crate::slots::{NO_BOUND, Slots, entry_key, high_in, low_in};
@@ -23,60 +23,57 @@ pub const NOWHERE: u16 = 1023;
 
 const PASSED: u16 = 1024;
 
-// Upper bounds below NO_BOUND are listed; no upper bound is above ANY, and no lower one is at least NEVER.
-const LISTED: u64 = 65535;
+// What the support of an entry may rest on, a bit for each. The lower bound of its slot is 1 or more.
+const ONE: u64 = 1;
 
-const ANY: u64 = 131071;
+// The upper bound is listed.
+const LISTED: u64 = 2;
 
-const NEVER: u64 = 131072;
+// The lower bound is at least the entry's number.
+const ENOUGH: u64 = 4;
 
-// What an entry asks of the bounds of its slot, kind by kind: "Kinds 1 and 2 need the same entry; kind 3 needs n = 0 or at least m with
-// m ≥ n; kind 4 needs at most m with m ≤ n; kind 5 always holds; kind 6 never does." There are no other kinds. The entry's own number comes
-// on top where it counts. All that a kind decides is a number known beforehand, so that it takes no jump: services come in any order
-// of kinds, and a jump by kind would be guessed wrong. In both tables here each kind has an arm of its own, though some say the same.
-#[tactic(auto, unfolding(crate::specs::code::States::least_asked))]
-fn least_asked(kind: u8) -> u64
-    ensures { (result ≡ least_asked kind) × (result ≤ 131072) }
+// The upper bound is at most the entry's number.
+const FEW: u64 = 8;
+
+// Nothing is asked.
+const ALWAYS: u64 = 16;
+
+// On which of these each kind rests. There are no other kinds than 1 to 6, and kind 6 is never supported.
+#[tactic(auto, unfolding(crate::specs::code::States::needed))]
+fn needed(kind: u8) -> u64
+    ensures { result ≡ needed kind }
 {
     match kind {
-        kinds::HAS => 1,
-        kinds::LACKS => 0,
-        kinds::AT_LEAST => 0,
-        kinds::AT_MOST => 0,
-        kinds::EVERY => 0,
-        _ => NEVER,
-    }
-}
-
-#[tactic(auto, unfolding(crate::specs::code::States::most_asked))]
-fn most_asked(kind: u8) -> u64
-    ensures { (result ≡ most_asked kind) × (result ≤ 131071) }
-{
-    match kind {
-        kinds::HAS => ANY,
+        kinds::HAS => ONE,
         kinds::LACKS => LISTED,
-        kinds::AT_LEAST => ANY,
-        kinds::AT_MOST => 0,
-        kinds::EVERY => ANY,
-        _ => ANY,
+        kinds::AT_LEAST => ENOUGH,
+        kinds::AT_MOST => FEW,
+        kinds::EVERY => ALWAYS,
+        _ => 0,
     }
 }
 
-// The number of an entry where its kind is this one, else 0.
-fn number_of(kind: u8, other: u8, number: u16) -> u64
-    ensures { (result ≡ bit (eqb kind other) * number) × (result < 65536) }
+// Those that the bounds of a slot give an entry of this number.
+#[tactic(auto, unfolding(crate::specs::code::States::given))]
+fn given(number: u16, x: u64) -> u64
+    ensures { result ≡ given number (low_part x) (high_part x) }
 {
-    if kind == other { u64::from(number) } else { 0 }
+    let n = u64::from(number);
+    let (lo, hi) = (low_in(x), high_in(x));
+    ONE * u64::from(1 <= lo)
+        + LISTED * u64::from(hi < NO_BOUND)
+        + ENOUGH * u64::from(n <= lo)
+        + FEW * u64::from(hi <= n)
+        + ALWAYS
 }
 
-// Whether a slot's bounds support an entry of this kind and number.
+// Whether a slot's bounds support an entry of this kind and number. All comparisons are made before the kind chooses among them, so that
+// no jump depends on it: services come in any order of kinds, and such a jump would be guessed wrong.
+#[tactic(auto, using(crate::proofs::states::BoundLaws::given_support))]
 fn supported(kind: u8, number: u16, x: u64) -> bool
     ensures { result ≡ bounds_support kind number (low_part x) (high_in (high_part x)) }
 {
-    if low_in(x) < least_asked(kind) + number_of(kind, kinds::AT_LEAST, number) {
-        return false;
-    }
-    high_in(x) <= most_asked(kind) + number_of(kind, kinds::AT_MOST, number)
+    needed(kind) & given(number, x) != 0
 }
 
 // Whether every record has at most so many of a link: "at most 1 or more is always met" of a link from 32,768 up.

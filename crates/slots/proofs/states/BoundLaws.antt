@@ -3,7 +3,8 @@
 use Prim.Native.Nat.{◌+◌, ◌*◌, ◌<◌, ◌≤◌, ℕ}
 use lib.Dec.{eqb, leb, ltb}
 use lib.ListN.{get_or, length}
-use mathlib.Core.Bool.{Bool, ◌||◌, cond, false, or-false, true}
+use mathlib.Core.Bool.{Bool, ◌||◌, cond, false, not, or-false, true}
+use Rattle.std.specs.Int.Bits.{bit_and}
 use mathlib.Core.List.{List}
 use mathlib.Core.Logic.{◌≢◌}
 use mathlib.Core.Option.{Option}
@@ -20,7 +21,7 @@ use Rattle.passes.proofs.SlotLists.RestrictLaws.{excluded-settled}
 use Rattle.passes.specs.code.Restrict.{excluded_at}
 use Rattle.passes.specs.code.Slots.{Slot}
 use Rattle.slots.proofs.states.SlotSearch.{high-slot, low-slot}
-use Rattle.slots.specs.code.States.{Indexed, beside_bounds, bounds_support, entry_slot, high_at, holds_in_state, least_asked, low_at, most_asked, nowhere, passed, slot_for, state_below, supported_by}
+use Rattle.slots.specs.code.States.{Indexed, beside_bounds, bounds_support, entry_slot, high_at, given, holds_in_state, low_at, needed, nowhere, passed, slot_for, state_below, supported_by}
 use Rattle.slots.specs.code.Tables.{Exact, Kept, Settling, hash_of, high_in, high_part, key_in, link_kind, low_part, no_bound, slots_from}
 
 module _ {ss : List Slot} {t next head : List ℕ} {used : ℕ} (i : Indexed ss t next head used) {s x : ℕ} (b : s ≤ used) (e : x ≡ cond (eqb s 0) no_bound (get_or t s 0)) where
@@ -81,28 +82,41 @@ settled-kept k s = kept-keys k s.size s.keys
 
 -- ---- what the bounds support
 
--- too low a bound supports nothing; otherwise the upper one decides
-module _ (k n lo hi : ℕ) (small : n < 65536) (low : lo < 131072) where
-  pub too-low : lo < least_asked k + bit (eqb k 3) * n → false ≡ bounds_support k n lo (high_in hi)
-  unfolding least_asked bounds_support
-  too-low l =
-      eq-cases k 1 (λ q. let h : lo < 1 + 0 * n = rw q at l in let z : lo ≡ 0 = omega arith in rw (q, z))
-      (λ a. eq-cases k 2 (λ q. let h : lo < 0 + 0 * n = rw q at l in absurd (omega arith))
-      (λ b. eq-cases k 3 (λ q. let h : lo < 0 + 1 * n = rw q at l in rw (q, gt-leb {m = n} {n = lo} (omega arith)))
-      (λ c. eq-cases k 4 (λ q. let h : lo < 0 + 0 * n = rw q at l in absurd (omega arith))
-      (λ d. eq-cases k 5 (λ q. let h : lo < 0 + 0 * n = rw q at l in absurd (omega arith))
-      (λ e. rw (ne_eqb a, ne_eqb b, ne_eqb c, ne_eqb d, ne_eqb e))))))
+one-bound : (lo : ℕ) → leb 1 lo ≡ not (eqb lo 0)
+one-bound lo = eq-cases lo 0 (λ z. rw z) (λ z. rw (ne_eqb z) (le-leb {m = 1} {n = lo} (omega arith)))
 
-  pub not-too-low : hi < 131072 → least_asked k + bit (eqb k 3) * n ≤ lo → leb hi (most_asked k + bit (eqb k 4) * n) ≡ bounds_support k n lo (high_in hi)
-  unfolding least_asked most_asked bounds_support
-  not-too-low high l =
-      let any : leb hi (131071 + 0 * n) ≡ true = le-leb {m = hi} {n = 131071 + 0 * n} (omega arith) in
-      eq-cases k 1 (λ q. let h : 1 + 0 * n ≤ lo = rw q at l in let z : eqb lo 0 ≡ false = omega tests in rw (q, any, z))
-      (λ a. eq-cases k 2 (λ q. rw q (lt-cases hi no_bound (λ y. rw (lt-ltb y, le-leb {m = hi} {n = 65535 + 0 * n} (omega arith))) (λ y. rw (ge-ltb y, gt-leb {m = hi} {n = 65535 + 0 * n} (omega arith)))))
-      (λ b. eq-cases k 3 (λ q. let h : 0 + 1 * n ≤ lo = rw q at l in rw (q, any, le-leb {m = n} {n = lo} (omega arith)))
-      (λ c. eq-cases k 4 (λ q. let z : 0 + 1 * n ≡ n = omega arith in rw (q, z) (high-most hi n small))
-      (λ d. eq-cases k 5 (λ q. rw (q, any))
-      (λ e. let h : 131072 + 0 * n ≤ lo = rw (ne_eqb a, ne_eqb b, ne_eqb c, ne_eqb d, ne_eqb e) at l in absurd (omega arith))))))
+-- a bit alone asks for its own comparison, whichever hold
+each : (a b c d : Bool) → let m : ℕ = 1 * bit a + 2 * bit b + 4 * bit c + 8 * bit d + 16 in
+    (not (eqb (bit_and 1 m) 0) ≡ a) × (not (eqb (bit_and 2 m) 0) ≡ b) × (not (eqb (bit_and 4 m) 0) ≡ c) × (not (eqb (bit_and 8 m) 0) ≡ d)
+    × (not (eqb (bit_and 16 m) 0) ≡ true) × (not (eqb (bit_and 0 m) 0) ≡ false)
+each true true true true = (refl, refl, refl, refl, refl, refl)
+each true true true false = (refl, refl, refl, refl, refl, refl)
+each true true false true = (refl, refl, refl, refl, refl, refl)
+each true true false false = (refl, refl, refl, refl, refl, refl)
+each true false true true = (refl, refl, refl, refl, refl, refl)
+each true false true false = (refl, refl, refl, refl, refl, refl)
+each true false false true = (refl, refl, refl, refl, refl, refl)
+each true false false false = (refl, refl, refl, refl, refl, refl)
+each false true true true = (refl, refl, refl, refl, refl, refl)
+each false true true false = (refl, refl, refl, refl, refl, refl)
+each false true false true = (refl, refl, refl, refl, refl, refl)
+each false true false false = (refl, refl, refl, refl, refl, refl)
+each false false true true = (refl, refl, refl, refl, refl, refl)
+each false false true false = (refl, refl, refl, refl, refl, refl)
+each false false false true = (refl, refl, refl, refl, refl, refl)
+each false false false false = (refl, refl, refl, refl, refl, refl)
+
+-- what a kind rests on is among what the bounds give exactly where they support the entry
+pub given_support : (k n lo hi : ℕ) → n < 65536 → not (eqb (bit_and (needed k) (given n lo hi)) 0) ≡ bounds_support k n lo (high_in hi)
+unfolding needed given bounds_support
+given_support k n lo hi small =
+    let e = each (leb 1 lo) (ltb hi no_bound) (leb n lo) (leb hi n) in
+    eq-cases k 1 (λ q. rw q (e.0 ∙ one-bound lo))
+    (λ a. eq-cases k 2 (λ q. rw q (e.1 ∙ high-there hi))
+    (λ b. eq-cases k 3 (λ q. rw q e.2)
+    (λ c. eq-cases k 4 (λ q. rw q (e.3 ∙ high-most hi n small))
+    (λ d. eq-cases k 5 (λ q. rw q e.4)
+    (λ f. rw (ne_eqb a, ne_eqb b, ne_eqb c, ne_eqb d, ne_eqb f) e.5)))))
 
 -- ---- a lack that is implied
 

@@ -1,7 +1,8 @@
 -- Which entries hold, by the slots of a normal form. No public promise names these.
 -- Assumes nothing.
-use Rattle.std.specs.Prelude.{◌<◌, ◌≤◌, suc, zero, ℕ, eqb, leb, get_or, length, Bool, ◌||◌, cond, false, not, true, List, ◌≢◌, ◌≡◌}
+use Rattle.std.specs.Prelude.{◌+◌, ◌*◌, ◌<◌, ◌≤◌, suc, zero, ℕ, eqb, leb, ltb, get_or, length, Bool, ◌||◌, cond, false, not, true, List, ◌≢◌, ◌≡◌}
 use Rattle.std.proofs.Math.Option.{Option, none}
+use Rattle.base.specs.Range.{bit}
 use Rattle.blocks.specs.Entries.{entries_of, nth}
 use Rattle.blocks.specs.Owners.{owner_of}
 use Rattle.blocks.specs.declared.Entry.{Entry}
@@ -9,7 +10,7 @@ use Rattle.logic.specs.Background.{Background}
 use Rattle.logic.specs.Normal.{at_most, found}
 use Rattle.passes.specs.code.Restrict.{excluded_at}
 use Rattle.passes.specs.code.Slots.{Slot, position, settled, slot_at, slot_high, slot_low, taken}
-use Rattle.slots.specs.code.Tables.{Kept, link_kind, slots_from}
+use Rattle.slots.specs.code.Tables.{Kept, link_kind, no_bound, slots_from}
 
 -- ---- slots by key
 
@@ -63,12 +64,12 @@ bounds_support k n lo hi =
 unfoldable pub beside_bounds : Background → Bool → ℕ → ℕ → ℕ → Bool
 beside_bounds b x k l n = cond (eqb k 2) x (cond (eqb k 4) (at_most n (b.cap l)) false)
 
--- what a kind asks of the two bounds of a slot beside the entry's number: no lower bound is 131,072, and no upper one is above 131,071
-unfoldable pub least_asked : ℕ → ℕ
-least_asked k = cond (eqb k 1) 1 (cond (eqb k 2) 0 (cond (eqb k 3) 0 (cond (eqb k 4) 0 (cond (eqb k 5) 0 131072))))
+-- what a kind rests on, and what a slot's bounds give a number, as bits: the lower one is not 0, the upper one is there, as many, as few
+unfoldable pub needed : ℕ → ℕ
+needed k = cond (eqb k 1) 1 (cond (eqb k 2) 2 (cond (eqb k 3) 4 (cond (eqb k 4) 8 (cond (eqb k 5) 16 0))))
 
-unfoldable pub most_asked : ℕ → ℕ
-most_asked k = cond (eqb k 1) 131071 (cond (eqb k 2) 65535 (cond (eqb k 3) 131071 (cond (eqb k 4) 0 131071)))
+unfoldable pub given : ℕ → ℕ → ℕ → ℕ
+given n lo hi = 1 * bit (leb 1 lo) + 2 * bit (ltb hi no_bound) + 4 * bit (leb n lo) + 8 * bit (leb hi n) + 16
 
 -- the slot of an entry at place v
 abbrev pub entry_slot : List Slot → ℕ → Entry → ℕ
