@@ -1,5 +1,5 @@
 #!/usr/bin/env bash
-# The sample pages: one of a few entries, one of 1,008. Where Chromium is installed, it is looked in it whether the answer, the
+# The sample pages: one of a few entries, one of 1,008, one that goes 31 deep, and the table of a catalogue; as PDF too. Where Chromium is installed, it is looked in it whether the answer, the
 # marked entry and the drawing are shown; no page has a script, so this is asked by a script in a copy.
 set -euo pipefail
 cd "$(dirname "$0")/../.."
@@ -15,7 +15,12 @@ for part in supplier service; do "$large" $part > "$out/large-$part.txt"; done
 page() { "$gx" compare "$1" "$2" --names "$3" --html "$out/$4.html" --svg "$out/$4.svg" > "$out/$4.txt" || test $? = 1; }
 page examples/supplier.txt examples/service.txt examples/laboratory.names small
 page "$out/large-supplier.txt" "$out/large-service.txt" "$out/large.names" large
-echo "$out/small.html and $out/large.html are written"
+deep() { local open="" close="" i; for ((i = 0; i < $1; i++)); do open+="every sample ["; close+="]"; done; echo "$open$2$close"; }
+for depth in $(seq 0 30); do deep "$depth" "at least 1 sample"; done > "$out/deep-supplier.txt"
+deep 31 "has sealed" > "$out/deep-service.txt"
+page "$out/deep-supplier.txt" "$out/deep-service.txt" examples/laboratory.names deep
+"$gx" catalogue examples/supplier.blocks examples/services --quiet --html "$out/catalogue" || test $? = 1
+echo "$out/small.html, $out/large.html, $out/deep.html and $out/catalogue/index.html are written"
 
 chromium=$(command -v chromium || command -v chromium-browser || true)
 if [ -z "$chromium" ]; then
@@ -23,8 +28,8 @@ if [ -z "$chromium" ]; then
     exit 0
 fi
 look() { timeout 60 "$chromium" --headless --no-sandbox --disable-gpu --hide-scrollbars "$@" 2> "$out/chromium.log"; }
-for name in small large; do
-    for width in 1280 400; do
+for name in small large deep; do
+    for width in 1280 390; do
         copy="$out/$name-looked-at.html"
         { cat "$out/$name.html"; cat rust/gx/seen.html; } > "$copy"
         look --window-size=$width,1200 --dump-dom "file://$PWD/$copy" > "$out/$name.dom"
@@ -35,6 +40,7 @@ for name in small large; do
         rm "$copy" "$out/$name.dom"
     done
     look --window-size=1280,2400 --screenshot="$out/$name.png" "file://$PWD/$out/$name.html" > "$out/chromium.log"
+    look --no-pdf-header-footer --print-to-pdf="$out/$name.pdf" "file://$PWD/$out/$name.html" > "$out/chromium.log"
     echo "$name page: the answer, the marked entry and the drawing are shown in Chromium"
 done
 rm -f "$out/chromium.log"

@@ -7,9 +7,25 @@ use crate::names::Names;
 #[derive(Clone, Copy, Debug)]
 pub struct Words<'a> {
     names: &'a Names,
-    /// Each word of the names stands between two signs that keep its direction from what is around it.
-    apart: bool,
+    form: Form,
 }
+
+/// How the words of the names stand among others.
+#[derive(Clone, Copy, Debug, PartialEq, Eq)]
+enum Form {
+    Plain,
+    /// Between two signs that keep the direction of a word from what is around it.
+    Apart,
+    /// Long ones cut, as in a drawing.
+    Short,
+}
+
+/// Of more steps than this the middle is folded on pages, and so many are told on each side of it.
+const MOST_STEPS: usize = 12;
+const ENDS: usize = 3;
+
+/// The letters of a word that is cut.
+const SHORT: usize = 40;
 
 /// The sign before a word that is kept apart, and the one after it. No word of a text has them.
 pub const APART: [char; 2] = ['\u{2068}', '\u{2069}'];
@@ -22,13 +38,16 @@ impl<'a> Words<'a> {
     pub fn new(names: &'a Names) -> Words<'a> {
         Words {
             names,
-            apart: false,
+            form: Form::Plain,
         }
     }
 
     /// The same, with each word kept apart, as pages have them.
     pub fn apart(names: &'a Names) -> Words<'a> {
-        Words { names, apart: true }
+        Words {
+            names,
+            form: Form::Apart,
+        }
     }
 
     /// The same without signs between words.
@@ -36,11 +55,21 @@ impl<'a> Words<'a> {
         Words::new(self.names)
     }
 
+    /// The same with long words cut.
+    pub fn short(self) -> Words<'a> {
+        Words {
+            names: self.names,
+            form: Form::Short,
+        }
+    }
+
     /// A word of the names.
     fn own(self, word: &str) -> String {
-        match (self.apart, APART) {
-            (true, [before, after]) => format!("{before}{word}{after}"),
-            (false, _) => word.into(),
+        let [before, after] = APART;
+        match (self.form, word.char_indices().nth(SHORT)) {
+            (Form::Apart, _) => format!("{before}{word}{after}"),
+            (Form::Short, Some((end, _))) => format!("{}…", &word[..end]),
+            _ => word.into(),
         }
     }
 
@@ -112,7 +141,11 @@ impl<'a> Words<'a> {
 
     /// The links of a way, one after the other.
     pub fn steps(self, way: &[Link]) -> String {
-        let steps: Vec<String> = way.iter().map(|&link| self.step(link)).collect();
+        let mut steps: Vec<String> = way.iter().map(|&link| self.step(link)).collect();
+        if self.form != Form::Plain && steps.len() > MOST_STEPS {
+            let more = steps.len() - 2 * ENDS;
+            steps.splice(ENDS..steps.len() - ENDS, [format!("{more} more")]);
+        }
         steps.join(" › ")
     }
 

@@ -80,9 +80,25 @@ pub fn page(sheet: Sheet<'_>) -> Result<String, Trouble> {
 /// The text for a page, with each word that is kept apart in an element that does so.
 fn marked(text: &str) -> String {
     let [before, after] = APART;
-    let text = escaped(text).replace(before, "<bdi>");
-    text.replace(after, "</bdi>")
+    let mut parts = text.split(before);
+    let mut out = escaped(parts.next().unwrap_or_default());
+    for part in parts {
+        let (word, rest) = part.split_once(after).unwrap_or((part, ""));
+        let class = match word.chars().count() > LONG_WORD {
+            true => " class=\"long\"",
+            false => "",
+        };
+        out.push_str(&format!(
+            "<bdi{class}>{}</bdi>{}",
+            escaped(word),
+            escaped(rest)
+        ));
+    }
+    out
 }
+
+/// A word with more letters than this is cut where it is shown.
+const LONG_WORD: usize = 60;
 
 /// A file's name on a page.
 fn filed(title: &str) -> String {

@@ -92,7 +92,9 @@ impl Rows {
             let (tag, after) = parts.next()?.split_once('>')?;
             match tag {
                 "span class=\"c k\"" => number = after,
-                "mark" | "/mark" | "b" | "/b" | "bdi" | "/bdi" if !remarks => {
+                "mark" | "/mark" | "b" | "/b" | "bdi" | "bdi class=\"long\"" | "/bdi"
+                    if !remarks =>
+                {
                     self.words.push_str(after);
                 }
                 _ => (),

@@ -19,9 +19,9 @@ a{color:var(--way)}
 .answer.yes{border-color:var(--yes);background:var(--yes-back)}
 .answer.yes h1{color:var(--yes)}
 .card{background:var(--paper);border:1px solid var(--rule);border-radius:.3rem;padding:1rem 1.25rem;margin-top:1.25rem;min-width:0}
-.why{display:grid;grid-template-columns:max-content 1fr;gap:.7rem 1.5rem;align-items:baseline;margin:.8rem 0 0}
+.why{display:grid;grid-template-columns:max-content minmax(0,1fr);gap:.7rem 1.5rem;align-items:baseline;margin:.8rem 0 0}
 .why dt{color:var(--soft)}
-.why dd{margin:0;font-size:1.1rem;font-weight:600;overflow-wrap:anywhere}
+.why dd{margin:0;min-width:0;font-size:1.1rem;font-weight:600;overflow-wrap:anywhere}
 .why dd small{display:block;font-size:.9rem;font-weight:400;color:var(--soft)}
 .two{display:grid;grid-template-columns:repeat(auto-fit,minmax(min(100%,24rem),1fr));gap:0 1.25rem;align-items:start}
 .file{color:var(--soft);font-weight:400;overflow-wrap:anywhere}
@@ -53,8 +53,9 @@ td small{display:block;color:var(--soft);white-space:nowrap}
 tr.no td:first-child{color:var(--no)}
 tr.yes td:first-child{color:var(--yes)}
 .index td:first-child{width:1.5rem;font-weight:700}
+.index td:nth-child(2){min-width:8rem}
 td:first-child{font-variant-numeric:tabular-nums}
-.flag{display:inline-block;margin-left:.35rem;font-size:.85rem;font-weight:700;padding:0 .5rem;border-radius:.2rem;background:var(--no);color:#fff}
+.flag{display:inline-block;max-width:100%;overflow:hidden;margin-left:.35rem;font-size:.85rem;font-weight:700;padding:0 .5rem;border-radius:.2rem;background:var(--no);color:#fff}
 .flag.here{background:var(--way)}
 .run>summary{color:var(--soft);padding:.15rem .4rem}
 .run>summary::before{content:\"\\25B8\\00A0\"}
@@ -66,7 +67,7 @@ figcaption{color:var(--soft);font-size:.95rem;margin-top:.5rem}
 pre{white-space:pre-wrap;overflow-wrap:anywhere;background:#f3f5f6;padding:.8rem 1rem;border-radius:.2rem;font-size:.95rem}
 footer{color:var(--soft);font-size:.9rem;margin-top:1.5rem;max-width:60rem}
 .given{overflow-wrap:anywhere}
-@media (max-width:36rem){.why{grid-template-columns:1fr;gap:.1rem}.why dd{margin-bottom:.7rem}.card{padding:.8rem .8rem}}
+@media (max-width:36rem){.why{grid-template-columns:minmax(0,1fr);gap:.1rem}.why dd{margin-bottom:.7rem}.card{padding:.8rem .8rem}}
 @media print{
 @page{margin:14mm}
 html{font-size:9.5pt}
@@ -80,5 +81,9 @@ main{padding:0;max-width:none}
 .draw{overflow:visible}
 .draw svg{max-width:100%;height:auto;zoom:.75}
 h2{break-after:avoid}
+details:not([open])>summary::after{content:\" \\00B7 folded\";color:var(--soft);font-size:.85rem}
+.draw svg{max-height:225mm;width:auto}
+bdi.long{white-space:normal;max-width:none}
 }
+bdi.long{display:inline-block;max-width:min(100%,40ch);overflow:hidden;text-overflow:ellipsis;white-space:nowrap;vertical-align:bottom}
 ";

@@ -4,8 +4,11 @@ use super::escaped;
 
 /// How far a box stands to the right of the one it hangs from, where there is room.
 const INDENT: f64 = 28.0;
-/// The boxes of all depths begin within this width.
-const INDENTS: f64 = 420.0;
+/// The boxes of all depths begin within this width, so that the last is seen on a telephone.
+const INDENTS: f64 = 100.0;
+/// With more depths than this, where each group is drawn, they begin within the other.
+const DEEP: usize = 12;
+const DEEP_INDENTS: f64 = 420.0;
 const MARGIN: f64 = 12.0;
 const GAP: f64 = 16.0;
 const LINE: f64 = 20.0;
@@ -126,7 +129,12 @@ fn width_of(line: &Written) -> f64 {
 /// Places the boxes one under the other, and writes them.
 pub(super) fn rendered(nodes: &mut [Node], title: &str, about: &str, style: &str) -> String {
     let deepest = nodes.iter().map(|node| node.depth).max().unwrap_or(0);
-    let indent = INDENT.min((INDENTS / deepest.max(1) as f64).floor());
+    let room = if deepest > DEEP {
+        DEEP_INDENTS
+    } else {
+        INDENTS
+    };
+    let indent = INDENT.min((room / deepest.max(1) as f64).floor());
     let mut y = MARGIN;
     for node in nodes.iter_mut() {
         node.x = MARGIN + indent * node.depth as f64;

@@ -32,6 +32,7 @@ pub fn inside(failure: &Failure, words: Words<'_>, whole: bool) -> String {
 }
 
 fn drawn(failure: &Failure, words: Words<'_>, whole: bool, style: &str) -> String {
+    let words = words.short();
     let mut nodes = plan::nodes(failure, words, whole);
     let title = format!("Specimen: {}", failure.note(words));
     let about = format!("The entry that fails: {}", failure.asks(words));

@@ -16,6 +16,11 @@ const MOST_PROPERTIES: usize = 8;
 /// The most characters of a line of properties.
 const LONGEST: usize = 56;
 
+/// Of a way with more groups than this the middle is not drawn, so that its end is near its beginning.
+const LONG_WAY: usize = 12;
+/// So many groups are drawn on each side of what is left out.
+const ENDS: usize = 3;
+
 /// The boxes of the specimen that shows a failure.
 pub(super) fn nodes(failure: &Failure, words: Words<'_>, whole: bool) -> Vec<Node> {
     let specimen = &failure.specimen;
@@ -95,8 +100,27 @@ impl Plan<'_> {
                 .push(Node::new(depth, Some(above), Look::More, 0, vec![line]));
         }
         for group in way {
-            self.item(group, depth, Some(above));
+            match self.folded_to(group) {
+                Some((count, end)) => {
+                    let more = format!("{count} more on this way, not drawn");
+                    let line = Written::small(&more);
+                    let fold = self.nodes.len();
+                    self.nodes
+                        .push(Node::new(depth, Some(above), Look::More, 0, vec![line]));
+                    self.item(end, depth + 1, Some(fold));
+                }
+                None => self.item(group, depth, Some(above)),
+            }
         }
+    }
+
+    /// How many groups of a long way are left out from this one on, and the group that is drawn after them.
+    fn folded_to(&self, group: usize) -> Option<(usize, usize)> {
+        let path = &self.specimen.path;
+        let long = path.len() > LONG_WAY && !self.whole;
+        let end = path.len().checked_sub(ENDS)?;
+        let from = path.iter().position(|&on| on == group)?;
+        (long && from == ENDS).then(|| (end - from, path[end]))
     }
 
     fn groups_below(&self, group: usize) -> usize {

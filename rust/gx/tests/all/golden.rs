@@ -273,3 +273,68 @@ fn pages_load_nothing_and_name_no_folder() {
         );
     }
 }
+
+#[test]
+fn a_long_way_folds_in_the_middle() {
+    let folder = Folder::new("golden-deep");
+    let deep = |inner: &str| "every link 1 [".repeat(31) + inner + &"]".repeat(31);
+    let c: String = (0..31)
+        .map(|depth| {
+            "every link 1 [".repeat(depth) + "at least 1 link 1" + &"]".repeat(depth) + "\n"
+        })
+        .collect();
+    folder.put("c", c).put("d", deep("has property 7"));
+    let args = ["compare", "c", "d", "--html", "page", "--svg", "drawing"];
+    assert_eq!(folder.gx(&args).status, 1);
+    let drawing = String::from_utf8(folder.get("drawing")).unwrap();
+    assert!(
+        drawing.contains("25 more on this way, not drawn"),
+        "{drawing}"
+    );
+    assert_eq!(drawing.matches("<g>").count(), 1 + 3 + 1 + 3);
+    assert!(drawing.contains("✕ fails here"));
+    let page = String::from_utf8(folder.get("page")).unwrap();
+    let told = "every item by link 1 reached by link 1 › link 1 › link 1 › 25 more › link 1 › link 1 › link 1 has property 7";
+    assert!(page.contains(told));
+    let ran = folder.gx(&[&args[..], &["--whole"]].concat());
+    assert_eq!(ran.status, 1);
+    let drawing = String::from_utf8(folder.get("drawing")).unwrap();
+    assert_eq!(drawing.matches("<g>").count(), 32);
+}
+
+#[test]
+fn a_very_long_word_is_cut() {
+    let folder = Folder::new("golden-long-word");
+    let word = "wort".repeat(1250);
+    folder
+        .put("c", format!("has property 7 \"{word}\""))
+        .put("d", format!("lacks property 7 \"{word}\""));
+    let args = ["compare", "c", "d", "--html", "page", "--svg", "drawing"];
+    assert_eq!(folder.gx(&args).status, 1);
+    let drawing = String::from_utf8(folder.get("drawing")).unwrap();
+    assert!(!drawing.contains(&word) && drawing.contains("wort…"));
+    let width = drawing
+        .split("width=\"")
+        .nth(1)
+        .unwrap()
+        .split('"')
+        .next()
+        .unwrap();
+    assert!(width.parse::<f64>().unwrap() < 800.0, "{width}");
+    let page = String::from_utf8(folder.get("page")).unwrap();
+    assert!(page.contains(&format!("<bdi class=\"long\">{word}</bdi>")));
+}
+
+#[test]
+fn what_is_folded_is_told_on_paper() {
+    let folder = Folder::new("golden-paper");
+    folder.put("c", "1,7").put("d", "1,8");
+    assert_eq!(
+        folder.gx(&["compare", "c", "d", "--html", "page"]).status,
+        1
+    );
+    let page = String::from_utf8(folder.get("page")).unwrap();
+    let paper = page.split_once("@media print{").unwrap().1;
+    assert!(paper.contains("details:not([open])>summary::after{content:\" \\00B7 folded\""));
+    assert!(paper.contains(".draw svg{max-height:225mm"));
+}
