@@ -121,9 +121,9 @@ module _ (P c d : List ℕ) where
   holding-room t {x = x} is by = let j : Judged (under P) c d x.used t = rw is at by in j.tabled.room
 
   -- they are lent as far as the last
-  pub holding-failed : (room : ℕ) (t : List ℕ) (k : ℕ) {x : Unheld} {r : Holding} → r ≡ holding_of P room c d → r ≡ Ok (Some x) → JudgedBy P c d t r
+  left-failed : (room : ℕ) (t : List ℕ) (k : ℕ) {x : Unheld} {r : Holding} → r ≡ holding_of P room c d → r ≡ Ok (Some x) → JudgedBy P c d t r
       → k ≡ x.used + 1 → ListRead P × Failed (under P) c d x.entry (take k t)
-  holding-failed room t k {x} e is by size =
+  left-failed room t k {x} e is by size =
       let answer : holding_of P room c d ≡ Ok (Some x) = sym e ∙ is in
       holding-listed room
       (λ k i p q. let z : ◌≡◌ {A = ℕ} 0 1 = cc in absurd (omega arith))
@@ -143,6 +143,11 @@ module _ (P c d : List ℕ) where
               bounded = j.tabled.bounded;
             }),
       ))
+
+  -- by the numbers of the entry and of the slots as they are handed on
+  pub holding-failed : (room : ℕ) (t : List ℕ) (n k : ℕ) {x : Unheld} {r : Holding} → r ≡ holding_of P room c d → r ≡ Ok (Some x)
+      → JudgedBy P c d t r → n ≡ x.entry → k ≡ x.used + 1 → ListRead P × Failed (under P) c d n (take k t)
+  holding-failed room t n k e is by entry size = rw entry (left-failed room t k e is by size)
 
 -- a list that is accepted, and an entry that fails under its background
 pub failed-somehow : {P c d t : List ℕ} {n : ℕ} → ListRead P × Failed (under P) c d n t → FailedSomehow c d n t

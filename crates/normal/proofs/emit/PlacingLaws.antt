@@ -1,22 +1,23 @@
 -- The 'every' rows of a place, pushed one by one, with the slots that they lead to.
 -- Assumes nothing.
-use Prim.Native.Nat.{◌+◌, ◌<◌, ◌≤◌, suc, ℕ}
+use Prim.Native.Nat.{◌%◌, ◌+◌, ◌<◌, ◌≤◌, suc, ℕ}
 use lib.Dec.{eqb}
-use lib.ListN.{length, set}
-use mathlib.Core.Bool.{Bool, false, true}
+use lib.ListN.{get_or, length, set}
+use mathlib.Core.Bool.{Bool, false, not, true}
 use mathlib.Core.List.{List, [], ◌++◌, ◌∷◌}
 use mathlib.Core.Logic.{◌≢◌}
 use mathlib.Core.Option.{Option}
 use mathlib.Core.Path.{◌∙◌, ◌≡◌, ap, refl, sym}
 use native.Mathlib.Omega.{arith}
-use Rattle.base.proofs.Tests.{bool_cases, eq-cases, ge-ltb, gt-leb, lt-cases, lt-ltb, ne_eqb}
+use Rattle.base.proofs.Tests.{bool_cases, eq-cases, eq-eqb, ge-ltb, gt-leb, lt-cases, lt-ltb, ne_eqb}
 use Rattle.logic.proofs.TreeRows.FillLaws.{joined-none, joined-one, noted-append, noted-length}
 use Rattle.logic.specs.Filling.{noted}
 use Rattle.logic.specs.Normal.{at_most}
 use Rattle.normal.proofs.emit.PushLaws.{Pushing, part_room, pushed-total, pushing-done, pushing-more, pushing-room, pushing-start}
-use Rattle.normal.specs.code.Emitted.{Placing, cell_name, cell_slot, every_rows, every_slots, keep_cell, packed_of}
+use Rattle.normal.specs.code.Emitted.{Placing, cell_name, cell_slot, every_rows, every_slots, keep_cell, keep_in, packed_of}
+use Rattle.normal.specs.code.ClassRuns.{cell_at}
 use Rattle.passes.specs.code.Slots.{Cell, cell}
-use Rattle.slots.specs.code.Tables.{high_in}
+use Rattle.slots.specs.code.Tables.{high_in, high_part}
 
 -- ---- the 'every' rows of one cell and of the others
 
@@ -98,3 +99,15 @@ high_zero h =
     lt-cases h 65536
     (λ z. rw (lt-ltb z) (eq-cases h 0 (λ e. rw e) (λ e. let l : 0 < h = omega arith in rw (gt-leb l, ne_eqb e))))
     (λ z. let e : h ≢ 0 = λ q. omega arith in rw (ge-ltb z, ne_eqb e))
+
+-- ---- whether an 'every' is kept, by a tag of its slot
+
+-- not where its place has nothing to say
+pub kept-unmarked : (full t : List ℕ) (x : ℕ) {s : ℕ} → s ≡ x % 1024 → get_or full s 0 ≡ 0
+    → not (eqb (get_or full s 0) 0) ≡ keep_cell (keep_in full) (cell_at t true x)
+kept-unmarked full t x e z = rw (← e, eq-eqb z)
+
+-- else by its bound
+pub kept-marked : (full t : List ℕ) (x : ℕ) {s h : ℕ} → s ≡ x % 1024 → get_or full s 0 ≢ 0 → h ≡ high_part (get_or t s 0)
+    → not (eqb h 0) ≡ keep_cell (keep_in full) (cell_at t true x)
+kept-marked full t x {s} {h} e z b = rw (← e, ne_eqb z, ← b, high_zero h)

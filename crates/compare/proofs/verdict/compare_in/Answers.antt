@@ -17,7 +17,7 @@ pub deny-requires : goal.deny-requires
 deny-requires c =
     let f = c.first_failing.ensures in
     let told = c.in-Some in
-    let h = rw (← c.from.ensures) at (holding-failed _ _ _ _ _ (c.from-in-Some.result + 1) f.0 (c.in_ok-unheld.was ∙ ap Ok told.is) f.2 (omega (arith, c.from-in-Some.ensures))) in
+    let h = holding-failed _ _ _ _ _ c.from.result (c.from-in-Some.result + 1) f.0 (c.in_ok-unheld.was ∙ ap Ok told.is) f.2 c.from.ensures (omega (arith, c.from-in-Some.ensures)) in
     failed-somehow h
 
 pub returns-in_err-unheld : goal.returns-in_err-unheld
@@ -39,7 +39,7 @@ returns-in-Some c =
     let a = c.args in
     let f = c.first_failing.ensures in
     let told = c.in-Some in
-    let h = rw (← c.from.ensures) at (holding-failed _ _ _ _ _ (c.from-in-Some.result + 1) f.0 (c.in_ok-unheld.was ∙ ap Ok told.is) f.2 (omega (arith, c.from-in-Some.ensures))) in
+    let h = holding-failed _ _ _ _ _ c.from.result (c.from-in-Some.result + 1) f.0 (c.in_ok-unheld.was ∙ ap Ok told.is) f.2 c.from.ensures (omega (arith, c.from-in-Some.ensures)) in
     let l = h.0.list_read in
     let r = c.deny.ensures (under a.pairs.now) (ruled-under a.pairs.now l) h.1 in
     (r.0 ∙ sym (list_read a.pairs.now a.c.now a.d.now a.out.now l), r.1 ∙ sym (list-output a.pairs.now a.c.now a.d.now a.out.now l))
