@@ -28,3 +28,7 @@ pub mod StoresLaws
 pub mod AscendingLaws
 -- The laws of chains.
 pub mod ChainLaws
+-- The laws of ways.
+pub mod WayLaws
+-- Lists of keys by their numbers.
+pub mod KeyLaws

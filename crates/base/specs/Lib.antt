@@ -10,5 +10,9 @@ pub mod Search
 pub mod Ascending
 -- Numbers from 1 on, in buckets: the last of a bucket, and the chain on which each number points to the one before it in its bucket.
 pub mod Chain
+-- A list of keys, and their numbers.
+pub mod Keys
+-- Tables in which no choice of keys makes a search long.
+pub mod Ways
 -- Which links lead to one item only.
 pub mod Links

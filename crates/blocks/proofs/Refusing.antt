@@ -24,9 +24,7 @@ pub mod Legal
 pub mod SingleLaws
 -- The table of the entries met that count: how it grows, and a walk along a chain.
 pub mod EntryTable
--- The search of the table of the groups met.
-pub mod SingleWalk
--- The table of the groups met, by which number 9 is looked for.
+-- The keys of the groups met, by which number 9 is looked for.
 pub mod SingleTable
 -- The search for number 9 begins at the first group by a link that leads to one item only.
 pub mod SingleSearch

@@ -6,7 +6,7 @@ pub mod ReadingSteps
 pub mod Blockwise
 -- A table of the entries met that count, found by owner and name.
 pub mod EntryTable
--- The table of the groups met by links that lead to one item only.
+-- The keys of the groups met by links that lead to one item only.
 pub mod SingleTable
 -- The steps of the pass that looks for number 9, as the code takes them.
 pub mod SingleSteps

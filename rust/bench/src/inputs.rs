@@ -255,7 +255,7 @@ pub fn one_cell() -> Vec<u8> {
 /// The cells of the library's table of groups met at which a search may begin, where a specimen has more than 63 entries.
 const CELLS: u64 = 4096;
 
-/// The cell where the search for an owner and a link begins, as `start_of` of crates/reading/src/single.rt has it.
+/// The cell where the search for an owner and a link begins, as `start_of` of crates/firsts/src/firsts.rt has it.
 pub fn first_cell(owner: usize, link: u16) -> u64 {
     let key = (owner as u64) << 16 | u64::from(link);
     2_654_435_769 * key / 1_048_576 % CELLS

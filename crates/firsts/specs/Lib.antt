@@ -1,0 +1,2 @@
+-- The table as the code keeps it.
+pub mod code
