@@ -12,7 +12,7 @@ ghost use Rattle.pairs.specs.code.Search.{Finds};
 
 use crate::given::Given;
 use blocks::{Entry, Property, entries_in_order, kinds};
-use pairs::Exclusions;
+use pairs::{Exclusions, INDEX_BYTES};
 
 // Whether one of the entries before gives the owner of entry e a property that excludes that of e.
 fn partner_before<const MOST: usize, const CELLS: usize>(
@@ -70,7 +70,7 @@ pub(crate) fn first_clash(pairs: &[u8], s: &[u8], n: usize) -> Option<usize>
     requires { (pair_count pairs.now ≤ 64) × (n ≤ 2016) × (n ≤ length (entries_of s.now)) × Whole s.now n }
     ensures { Finds (apart_ok pairs.now (entries_of s.now)) n result }
 {
-    let mut index = [0u8; 512];
+    let mut index = [0u8; INDEX_BYTES];
     let exclusions = Exclusions::new(pairs, &mut index);
     if n < 64 {
         return clash_within::<64, 128>(exclusions, s, n);

@@ -10,6 +10,7 @@ ghost use Rattle.compare.specs.code.Prepared.{Agreed, Failed, FailedSomehow, Roo
 use crate::NotContained;
 use crate::path::Path;
 use crate::specimen::specimen_rows;
+use blocks::sizes::{BLOCK, ENTRIES};
 use blocks::{Cause, Refusal};
 use normal::Workspace;
 
@@ -64,7 +65,7 @@ fn show(c: &[u8], d: &[u8], n: usize, table: &[u64], out: &mut [u8]) -> NotConta
     ensures { (b : Background) → Ruled b → Failed b c.now d.now n table.now
         → (Ok (Some result) ≡ compare_under b c.now d.now out.old) × (out.new ≡ output_under b c.now d.now out.old) }
 {
-    let count = if are_within(c, d, 512) {
+    let count = if are_within(c, d, BLOCK) {
         show_sized::<64, 128, 126, 127>(table, d, n, out)
     } else if are_within(c, d, 2048) {
         show_sized::<253, 506, 504, 505>(table, d, n, out)
@@ -154,7 +155,7 @@ fn compare_sized<const SLOTS: usize>(
     d: &[u8],
     out: &mut [u8],
 ) -> Result<Option<NotContained>, Refusal>
-    requires { (63 * min (length c.now) 8192 < 512 * SLOTS) × (SLOTS ≤ 1009) }
+    requires { (ENTRIES * min (length c.now) 8192 < BLOCK * SLOTS) × (SLOTS ≤ 1009) }
     ensures { (result ≡ compare_of pairs.now c.now d.now out.old) × (out.new ≡ output_of pairs.now c.now d.now out.old) }
 {
     let mut table = [0u64; SLOTS];
@@ -174,7 +175,7 @@ pub fn compare(
 ) -> Result<Option<NotContained>, Refusal>
     ensures { (result ≡ compare_of pairs.now c.now d.now out.old) × (out.new ≡ output_of pairs.now c.now d.now out.old) }
 {
-    if are_within(c, d, 512) {
+    if are_within(c, d, BLOCK) {
         return compare_sized::<64>(pairs, c, d, out);
     }
     if are_within(c, d, 2048) {

@@ -7,7 +7,7 @@ ghost use Rattle.fit.specs.code.Index.{Has};
 use blocks::Entry;
 
 // The index of the first byte of entry k, counted from 1. The product, divided by a power of two, is the number of blocks before it: so
-// there is no division by 63.
+// there is no division by the room of a block.
 #[tactic(auto, using(crate::proofs::entries::EntryLaws::place_is))]
 fn place_of(k: usize) -> usize
     requires { (1 ≤ k) × (k < 2048) }
