@@ -1,0 +1,5 @@
+use Rattle.answers.proofs.Seven.{comparison-seven, fit-never-seven, normal-seven}
+use Rattle.laws.proofs.seven_last.Goals as goal
+
+pub returns : goal.returns
+returns c = (fit-never-seven, normal-seven, comparison-seven)

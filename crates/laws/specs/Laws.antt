@@ -1,0 +1,167 @@
+-- The laws that src/lib.rt lists, each under the name of its function.
+-- Assumes nothing.
+use Rattle.std.specs.Prelude.{◌≡◌, ℕ, ◌*◌, ◌+◌, ◌%◌, ◌<◌, ◌≤◌, true, false, List, [], length, None, Ok, ◌≢◌, ◌↔◌}
+use Rattle.std.proofs.Math.Option.{none, some}
+use mathlib.Core.List.{Memᴰ}
+use Rattle.answers.specs.Promise.{Admitted, SameItemsNamed, normal_bytes, unfolded_list}
+use Rattle.answers.specs.Refusals.{AcceptedBy, ServicesTaken}
+use Rattle.base.specs.Ascending.{Sorted}
+use Rattle.base.specs.Exchange.{difference}
+use Rattle.blocks.proofs.Format.WordBytes.{Bytes}
+use Rattle.blocks.specs.Encoding.{encode, first_blocks}
+use Rattle.blocks.specs.Entries.{entries_of, limit_of}
+use Rattle.blocks.specs.Exchange.{EntriesExchanged, entry_words}
+use Rattle.blocks.specs.Frame.{blocks_in, plain, used_in}
+use Rattle.blocks.specs.Promise.{Further, Legal, NoneApplies}
+use Rattle.blocks.specs.Reading.{reading_of}
+use Rattle.blocks.specs.Reading as read
+use Rattle.blocks.specs.Refusals.{number_of, refused}
+use Rattle.blocks.specs.declared.Cause.{Cause}
+use Rattle.blocks.specs.declared.Entry.{Entry}
+use Rattle.blocks.specs.declared.Schema.TheVariants.{Description}
+use Rattle.blocks.specs.declared.Schema.{Schema}
+use Rattle.catalogue.specs.Answer.{catalogue_of, filled_of}
+use Rattle.compare.specs.Answer as comparison
+use Rattle.compare.specs.Answer.{compare_of, compare_under, not_contained, output_of, output_under}
+use Rattle.compare.specs.Promise as compare
+use Rattle.fit.specs.Answer as fit
+use Rattle.fit.specs.Answer.{fit_of, plain_fit}
+use Rattle.fit.specs.Promise.{Shows}
+use Rattle.logic.specs.Background.{standing}
+use Rattle.meaning.specs.FitExamples.{Case, cases}
+use Rattle.meaning.specs.NormalExamples as forms
+use Rattle.meaning.specs.RowEntries.{entry_before}
+use Rattle.meaning.specs.Rules.{Applies}
+use Rattle.meaning.specs.StarredCases as starred
+use Rattle.named.specs.Answer.{compare_named, fit_named, normalise_named, normalised_named, output_named}
+use Rattle.names.specs.NamedReading.{dictionary_reading, plain_of}
+use Rattle.names.specs.Promise.{Plain}
+use Rattle.normal.specs.Answer as normal
+use Rattle.normal.specs.Answer.{normalise_of, normalise_under, normalised_of, normalised_under}
+use Rattle.normal.specs.Promise as form
+use Rattle.normal.specs.Promise.{OwnNormalForm}
+use Rattle.pairs.specs.Pairs.{pair_faults, pairs_reading, under}
+use Rattle.pairs.specs.Promise.{ListRead}
+
+-- ---- bytes and entries
+
+abbrev pub BytesAndEntries : Type 0
+BytesAndEntries =
+    ((es : List Entry) → entries_of (encode es) ≡ es)
+    × ((σ : Schema) (i n : ℕ) (s : List ℕ) → Bytes s → reading_of σ i s ≡ Ok n → encode (entries_of s) ≡ s)
+
+abbrev pub WrittenIsAccepted : Type 0
+WrittenIsAccepted =
+    (σ : Schema) (i : ℕ) (es : List Entry) → Legal σ es → Further σ es → length es ≤ 63 * limit_of σ → reading_of σ i (encode es) ≡ Ok (length es)
+
+-- ---- exchanged entries
+
+-- s is accepted, and t is s with the used entries e and e + p of block b exchanged, all counted from 0
+abbrev pub Exchanges : (Schema → ℕ → List ℕ → List ℕ → ℕ → ℕ → ℕ → Type 0) → Type 0
+Exchanges Law =
+    (σ : Schema) (i n : ℕ) (s t : List ℕ) (b e p : ℕ) → reading_of σ i s ≡ Ok n → b < blocks_in s → 1 ≤ p → e + p < used_in s b
+    → EntriesExchanged plain s t b e p → Law σ i s t b e p
+
+abbrev pub ExchangeRefused : Type 0
+ExchangeRefused =
+    Exchanges (λ σ i s t b e p. ((read.returned (reading_of σ i t)).number ≡ 2)
+    ↔ ((p * difference (entry_words plain s b e) (entry_words plain s b (e + p))) % 16384 ≢ 0))
+
+abbrev pub ExchangeOtherwise : Type 0
+ExchangeOtherwise =
+    Exchanges (λ σ i s t b e p. (p * difference (entry_words plain s b e) (entry_words plain s b (e + p))) % 16384 ≡ 0
+    → (k : Cause) (j q : ℕ) → reading_of σ i t ≡ refused k j q → 4 ≤ number_of k)
+
+-- ---- the desk's examples
+
+abbrev pub DeskExamples : Type 0
+DeskExamples =
+    ((l : starred.Line) → Memᴰ l starred.lines → compare.Right [] l)
+    × ((l : forms.Line) → Memᴰ l forms.lines → form.Right [] l)
+    × ((c : Case) → Memᴰ c cases → Shows c)
+
+-- ---- normal forms
+
+abbrev pub RulesLeaveNothingOut : Type 0
+RulesLeaveNothingOut =
+    (P d : List ℕ) (m i n : ℕ) → pairs_reading P ≡ Ok m → reading_of Description i d ≡ Ok n → Bytes d
+    → Sorted entry_before (entries_of d) → ((k : ℕ) → Applies (under P) k (entries_of d) → ⊥) → OwnNormalForm P d
+
+-- whatever the outputs held and however long they are
+abbrev pub SameBytesExactly : Type 0
+SameBytesExactly =
+    (P D c E d out out' : List ℕ) (k k' : ℕ) → normalise_named P D c out ≡ Ok k → normalise_named P E d out' ≡ Ok k'
+    → (first_blocks k (normalised_named P D c out) ≡ first_blocks k' (normalised_named P E d out')) ↔ SameItemsNamed P D c E d
+
+-- for every two that are accepted, and outputs as long as they are once unfolded
+abbrev pub OneSetOfBytes : Type 0
+OneSetOfBytes =
+    (P D c E d out out' : List ℕ) → ListRead P → Admitted D c → Admitted E d
+    → length (plain_of D c) ≤ length out → length (plain_of E d) ≤ length out'
+    → (normal_bytes P D c out ≡ normal_bytes P E d out') ↔ SameItemsNamed P D c E d
+
+abbrev pub SameBytesContained : Type 0
+SameBytesContained =
+    (P D c d out out' o o' : List ℕ) (k k' : ℕ) → normalise_named P D c out ≡ Ok k → normalise_named P D d out' ≡ Ok k'
+    → length (plain_of D c) + length (plain_of D d) ≤ length o → length (plain_of D d) + length (plain_of D c) ≤ length o'
+    → (first_blocks k (normalised_named P D c out) ≡ first_blocks k' (normalised_named P D d out'))
+    ↔ ((compare_named P D c d o ≡ Ok None) × (compare_named P D d c o' ≡ Ok None))
+
+-- ---- the comparison and the fit answer
+
+abbrev pub ContainedFits : Type 0
+ContainedFits =
+    (P D c d out s : List ℕ) → compare_named P D c d out ≡ Ok None → fit_named P D s c ≡ Ok true → fit_named P D s d ≡ Ok true
+
+-- ---- an empty list of pairs
+
+abbrev pub EmptyListAsBefore : Type 0
+EmptyListAsBefore =
+    ((s d : List ℕ) → fit_of [] s d ≡ plain_fit s d)
+    × ((d out : List ℕ) → (normalise_of [] d out ≡ normalise_under standing d out) × (normalised_of [] d out ≡ normalised_under standing d out))
+    × ((c d out : List ℕ) → (compare_of [] c d out ≡ compare_under standing c d out) × (output_of [] c d out ≡ output_under standing c d out))
+
+-- ---- names
+
+abbrev pub AsUnfolded : Type 0
+AsUnfolded =
+    ((P D s d : List ℕ) → Admitted D d → fit_named P D s d ≡ fit_named P [] s (plain_of D d))
+    × ((P D d out : List ℕ) → Admitted D d
+    → (normalise_named P D d out ≡ normalise_named P [] (plain_of D d) out) × (normalised_named P D d out ≡ normalised_named P [] (plain_of D d) out))
+    × ((P D c d out : List ℕ) → Admitted D c → Admitted D d
+    → (compare_named P D c d out ≡ compare_named P [] (plain_of D c) (plain_of D d) out)
+    × (output_named P D c d out ≡ output_named P [] (plain_of D c) (plain_of D d) out))
+    × ((P D c list out : List ℕ) → AcceptedBy D c → ServicesTaken D list
+    → (catalogue_of P D c list out ≡ catalogue_of P [] (plain_of D c) (unfolded_list D list) out)
+    × (filled_of P D c list out ≡ filled_of P [] (plain_of D c) (unfolded_list D list) out))
+
+abbrev pub WithoutNames : Type 0
+WithoutNames =
+    ((D s : List ℕ) → Admitted D s → Plain (entries_of s) → Bytes s → plain_of D s ≡ s)
+    × ((P D s d : List ℕ) (m i n : ℕ) → dictionary_reading D ≡ Ok m → reading_of Description i d ≡ Ok n → fit_named P D s d ≡ fit_of P s d)
+    × ((P D d out : List ℕ) (m i n : ℕ) → dictionary_reading D ≡ Ok m → reading_of Description i d ≡ Ok n
+    → (normalise_named P D d out ≡ normalise_of P d out) × (normalised_named P D d out ≡ normalised_of P d out))
+    × ((P D c d out : List ℕ) (m i n j l : ℕ) → dictionary_reading D ≡ Ok m → reading_of Description i c ≡ Ok n → reading_of Description j d ≡ Ok l
+    → (compare_named P D c d out ≡ compare_of P c d out) × (output_named P D c d out ≡ output_of P c d out))
+
+-- ---- numbers
+
+abbrev pub SevenLast : Type 0
+SevenLast =
+    ((P D s d : List ℕ) → (fit.returned (fit_named P D s d)).number ≢ 7)
+    × ((P D d out : List ℕ) → ((normal.returned (normalise_named P D d out)).number ≡ 7)
+    ↔ (NoneApplies (pair_faults P) × AcceptedBy D d × (length out < length (plain_of D d))))
+    × ((P D c d out : List ℕ) → ((comparison.returned (compare_named P D c d out)).number ≡ 7)
+    ↔ (NoneApplies (pair_faults P) × AcceptedBy D c × AcceptedBy D d × (length out < length (plain_of D c) + length (plain_of D d))))
+
+abbrev pub YesAndNo : Type 0
+YesAndNo =
+    ((P D c d out : List ℕ) → compare_named P D c d out ≡ Ok None
+    → comparison.returned (compare_named P D c d out)
+    ≡ record { contained = some true; entry = 0; entries = 0; number = 0; input = 0; place = 0 })
+    × ((P D c d out : List ℕ) (j k : ℕ) → compare_named P D c d out ≡ not_contained j k
+    → comparison.returned (compare_named P D c d out)
+    ≡ record { contained = some false; entry = j; entries = k; number = 0; input = 0; place = 0 })
+    × ((P D c d out : List ℕ) (k : Cause) (i p : ℕ) → compare_named P D c d out ≡ refused k i p
+    → comparison.returned (compare_named P D c d out)
+    ≡ record { contained = none; entry = 0; entries = 0; number = number_of k; input = i; place = p })

@@ -1,0 +1,2 @@
+-- The laws, each by the name of the function whose contract it is.
+pub mod Laws
