@@ -4,11 +4,12 @@
 # SEED. make vectors: the vectors of crates/vectors and what the reference answers to them, made again. make bench: how long a run of
 # each program takes, and each call of the library beside plain Rust (docs/BENCHMARKS.md). make stack: the stack that each call of the
 # library takes. make gx: the tool that shows, writes, checks and explains descriptions. make page: its sample pages, looked at in
-# Chromium where that is installed.
-.PHONY: run lib test outside memory fuzz vectors bench stack gx page always
+# Chromium where that is installed. make install: gx with its manual page and completions, and the library with its header, below PREFIX.
+.PHONY: run lib test outside memory fuzz vectors bench stack gx page install installed lib-anew always
 
 CC = gcc
 CFLAGS = -O2 -Wall -Wextra -Werror -Iinclude
+PREFIX = /usr/local
 SECONDS = 600
 SEED = $(shell date +%s)
 VALGRIND = valgrind --quiet --error-exitcode=1
@@ -30,10 +31,30 @@ target/bin/%: always
 		{ echo "NOT PROVED. The end of target/$*.log:"; tail -n 40 ../../target/$*.log; exit 1; }
 	@cmp -s crates/$*/out/$* $@ || cp crates/$*/out/$* $@
 
+# The crates that the library needs, itself among them.
+LIBRARY = tac crates.txt | awk -F '[: ]+' '/^capi / { need[$$1] } $$1 in need { print "crates/" $$1; for (i = 2; i <= NF; i++) need[$$i] }'
+
+# target/staticlib/libcapi.from says of which sources, by which kit, and as which bytes the library was made: where all is as it was,
+# there is nothing to do.
+SOURCES = cat target/staticlib/libcapi.kit; { find $$($(LIBRARY)) -name out -prune -o -type f -print0 | sort -z | xargs -0 sha256sum; \
+	cat crates.txt; } | sha256sum
+MADE = sha256sum target/staticlib/libcapi.a 2>&1
+
+lib: SHELL := /bin/bash
 lib:
 	@mkdir -p target/staticlib
+	@rt version > target/staticlib/libcapi.kit.new
+	@cmp -s target/staticlib/libcapi.kit.new target/staticlib/libcapi.kit || cp target/staticlib/libcapi.kit.new target/staticlib/libcapi.kit
+	@rm target/staticlib/libcapi.kit.new
+	@{ $(SOURCES); $(MADE); } | cmp -s - target/staticlib/libcapi.from || $(MAKE) --no-print-directory lib-anew
+
+# The sources are told as they were before: what changes meanwhile is proved the next time.
+lib-anew:
+	@{ $(SOURCES); } > target/staticlib/libcapi.begun
 	cd crates/capi && rt lib
 	@cmp -s crates/capi/out/libcapi.a target/staticlib/libcapi.a || cp crates/capi/out/libcapi.a target/staticlib/libcapi.a
+	@{ cat target/staticlib/libcapi.begun; $(MADE); } > target/staticlib/libcapi.from
+	@rm target/staticlib/libcapi.begun
 
 always:
 
@@ -58,6 +79,7 @@ outside: lib gx target/bin/goltximen
 	cargo test --release --quiet --manifest-path rust/differential/Cargo.toml
 	cargo test --release --quiet --manifest-path rust/bench/Cargo.toml
 	cargo test --quiet --manifest-path rust/gx/Cargo.toml
+	$(MAKE) installed
 	$(MAKE) memory
 
 # The tests of the Rust side, and twenty seconds of drawn cases, with each use of memory watched.
@@ -86,6 +108,27 @@ stack: lib
 gx: lib
 	cargo build --release --quiet --manifest-path rust/gx/Cargo.toml --bin gx
 
-# target/page/small.html, large.html and what they are made of.
+# Into PREFIX, below DESTDIR where that is given.
+SHARE = $(DESTDIR)$(PREFIX)/share
+install: gx
+	install -Dm755 rust/gx/target/release/gx $(DESTDIR)$(PREFIX)/bin/gx
+	install -Dm644 rust/gx/gx.1 $(SHARE)/man/man1/gx.1
+	install -Dm644 include/goltximen.h $(DESTDIR)$(PREFIX)/include/goltximen.h
+	install -Dm644 target/staticlib/libcapi.a $(DESTDIR)$(PREFIX)/lib/libgoltximen.a
+	install -d $(DESTDIR)$(PREFIX)/lib/pkgconfig $(SHARE)/bash-completion/completions $(SHARE)/zsh/site-functions $(SHARE)/fish/vendor_completions.d
+	sed 's|@PREFIX@|$(PREFIX)|' rust/gx/goltximen.pc.in > $(DESTDIR)$(PREFIX)/lib/pkgconfig/goltximen.pc
+	rust/gx/target/release/gx completions bash > $(SHARE)/bash-completion/completions/gx
+	rust/gx/target/release/gx completions zsh > $(SHARE)/zsh/site-functions/_gx
+	rust/gx/target/release/gx completions fish > $(SHARE)/fish/vendor_completions.d/gx.fish
+	install -d $(SHARE)/doc/goltximen
+	install -m644 LICENSE LICENSE-MIT LICENSE-APACHE docs/FORMAT.md $(SHARE)/doc/goltximen
+
+# What make install puts where: a program is linked with it, gx answers, and its manual page and completions are read.
+installed: gx
+	rm -rf target/installed
+	$(MAKE) --no-print-directory install PREFIX=$(CURDIR)/target/installed > /dev/null
+	bash rust/gx/installed.sh target/installed
+
+# target/page/small.html, large.html, deep.html, a catalogue's table, and what they are made of.
 page: lib
 	bash rust/gx/page.sh
