@@ -1,18 +1,21 @@
 //! A text as entries.
 
 mod dictionary;
+mod mistakes;
 mod names;
 mod pairs;
-
-use std::collections::BTreeMap;
+mod rows;
+mod words;
 
 use super::lexer::{Lexer, Sign, Token};
 use super::mistake::{Mistake, Position};
 use crate::entry::{Entry, Sort};
 use crate::names::Names;
-use crate::suggest::meant;
 
 pub use dictionary::{parse_dictionary, ParsedDictionary, DICTIONARY};
+pub use mistakes::{mistakes, MOST_MISTAKES};
+use rows::numbered;
+
 pub use pairs::{parse_pairs, ParsedPairs, EXCLUDES, PAIRS};
 
 /// What a text says.
@@ -66,49 +69,6 @@ pub fn parse(text: &str, names: &Names) -> Result<Parsed, Mistake> {
         positions,
         words: parser.learnt,
     })
-}
-
-/// So many mistakes of a text are told.
-pub const MOST_MISTAKES: usize = 20;
-
-/// The mistakes of a text, where it has one: the first of each line, up to [`MOST_MISTAKES`].
-pub fn mistakes(text: &str, names: &Names) -> Vec<Mistake> {
-    let mut found = Vec::new();
-    let mut parser = Parser {
-        lexer: Lexer::new(text),
-        next: Token::line(),
-        names,
-        learnt: Names::default(),
-        rows: Vec::new(),
-        stop: None,
-        open: Vec::new(),
-        second: None,
-    };
-    let heading = parser.heading();
-    let headed = matches!(heading, Ok(Some(_)));
-    let mut read = heading.map(|_| false);
-    loop {
-        match read {
-            Ok(true) => break,
-            Ok(false) => (),
-            Err(mistake) => {
-                let last = parser.next.sign == Sign::End || parser.rows.len() == MOST_ENTRIES;
-                // The end of a text that has mistakes may lack a bracket for these alone.
-                if !last || found.is_empty() {
-                    found.push(mistake);
-                }
-                if last || found.len() == MOST_MISTAKES {
-                    return found;
-                }
-                parser.pass_mistake();
-            }
-        }
-        read = parser.next_entry(headed || !found.is_empty());
-    }
-    if found.is_empty() {
-        found.extend(numbered(&parser.rows).err());
-    }
-    found
 }
 
 /// An entry as it is written.
@@ -227,19 +187,6 @@ impl<'a> Parser<'a> {
             (Sign::End, true) => Ok(true),
             _ => self.entry_or_close().map(|()| false),
         }
-    }
-
-    /// Goes on at the next line after a mistake, in the places that the line opens.
-    fn pass_mistake(&mut self) {
-        if self.next.sign == Sign::Line {
-            return;
-        }
-        let at = self.next.at;
-        let before = usize::from(self.next.sign == Sign::Open);
-        let opened = self.lexer.skip_line(before);
-        let owner = self.rows.last().map_or(0, |row| row.number);
-        self.open.extend(vec![(owner, at); opened]);
-        self.next = Token::line();
     }
 
     /// An entry, or the bracket that closes the place that was opened last.
@@ -374,131 +321,4 @@ impl<'a> Parser<'a> {
         self.take()?;
         self.number(expected).map(Some)
     }
-
-    /// An entry that begins with this word.
-    fn in_words(&mut self, word: &str) -> Result<Entry, Mistake> {
-        let (kind, name, number) = match word {
-            "has" => (1, self.owned_property()?, 0),
-            "lacks" => (2, self.owned_property()?, 0),
-            "at" => return self.bound(),
-            "every" => {
-                self.take()?;
-                (5, self.link()?, 0)
-            }
-            "nothing" => {
-                self.take()?;
-                self.word("fits")?;
-                (6, 0, 0)
-            }
-            "named" => {
-                self.take()?;
-                (9, self.named_description()?, 0)
-            }
-            "group" => return self.group(),
-            "exactly" => return self.exactly(),
-            "no" | "some" => {
-                self.take()?;
-                let (kind, number) = if word == "no" { (4, 0) } else { (3, 1) };
-                (kind, self.link()?, number)
-            }
-            _ => {
-                let mistake = Mistake::new(self.next.at, AN_ENTRY, self.next.sign.named());
-                return Err(mistake.hinted(meant(word, BEGINNINGS)));
-            }
-        };
-        Ok(Entry {
-            kind,
-            name,
-            number,
-            ..Entry::default()
-        })
-    }
-
-    /// `at least n` or `at most n`, and the link.
-    fn bound(&mut self) -> Result<Entry, Mistake> {
-        self.take()?;
-        let kind = match (self.next_is_word("least"), self.next_is_word("most")) {
-            (true, _) => 3,
-            (_, true) => 4,
-            _ => return self.expected("'least' or 'most'"),
-        };
-        self.take()?;
-        let number = self.number("a number from 0 to 65,535")?;
-        Ok(Entry {
-            kind,
-            name: self.link()?,
-            number,
-            ..Entry::default()
-        })
-    }
-
-    /// `exactly n`, and the link: at least n, and then at most n.
-    fn exactly(&mut self) -> Result<Entry, Mistake> {
-        self.take()?;
-        let number = self.number("a number from 0 to 65,535")?;
-        let least = Entry {
-            kind: 3,
-            name: self.link()?,
-            number,
-            ..Entry::default()
-        };
-        self.second = Some(Entry { kind: 4, ..least });
-        Ok(least)
-    }
-
-    /// `group of n`, and the link. The count is one more than the number that is stored.
-    fn group(&mut self) -> Result<Entry, Mistake> {
-        self.take()?;
-        self.word("of")?;
-        let count = match &self.next.sign {
-            Sign::Number(digits) => digits.parse::<u32>().ok(),
-            _ => None,
-        };
-        let stored = count.and_then(|count| u16::try_from(count.checked_sub(1)?).ok());
-        let Some(number) = stored else {
-            return self.expected("a count from 1 to 65,536");
-        };
-        self.take()?;
-        Ok(Entry {
-            kind: 7,
-            name: self.link()?,
-            number,
-            ..Entry::default()
-        })
-    }
-}
-
-/// The entries in the order of their numbers, each number once and none missing.
-fn numbered(rows: &[Row]) -> Result<(Vec<Entry>, Vec<Position>), Mistake> {
-    let mut by_number = BTreeMap::new();
-    for row in rows {
-        if let Some(earlier) = by_number.insert(row.number, row) {
-            let expected = format!(
-                "a number that is free: entry {} is that of line {}",
-                row.number, earlier.at.line
-            );
-            return Err(Mistake::new(
-                row.at,
-                expected,
-                format!("entry {} again", row.number),
-            ));
-        }
-    }
-    let gap = (1..)
-        .zip(by_number.values())
-        .find(|(due, row)| *due != row.number);
-    if let Some((due, row)) = gap {
-        let expected = format!("an entry {due} somewhere in the text");
-        return Err(Mistake::new(
-            row.at,
-            expected,
-            format!("entry {} as the next", row.number),
-        ));
-    }
-    let entry = |row: &&Row| Entry {
-        owner: (row.owner & 0xffff) as u16,
-        ..row.entry
-    };
-    let entries = by_number.values().map(entry).collect();
-    Ok((entries, by_number.values().map(|row| row.at).collect()))
 }

@@ -1,6 +1,7 @@
 //! A text as a dictionary.
 
-use super::{numbered, Mistake, Parser, Sign};
+use super::rows::numbered;
+use super::{Mistake, Parser, Sign};
 use crate::dictionary::Part;
 use crate::names::Names;
 
