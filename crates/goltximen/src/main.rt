@@ -9,7 +9,8 @@ use std::io;
 fn main(rt: HostRuntime) -> io::Result<()> {
     let mut input = report::input_buffer();
     let mut blocks = report::input_buffer();
-    let length = streams::read_until_failure(&mut rt.reader(), &mut input);
+    // That a read failed is told here, and let go.
+    let (length, _) = streams::read_until_failure(&mut rt.reader(), &mut input);
     let answer = report::compare_parts(&input[..length], &mut blocks);
     let mut line = [0u8; LINE_BYTES];
     for n in 0..=report::specimen_lines(answer) {

@@ -34,6 +34,8 @@ fn failure_is_returned(rt: HostRuntime) -> Result<(), Fail> {
 #[test]
 fn failure_is_the_end(rt: HostRuntime) {
     let mut buffer = [0u8; 4];
-    assert_eq!(rt; read_until_failure(&mut Failing(3), &mut buffer), 3);
+    let (length, outcome) = read_until_failure(&mut Failing(3), &mut buffer);
+    assert_eq!(rt; length, 3);
+    assert!(rt; outcome.is_err());
     assert_eq!(rt; buffer, [3, 2, 1, 0]);
 }

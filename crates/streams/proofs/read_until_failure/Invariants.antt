@@ -1,7 +1,7 @@
--- `fill` ends: the number of bytes read grows up to the buffer's length. Those that stand at its start are those that the reader gave.
+-- `read_until_failure` ends: the number of bytes read grows up to the buffer's length. Those that stand at its start are those that the reader gave.
 use Rattle.std.proofs.Common.{◌≡◌, length, ◌-◌, ◌≤◌, take}
 use Rattle.std.specs.Io.KnownBytes.{Consumes}
-use Rattle.streams.proofs.fill.Given as goal
+use Rattle.streams.proofs.read_until_failure.Given as goal
 
 abbrev pub invariant-loop-done : goal.invariant-loop-done
 invariant-loop-done g l = (length l.buffer ≡ length l.initial.buffer) × (l.done ≤ length l.buffer)
