@@ -37,6 +37,3 @@ pub fn read_full<R: Read>(reader: &mut R, buffer: &mut [u8]) -> io::Result<usize
     outcome?;
     Ok(length)
 }
-
-#[cfg(test)]
-mod tests;
