@@ -14,7 +14,6 @@ impl<const BUCKETS: usize> Slots<'_, BUCKETS> {
         requires { place < 1024 }
         ensures { result ≡ has_at (slots_in self.entry.table.now self.entry.used) place q.0 }
     {
-        // `is_some_and` says the same; the match has no closure to prove.
         match self.search(property_key(place, q)) {
             Some(s) => low_in(self.table[s]) != 0,
             None => false,

@@ -29,7 +29,7 @@ fn answer_of(failing: Option<usize>, used: usize) -> Option<Unheld>
 
 // A description that others are judged by, under a list of pairs: its settled slots, and whether nothing fits it. That the list is ruled is kept
 // here, and up to here a clause: it is known of bytes once they are read, and `Exclusions`, of another crate, indexes any list.
-// `impossible` stands beside the slots, which are no Option: a description that nothing fits has slots as well.
+// `impossible` stands beside the slots: a description that nothing fits has slots as well.
 #[derive(Clone, Copy)]
 pub(crate) struct Supplier<'a, const BUCKETS: usize> {
     pub exclusions: Exclusions<'a>,

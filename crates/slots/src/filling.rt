@@ -11,8 +11,7 @@ use crate::settle::settle;
 use blocks::{Cause, Refusal, Schema};
 use pairs::{Exclusions, INDEX_BYTES};
 
-// The slots of a description with `total` entries, settled, with the chains that find them; returns their number. Here and below each table is a
-// parameter, and no field: the passes are lent some to read and others to write at once, of which a struct of `&mut` slices gives no proof.
+// The slots of a description with `total` entries, settled, with the chains that find them; returns their number.
 pub(crate) fn chained_slots<const BUCKETS: usize>(
     exclusions: Exclusions<'_>,
     d: &[u8],

@@ -6,8 +6,7 @@
 // The slots stand in a table that the caller lends, who can go on from them. All other tables are slices too, made in three sizes, for
 // as many entries as a block has, as four have, and for any number, so that a short call clears no large ones.
 //
-// The three calls begin alike: the list of pairs is read, and indexed. What comes then has another type in each, and a function that is handed
-// it as a closure would be longer than the three lines that it saves.
+// The three calls begin alike: the list of pairs is read, and indexed.
 //
 // The contracts cite specs/: Holding and Catalogue say what is answered; the others mirror the code. What slots are, on lists, is said in `passes`.
 #![tactic(auto)]

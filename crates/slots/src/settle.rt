@@ -44,8 +44,7 @@ fn asks(link: bool, lo: u64, hi: u64, full: u8) -> bool
     (lo != 0) | ((hi < NO_BOUND) | (link & (full != 0)))
 }
 
-// Marks place v where the test holds. The mark is stored either way, for the same reason. A mark is a byte, 1 or 0, and no bool: the tables of both marks
-// stand in the signature of `fill`, whose promise is of these bytes.
+// Marks place v where the test holds. The mark is stored either way, for the same reason. A mark is a byte, 1 or 0.
 fn mark(marks: &mut [u8], v: usize, test: bool)
     requires { (v < length marks.old) × (get_or marks.old v 0 ≤ 1) }
     ensures { marks.new ≡ cond test (set marks.old v 1) marks.old }
@@ -53,7 +52,7 @@ fn mark(marks: &mut [u8], v: usize, test: bool)
     marks[v] |= u8::from(test);
 }
 
-// Settles slot s, where the slots above it are settled. The two marks stay apart from the slots: each is a table that the caller lends for itself.
+// Settles slot s, where the slots above it are settled.
 fn settle_slot(table: &mut [u64], bad: &mut [u8], full: &mut [u8], s: usize)
     requires { (s < length table.old) × (s < length bad.old) × (s < length full.old) × (key_in (get_or table.old s 0) / 131072 < s)
         × ((v : ℕ) → get_or bad.old v 0 ≤ 1) × ((v : ℕ) → get_or full.old v 0 ≤ 1) }

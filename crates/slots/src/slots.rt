@@ -7,8 +7,7 @@ ghost use Rattle.slots.specs.code.Tables.{key_in, low_part, high_part, slot_numb
 
 use blocks::{Entry, Link, Property, kinds};
 
-// The upper bound that stands for none: no bound of an entry is as large. It stays a number, since a slot is one number of 64 bits, in which an
-// Option would have to be packed as this one.
+// The upper bound that stands for none: no bound of an entry is as large.
 pub(crate) const NO_BOUND: u64 = 65536;
 
 // The key of a slot.
@@ -55,7 +54,7 @@ fn bucket<const BUCKETS: usize>(key: u64) -> usize
 }
 
 // The slots that stand in lent tables, numbered from 1 on, with the chains that find them by their keys. In `head` and `next` the number 0, which no
-// slot has, ends a chain: an Option would double both tables, which are cleared for each description.
+// slot has, ends a chain.
 #[derive(Clone, Copy)]
 pub(crate) struct Slots<'a, const BUCKETS: usize> {
     pub table: &'a [u64],
@@ -74,7 +73,6 @@ impl<const BUCKETS: usize> Slots<'_, BUCKETS> {
     {
         let b = bucket::<BUCKETS>(key);
         let mut s = usize::from(self.head[b]);
-        // The one walk along a chain: an iterator for it would say the same in three places.
         while s != 0 {
             if key_in(self.table[s]) == key {
                 return Some(s);
@@ -117,8 +115,7 @@ fn append<const BUCKETS: usize>(
     head[b] = new as u16;
 }
 
-// The key of a property at a place. Properties and links are numbered apart: only their types say which key a name gets. A place stays a number, here
-// and below, with a clause that says how large it is: it is packed into a key, divided out of one, and kept in tables of 16 bits.
+// The key of a property at a place. Properties and links are numbered apart: only their types say which key a name gets.
 #[tactic(auto, unfolding(passes::specs::code::Keys::key_number))]
 pub(crate) fn property_key(place: u64, p: Property) -> u64
     requires { place < 1024 }
@@ -159,8 +156,7 @@ pub(crate) fn entry_key(place: u64, e: Entry) -> u64
     }
 }
 
-// Enters an entry: the slot of its key, found or made, gets the entry's bounds too. Returns the slot's number. What builds the table takes its
-// parts, and no Slots: they are written one by one, and the search in between lends them all for reading.
+// Enters an entry: the slot of its key, found or made, gets the entry's bounds too. Returns the slot's number.
 pub(crate) fn enter<const BUCKETS: usize>(
     table: &mut [u64],
     next: &mut [u16],

@@ -18,7 +18,7 @@ use blocks::{Entry, entries_in_order, kinds};
 use pairs::Exclusions;
 
 // Two states that are no place of the normal form: below NOWHERE nothing stands, and after PASSED, an at most 0, all holds. A slot has
-// neither number. They stay numbers and no enum, since a state is looked up as a place: there is no slot at NOWHERE, which needs no test.
+// neither number. A state is looked up as a place: there is no slot at NOWHERE, which needs no test.
 pub const NOWHERE: u16 = 1023;
 
 const PASSED: u16 = 1024;
@@ -76,7 +76,7 @@ fn supported(kind: u8, number: u16, x: u64) -> bool
     needed(kind) & given(number, x) != 0
 }
 
-// Whether every record has at most so many of a link: "at most 1 or more is always met" of a link from 32,768 up.
+// Whether every record has at most so many of a link: of one from 32,768 up, at most 1 or more.
 fn always(link: u16, number: u16) -> bool
     ensures { result ≡ at_most number (standing.cap link) }
 {
