@@ -1,41 +1,47 @@
-// The laws: what holds of the calls for every input, said of their definitions alone. Each is the contract of a function with no parameters and
-// an empty body: it costs nothing to call, and it is proved where this crate is checked, for all bytes, records and lengths at once. There is
-// no code in which one could go wrong, so no wrong program belongs here; those are in the crates with the calls.
+// The laws: what holds of the calls for every input, said of their definitions alone. Each is the contract of a
+// function with no parameters and an empty body: it costs nothing to call, and it is proved where this crate is
+// checked, for all bytes, records and lengths at once. There is no code in which one could go wrong, so no wrong
+// program belongs here; those are in the crates with the calls.
 //
-// This is the first file to open. What a single call promises stands on its contract, in `capi`; these laws say how answers hang together. Each
-// has its statement, under the name of the function, in specs/Laws, over bytes: P is a list of pairs, D and E are dictionaries, c and d
-// descriptions, s a specimen, and out an output before the call.
+// This is the first file to open. What a single call promises stands on its contract, in `capi`; these laws say how
+// answers hang together. Each has its statement, under the name of the function, in specs/Laws, over bytes: P is a
+// list of pairs, D and E are dictionaries, c and d descriptions, s a specimen, and out an output before the call.
 #![tactic(auto)]
 
-ghost use Rattle.laws.specs.Laws.{BytesAndEntries, ContainedFits, DeskExamples, EmptyListAsBefore, ExchangeRefused, ExchangeOtherwise, OneSetOfBytes, RulesLeaveNothingOut, SameBytesExactly, SameBytesContained, SevenLast, WithoutNames, WrittenIsAccepted, YesAndNo, AsUnfolded};
+ghost use Rattle.laws.specs.Laws.{BytesAndEntries, ExchangeOtherwise, ExchangeRefused, WrittenIsAccepted};
+ghost use Rattle.laws.specs.Laws.{DeskExamples, RulesLeaveNothingOut, SevenLast, YesAndNo};
+ghost use Rattle.laws.specs.Laws.{AsUnfolded, ContainedFits, EmptyListAsBefore, WithoutNames};
+ghost use Rattle.laws.specs.Laws.{OneSetOfBytes, SameBytesContained, SameBytesExactly};
 
-// What is written is read back, an accepted input is what its entries are written as, and every list of entries that no line refuses is
-// accepted once written: nothing else is refused.
+// What is written is read back, an accepted input is what its entries are written as, and every list of entries that
+// no line refuses is accepted once written: nothing else is refused.
 pub fn bytes_and_entries()
     ensures one_to_one { BytesAndEntries }
     ensures accepted { WrittenIsAccepted }
 {}
 
-// Two used entries of one block exchanged, p entries apart: the input is refused as 2 exactly where p times the difference of their word sums is
-// no multiple of 16,384, and else not as 1, 2 or 3.
+// Two used entries of one block exchanged, p entries apart: the input is refused as 2 exactly where p times the
+// difference of their word sums is no multiple of 16,384, and else not as 1, 2 or 3.
 pub fn exchanged_entries()
     ensures refused { ExchangeRefused }
     ensures otherwise { ExchangeOtherwise }
 {}
 
-// The starred examples of the desk, all of them: answers, normal forms and every byte of the output; and their specimens fit the one description and
-// not the other.
+// The starred examples of the desk, all of them: answers, normal forms and every byte of the output; and their
+// specimens fit the one description and not the other.
 pub fn desk_examples()
     ensures { DeskExamples }
 {}
 
-// An accepted description whose entries ascend, and to which no rule applies, is its own normal form: the rules leave nothing out.
+// An accepted description whose entries ascend, and to which no rule applies, is its own normal form: the rules leave
+// nothing out.
 pub fn rules_leave_nothing_out()
     ensures { RulesLeaveNothingOut }
 {}
 
-// One meaning, one set of bytes: two accepted descriptions, each under its dictionary, have equal normal forms exactly where the same items fit both
-// in every finite record that keeps the list; and under one dictionary exactly where each is contained in the other.
+// One meaning, one set of bytes: two accepted descriptions, each under its dictionary, have equal normal forms exactly
+// where the same items fit both in every finite record that keeps the list; and under one dictionary exactly where
+// each is contained in the other.
 pub fn one_set_of_bytes()
     ensures exactly { SameBytesExactly }
     ensures accepted { OneSetOfBytes }
@@ -62,7 +68,8 @@ pub fn without_names()
     ensures { WithoutNames }
 {}
 
-// 7 comes last: exactly where all inputs are accepted and the output is shorter than the call asks for. The fit answer never gives it.
+// 7 comes last: exactly where all inputs are accepted and the output is shorter than the call asks for. The fit answer
+// never gives it.
 pub fn seven_last()
     ensures { SevenLast }
 {}
