@@ -2,6 +2,7 @@
 // table of totals adds each group once, and the walk over entries none.
 #![tactic(auto)]
 
+use blocks::sizes::{BLOCK, ENTRIES};
 use blocks::{Entry, kinds};
 use std::io;
 
@@ -48,7 +49,7 @@ fn show(rt: &impl Print, groups: Groups, count: usize) -> io::Result<()> {
     }
     let mut specimen = [0u8; 16384];
     let n = writing::write_entries(&mut specimen, &rows, count);
-    let mut description = [0u8; 512];
+    let mut description = [0u8; BLOCK];
     let m = writing::write_entries(
         &mut description,
         &[row(kinds::EVERY, 0, 1), row(kinds::AT_MOST, 1, 1)],
@@ -67,8 +68,8 @@ fn show(rt: &impl Print, groups: Groups, count: usize) -> io::Result<()> {
 fn main(rt: HostRuntime) -> io::Result<()> {
     show(&rt, Groups::Alike, 0)?;
     show(&rt, Groups::Alike, 1)?;
-    show(&rt, Groups::Alike, 63)?;
-    show(&rt, Groups::Alike, 64)?;
+    show(&rt, Groups::Alike, ENTRIES)?;
+    show(&rt, Groups::Alike, ENTRIES + 1)?;
     show(&rt, Groups::Alike, 255)?;
     show(&rt, Groups::Alike, 256)?;
     show(&rt, Groups::Alike, 2016)?;

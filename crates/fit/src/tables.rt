@@ -62,7 +62,8 @@ fn judge_sized<const MOST: usize, const LINKS: usize>(
     }
 }
 
-// Judges the top item, with tables of a size that is enough for the longer input.
+// Judges the top item, with tables of a size that is enough for the longer input. Its numbers are powers of two and
+// twice these, as `judge_sized` has them: 512 is twice 256 here, and has nothing to do with a block.
 pub(crate) fn judge_top(s: &[u8], n: usize, d: &[u8], m: usize) -> Judged
     requires { (reading_of Schema.Specimen 1 s.now ≡ Ok n) × (reading_of Schema.Description 2 d.now ≡ Ok m) }
     ensures { (result.fits ≡ top_fits s.now d.now) × (result.table ≡ groups_in s.now) × (result.walk ≡ 0) }

@@ -3,12 +3,13 @@
 #![tactic(auto)]
 
 use blocks::Entry;
+use blocks::sizes::BLOCK;
 use std::io;
 
 // Prints what normalising a description answers, and the entries that it wrote, a line each. No `Display` is plainer: the answer has only their
 // number, and they stand in the output beside it.
 fn print_normal(rt: &impl Print, description: &[u8]) -> io::Result<()> {
-    let mut out = [0u8; 512];
+    let mut out = [0u8; BLOCK];
     match normal::normalise(&[], description, &mut out) {
         Ok(entries) => {
             println!(rt; "normal form of {entries} entries")?;
@@ -23,9 +24,9 @@ fn print_normal(rt: &impl Print, description: &[u8]) -> io::Result<()> {
 }
 
 fn main(rt: HostRuntime) -> io::Result<()> {
-    let mut block = [0u8; 512];
+    let mut block = [0u8; BLOCK];
     for _ in 0..8 {
-        if streams::read_full(&mut rt.reader(), &mut block)? == 512 {
+        if streams::read_full(&mut rt.reader(), &mut block)? == BLOCK {
             print_normal(&rt, &block)?;
         }
     }

@@ -6,8 +6,8 @@ use blocks::Refusal;
 use compare::NotContained;
 use fit::Counted;
 
-// Four fields as one number: bits 0 to 7, 8 to 15, 16 to 31, and 32 to 63. What is answered and refused is told by numbers here alone,
-// since C reads them.
+// Four fields as one number: bits 0 to 7, 8 to 15, 16 to 31, and those from 32 up. What is answered and refused is told
+// by numbers here alone, since C reads them.
 fn pack(answer: u8, number: u8, first: u16, second: u16) -> u64
     ensures { result ≡ packed answer number first second }
 {

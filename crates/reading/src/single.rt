@@ -18,12 +18,13 @@ use crate::rules::first_rule_fault;
 use blocks::{Cause, Entry, Refusal, Schema, entries_in_order, kinds};
 use firsts::Firsts;
 
-// Whether an entry is a group by a link that leads to one item only. The name's highest bit and the kind make one number, so that one comparison
-// tells, which is guessed right: the compiler would test the kind first, and entries come in any order of kinds.
+// Whether an entry is a group by a link that leads to one item only. The link's bit and the kind make one number, so that
+// one comparison tells, which is guessed right: the compiler would test the kind first, and entries come in any order of
+// kinds.
 fn single_group(e: Entry) -> bool
     ensures { result ≡ single_group e }
 {
-    256 * (u32::from(e.name) / 32768) + u32::from(e.kind) == 256 + u32::from(kinds::GROUP)
+    256 * u32::from(e.link().is_single()) + u32::from(e.kind) == 256 + u32::from(kinds::GROUP)
 }
 
 // An owner and a link as one number, the key of a group.
@@ -117,7 +118,7 @@ pub(crate) fn check_entries(
     total: usize,
     input: u16,
 ) -> Result<(), Refusal>
-    requires { (total ≡ length (entries_of s.now)) × (total ≤ 2016) × (512 * ((total + 62) / 63) ≤ length s.now) }
+    requires { (total ≡ length (entries_of s.now)) × (total ≤ 2016) × Whole s.now total }
     ensures { result ≡ answer input tt (first (entry_faults schema (entries_of s.now) 1 total)) }
 {
     match schema {

@@ -1,11 +1,12 @@
-// The pass between the first and the second, under what every record keeps: a link from 32,768 up leads to one item at most, and no item has
-// both properties of a pair.
-ghost use Rattle.std.specs.Prelude.{◌≡◌, ◌&&◌, ◌%◌, ◌/◌, ◌<◌, ◌≤◌, eqb, ltb, get_or};
+// The pass between the first and the second, under what every record keeps: a single link leads to one item at most, and
+// no item has both properties of a pair.
+ghost use Rattle.std.specs.Prelude.{◌≡◌, ◌+◌, ◌&&◌, ◌%◌, ◌/◌, ◌<◌, ◌≤◌, eqb, ltb, get_or};
 ghost use Rattle.pairs.specs.code.Index.{bucket_of};
 ghost use Rattle.slots.specs.code.Tables.{Kept, Placed, Restricted, excluded_high, excluded_slot, key_in, link_word, no_bound, property_word, restricted_word, single_high};
 
 use crate::slots::{NO_BOUND, Slots, high_in, key_in, low_in, make_slot};
 use blocks::Property;
+use blocks::sizes::FIRST_SINGLE;
 use pairs::Exclusions;
 
 // The upper bound of such a link: 0, so that nothing meets the slot, where more than one are asked for; none where one or more are
@@ -36,11 +37,19 @@ fn restricted_property(x: u64, out: bool) -> u64
     make_slot(key_in(x), low_in(x), excluded_high(low_in(x)))
 }
 
-// The slot of a link under the rule. A key modulo 131,072 is 65,536 for a link, and the name.
+// Whether a key is that of a property, or of a link to any number of items: a key modulo 131,072 is a property's name,
+// or 65,536 and a link's.
+fn below_single(key: u64) -> bool
+    ensures { result ≡ ltb (key % 131072) (65536 + FIRST_SINGLE) }
+{
+    key % 131072 < 65536 + u64::from(FIRST_SINGLE)
+}
+
+// The slot of a link under the rule.
 fn restricted_link(x: u64) -> u64
     ensures { result ≡ link_word x }
 {
-    if key_in(x) % 131072 < 98304 {
+    if below_single(key_in(x)) {
         return x;
     }
     make_slot(key_in(x), low_in(x), single_high(low_in(x), high_in(x)))
@@ -53,12 +62,12 @@ fn of_property(x: u64) -> bool
     key_in(x) % 131072 < 65536
 }
 
-// Whether a slot of this key stays as it is whatever the others are: no pair has a property of its bucket, and it is not that of a link from
-// 32,768 up. Most slots stay, of either class, so that the jump by class, which nothing foretells, is for the few others.
+// Whether a slot of this key stays as it is whatever the others are: no pair has a property of its bucket, and it is not that of a
+// single link. Most slots stay, of either class, so that the jump by class, which nothing foretells, is for the few others.
 fn stays(exclusions: Exclusions<'_>, key: u64) -> bool
-    ensures { result ≡ (eqb (get_or exclusions.entry.index.now (bucket_of (key % 65536)) 0) 0 && ltb (key % 131072) 98304) }
+    ensures { result ≡ (eqb (get_or exclusions.entry.index.now (bucket_of (key % 65536)) 0) 0 && ltb (key % 131072) (65536 + FIRST_SINGLE)) }
 {
-    exclusions.none_with(Property((key % 65536) as u16)) && key % 131072 < 98304
+    exclusions.none_with(Property((key % 65536) as u16)) && below_single(key)
 }
 
 // A slot under the rule: a link's by its name, a property's by whether it is excluded.

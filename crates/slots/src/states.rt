@@ -14,7 +14,7 @@ ghost use Rattle.slots.specs.code.States.{beside_bounds, bounds_support, entry_s
 ghost use Rattle.slots.specs.code.Tables.{Readable, high_in, high_part, low_part, no_bound, slots_in};
 
 use crate::slots::{NO_BOUND, Slots, entry_key, high_in, low_in};
-use blocks::{Entry, entries_in_order, kinds};
+use blocks::{Entry, Link, entries_in_order, kinds};
 use pairs::Exclusions;
 
 // Two states that are no place of the normal form: below NOWHERE nothing stands, and after PASSED, an at most 0, all holds. A slot has
@@ -76,11 +76,11 @@ fn supported(kind: u8, number: u16, x: u64) -> bool
     needed(kind) & given(number, x) != 0
 }
 
-// Whether every record has at most so many of a link: of one from 32,768 up, at most 1 or more.
-fn always(link: u16, number: u16) -> bool
-    ensures { result ≡ at_most number (standing.cap link) }
+// Whether every record has at most so many of a link: of one that leads to one item only, at most 1 or more.
+fn always(link: Link, number: u16) -> bool
+    ensures { result ≡ at_most number (standing.cap link.0) }
 {
-    32768 <= link && 1 <= number
+    link.is_single() && 1 <= number
 }
 
 // The state below an entry of this slot, if it is an 'every', whose link has at most `hi` there.
@@ -120,7 +120,7 @@ impl<const BUCKETS: usize> Slots<'_, BUCKETS> {
         let kind = e.kind;
         match kind {
             kinds::LACKS => self.excluded(exclusions, place, e.property()),
-            kinds::AT_MOST => always(e.name, e.number),
+            kinds::AT_MOST => always(e.link(), e.number),
             _ => false,
         }
     }

@@ -124,11 +124,11 @@ word-stays x o q =
     bool_cases (ltb (key_in x % 131072) 65536) (λ r. rw (restricted_word, r, o)) (λ r. rw (restricted_word, r, q))
 
 -- a slot of a single link, made anew
-pub link-made : (x : ℕ) {k k' lo lo' hi r y : ℕ} → k ≡ key_in x → 98304 ≤ k % 131072 → k' ≡ key_in x → lo ≡ low_part x → lo' ≡ low_part x
+pub link-made : (x : ℕ) {k k' lo lo' hi r y : ℕ} → k ≡ key_in x → ltb (k % 131072) 98304 ≡ false → k' ≡ key_in x → lo ≡ low_part x → lo' ≡ low_part x
     → hi ≡ high_part x → y ≡ single_high lo' hi → r ≡ slot_number k' lo y → r ≡ link_word x
 unfolding link_word
 link-made x e h f g g' i j l =
-    let test : ltb (key_in x % 131072) 98304 ≡ false = rw (← e) (ge-ltb h) in
+    let test : ltb (key_in x % 131072) 98304 ≡ false = rw (← e) h in
     rw test (l ∙ rw (f, g, j, g', i))
 
 -- one of a property that is excluded

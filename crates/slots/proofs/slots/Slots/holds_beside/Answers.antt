@@ -1,6 +1,8 @@
 -- `holds_beside` meets its contract, kind by kind.
 use mathlib.Core.Path.{◌∙◌, ap}
 use Rattle.base.proofs.Tests.{ne_eqb}
+use Rattle.logic.specs.Background.{standing}
+use Rattle.logic.specs.Normal.{at_most}
 use Rattle.passes.specs.code.Restrict.{excluded_at}
 use Rattle.slots.specs.code.States.{beside_bounds}
 use Rattle.slots.proofs.slots.Slots.holds_beside.Goals as goal
@@ -11,7 +13,7 @@ returns-in-2 g c = rw (beside_bounds, c.in-2.is) (c.excluded.ensures ∙ ap (exc
 
 pub returns-in-4 : goal.returns-in-4
 unfolding beside_bounds
-returns-in-4 g c = rw (beside_bounds, c.in-4.is) c.always.ensures
+returns-in-4 g c = rw (beside_bounds, c.in-4.is) (c.always.ensures ∙ ap (λ l. at_most c.args.e.number (standing.cap l)) c.link.ensures)
 
 pub returns-in_default : goal.returns-in_default
 unfolding beside_bounds
