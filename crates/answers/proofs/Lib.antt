@@ -34,3 +34,5 @@ pub mod CatalogueOrder
 pub mod CatalogueFilled
 -- and that it answers as for the unfolded inputs.
 pub mod CatalogueUnfolded
+-- Ranking a list of services refuses exactly by the first row that applies, and each byte of its table is the single comparison's.
+pub mod RankingKept

@@ -4,3 +4,5 @@ pub mod Promise
 pub mod Refusals
 -- What the contracts of the exported calls say beside their equations.
 pub mod Calls
+-- Ranking a list of services: by which row it is refused, and what its bytes say.
+pub mod Ranking

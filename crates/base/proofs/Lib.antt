@@ -24,6 +24,8 @@ pub mod Multiples
 pub mod SearchLaws
 -- Laws of stores in a row.
 pub mod StoresLaws
+-- Rows of a table: stored in turn, and what stands in a cell.
+pub mod RowsLaws
 -- Sorting a list, and why it does not matter how.
 pub mod AscendingLaws
 -- The laws of chains.

@@ -1,4 +1,4 @@
-// The library's calls for C and Rust: eleven functions under their plain names, each slice a pointer and a length. Each answers what the
+// The library's calls for C and Rust: twelve functions under their plain names, each slice a pointer and a length. Each answers what the
 // call that it wraps answers, as one number of 64 bits; include/goltximen.h states the terms for a C program.
 //
 // Each contract has an equation, clause `answer`: the number and every byte of the output, by the definitions of the call and by Packing of
@@ -12,12 +12,14 @@
 ghost use Rattle.std.specs.Prelude.{◌≡◌, ℕ, [], Ok};
 ghost use Rattle.answers.specs.Calls.{CountsPlainly, DecidedPlainly, FitsPlainly, NormalisesPlainly, NothingWritten, ReadExactly, RefusedExactly, Unfolds};
 ghost use Rattle.answers.specs.Promise.{ComparableNamed, DecidedNamed, Fills, FitsNamedExactly, JudgeableNamed, NormalisesNamed};
+ghost use Rattle.answers.specs.Ranking.{HierarchyRefused, Ranks};
 ghost use Rattle.answers.specs.Refusals.{CatalogueRefused, ComparisonRefused, FitRefused, NormalRefused, UnfoldRefused};
 ghost use Rattle.blocks.specs.Reading.{reading_of};
 ghost use Rattle.blocks.specs.declared.Schema.{Schema};
 ghost use Rattle.catalogue.specs.Answer.{catalogue_of, filled_of};
 ghost use Rattle.compare.specs.Promise.{Comparable};
 ghost use Rattle.fit.specs.Promise.{Judgeable};
+ghost use Rattle.hierarchy.specs.Answer.{hierarchy_of, ranked_of};
 ghost use Rattle.named.specs.Answer.{compare_named, counted_named, fit_named, normalise_named, normalised_named, output_named};
 ghost use Rattle.packing.specs.Packing.{pack_comparison, pack_counted, pack_fit, pack_reading};
 ghost use Rattle.pairs.specs.Promise.{ListRead};
@@ -163,4 +165,19 @@ pub extern "C" fn gx_catalogue(
         → Fills pairs.now dict.now c.now list.now out.old n }
 {
     pack_reading(catalogue::catalogue(pairs, dict, c, list, out))
+}
+
+// ---- under a list of pairs alone
+
+// Ranks the services of a list laid end to end: writes, for n services, n rows of n bytes, 1 where the service of the row is contained in that of
+// the column, else 0; n rows of n bytes more, 1 where that of the column is a direct superior of that of the row; and the class of each, the
+// lowest position, from 1, of those that contain it and are contained in it. The number of bytes written, or the refusal.
+#[unsafe(no_mangle)]
+pub extern "C" fn gx_hierarchy(pairs: &[u8], list: &[u8], out: &mut [u8]) -> u64
+    ensures answer { (result ≡ pack_reading (hierarchy_of pairs.now list.now out.old)) × (out.new ≡ ranked_of pairs.now list.now out.old) }
+    ensures refuses { RefusedExactly (hierarchy_of pairs.now list.now out.old) (HierarchyRefused pairs.now list.now out.old) }
+    ensures keeps { NothingWritten (hierarchy_of pairs.now list.now out.old) (ranked_of pairs.now list.now out.old) out.old }
+    ensures means { (n : ℕ) → hierarchy_of pairs.now list.now out.old ≡ Ok n → Ranks pairs.now list.now out.old n }
+{
+    pack_reading(hierarchy::hierarchy(pairs, list, out))
 }

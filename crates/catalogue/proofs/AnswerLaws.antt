@@ -19,6 +19,7 @@ use Rattle.catalogue.specs.Answer.{answers_of, catalogue_of, filled_of}
 use Rattle.lists.specs.Parts.{parts_of}
 use Rattle.names.specs.NamedReading.{dictionary_of, named_unfolding, sent_of, unfolding_of}
 use Rattle.pairs.specs.Pairs.{pairs_reading}
+use Rattle.slots.proofs.CutLaws.{cut-taken}
 use Rattle.slots.specs.Catalogue.{answers_after, bits_before, cut_reading, list_bits, list_reading, listed_bits, listed_reading, service_bit, services_reading}
 use Rattle.blocks.specs.declared.Refusal.{Refusal}
 use Rattle.blocks.specs.declared.Cause.TheVariants.{Count, Length, Room}
@@ -50,19 +51,6 @@ pub record Taken (P D c list : List ℕ) (n : ℕ) : Type 0 where
 goes : {X : Type 0} (r a : Reading) {n : ℕ} → unless_refused Err r a ≡ Ok n → ((m : ℕ) → r ≡ Ok m → a ≡ Ok n → X) → X
 goes (Err x) a e f = cc
 goes (Ok m) a e f = f m refl e
-
-cut-taken : (list : List ℕ) {n : ℕ} → cut_reading list ≡ Ok n → (n ≡ length (parts_of list)) × (n ≤ 64)
-unfolding cut_reading
-cut-taken list {n} e =
-    bool_cases (eqb (length list) 0 || not (eqb (length list % 512) 0))
-    (λ q. let z : refused Length 2 0 ≡ Ok n = rw q at e in cc)
-    (λ q. bool_cases (ltb 64 (length (parts_of list)))
-    (λ w. let z : refused Count 2 0 ≡ Ok n = rw (q, w) at e in cc)
-    (λ w.
-    let z : Ok (length (parts_of list)) ≡ Ok n = rw (q, w) at e in
-    let y : n ≡ length (parts_of list) = cc in
-    let l : length (parts_of list) ≤ 64 = ltb-ge w in
-    (y, omega arith)))
 
 module _ (P D c list : List ℕ) {n : ℕ} (e : list_reading P D c list ≡ Ok n) where
   pub list-taken : Taken P D c list n

@@ -6,3 +6,5 @@ pub mod NormalForms
 pub mod Specimens
 -- The first entry that fails, and what it means.
 pub mod Verdicts
+-- A table of which descriptions are contained in which: direct superiors and classes.
+pub mod Hierarchies

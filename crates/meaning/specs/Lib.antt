@@ -26,3 +26,5 @@ pub mod StarredCases
 pub mod NormalExamples
 -- The starred desk examples that have a specimen, as one list.
 pub mod FitExamples
+-- A table of which descriptions are contained in which, direct superiors, and classes.
+pub mod Hierarchy

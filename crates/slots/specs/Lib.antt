@@ -2,5 +2,7 @@
 pub mod Holding
 -- A list of descriptions judged by one: which contain it, and the refusals in their order.
 pub mod Catalogue
+-- Which services of a list are contained in which: a table of bytes, and the refusals in their order.
+pub mod Containment
 -- Mirrors of the code: the contracts of its functions cite these, and no promise to the customer does.
 pub mod code

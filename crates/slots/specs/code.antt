@@ -14,3 +14,5 @@ pub mod Pass
 pub mod Lent
 -- What judging a list of descriptions is told, and what each step of it does.
 pub mod Judging
+-- What is known of services that are read, and what judging them does to a table.
+pub mod Services

@@ -7,7 +7,7 @@ ghost use Rattle.blocks.specs.declared.Schema.{Schema};
 ghost use Rattle.lists.specs.Parts.{parts_of};
 ghost use Rattle.logic.specs.Background.{Ruled};
 ghost use Rattle.pairs.specs.Pairs.{under};
-ghost use Rattle.slots.specs.Catalogue.{answers_after, list_reading};
+ghost use Rattle.slots.specs.Catalogue.{answers_after, cut_reading, list_reading};
 ghost use Rattle.slots.specs.code.Lent.{HeldIn};
 ghost use Rattle.slots.specs.code.Judging.{JudgesAll, JudgesListed, JudgesSupplied, bytes_read, service_judged};
 
@@ -112,6 +112,29 @@ fn judge_all(
     judge_parts(supplier, names, list, &mut scratch, answers)
 }
 
+// How many services a list has, which is cut before any is checked; or the refusal, of input 2.
+#[tactic(auto, unfolding(crate::specs::Catalogue::cut_reading))]
+pub(crate) fn count_services(list: &[u8]) -> Result<u16, Refusal>
+    ensures { result ≡ cut_reading list.now }
+{
+    if list.is_empty() || list.len() % BLOCK != 0 {
+        return Err(Refusal {
+            cause: Cause::Length,
+            input: 2,
+            place: 0,
+        });
+    }
+    let n = parts_in(list);
+    if 64 < n {
+        return Err(Refusal {
+            cause: Cause::Count,
+            input: 2,
+            place: 0,
+        });
+    }
+    Ok(n as u16)
+}
+
 // The same for any list.
 fn judge_cut(
     exclusions: Exclusions<'_>,
@@ -124,27 +147,7 @@ fn judge_cut(
     requires { Ruled (under exclusions.pairs.now) × (reading_of Schema.Description 1 c.now ≡ Ok n) }
     ensures { JudgesListed exclusions.entry.pairs.now (bytes_read names.entry.read) c.now list.now answers.old result answers.new }
 {
-    if list.is_empty() {
-        return Err(Refusal {
-            cause: Cause::Length,
-            input: 2,
-            place: 0,
-        });
-    }
-    if list.len() % BLOCK != 0 {
-        return Err(Refusal {
-            cause: Cause::Length,
-            input: 2,
-            place: 0,
-        });
-    }
-    if 64 < parts_in(list) {
-        return Err(Refusal {
-            cause: Cause::Count,
-            input: 2,
-            place: 0,
-        });
-    }
+    count_services(list)?;
     judge_all(exclusions, names, c, n, list, answers)
 }
 

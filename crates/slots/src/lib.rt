@@ -13,6 +13,7 @@
 
 mod build;
 mod catalogue;
+mod containment;
 mod excluding;
 mod failing;
 mod filling;
@@ -23,6 +24,7 @@ mod slots;
 mod states;
 
 pub use catalogue::judge_list;
+pub use containment::contained_table;
 pub use failing::first_failing;
 pub use filling::fill;
 pub use slots::{high_in, key_in, low_in};

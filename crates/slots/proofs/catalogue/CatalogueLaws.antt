@@ -10,7 +10,6 @@ use mathlib.Core.Path.{◌∙◌, ◌≡◌, ap, refl, sym}
 use native.Mathlib.Omega.{arith}
 use Rattle.std.proofs.lemmas.List.{length_push}
 use Rattle.base.proofs.StoresLaws.{stored-none, stored_one, stored-then}
-use Rattle.base.proofs.Tests.{eq-eqb, ge-ltb, lt-ltb, ne_eqb}
 use Rattle.base.specs.Range.{bit}
 use Rattle.base.specs.Stores.{stored}
 use Rattle.blocks.proofs.Refusing.Readings.{reading-cases}
@@ -147,27 +146,13 @@ module _ {P D s list old : List ℕ} {left : List (List ℕ)} {n : ℕ} {answers
 -- ---- the list
 
 module _ (P D s list old : List ℕ) where
-  pub list-empty : length list ≡ 0 → JudgesListed P D s list old (refused Length 2 0) old
-  unfolding listed_reading listed_bits cut_reading
-  list-empty z = (rw (eq-eqb z), rw (eq-eqb z) (stored-none old 0))
+  pub list-refused : {x : Refusal} → cut_reading list ≡ Err x → JudgesListed P D s list old (Err x) old
+  unfolding listed_reading listed_bits
+  list-refused e = (rw e, rw e (stored-none old 0))
 
-  module _ (some : length list ≢ 0) where
-    pub list-broken : length list % 512 ≢ 0 → JudgesListed P D s list old (refused Length 2 0) old
-    unfolding listed_reading listed_bits cut_reading
-    list-broken z = (rw (ne_eqb some, ne_eqb z), rw (ne_eqb some, ne_eqb z) (stored-none old 0))
-
-    module _ (whole : length list % 512 ≡ 0) {k : ℕ} (q : k ≡ length (parts_of list)) where
-      pub list-many : 64 < k → JudgesListed P D s list old (refused Count 2 0) old
-      unfolding listed_reading listed_bits cut_reading
-      list-many z =
-          let l : 64 < length (parts_of list) = omega arith in
-          (rw (ne_eqb some, eq-eqb whole, lt-ltb l), rw (ne_eqb some, eq-eqb whole, lt-ltb l) (stored-none old 0))
-
-      pub list-judged : k ≤ 64 → {r : Reading} {new : List ℕ} → JudgesAll P D s list old r new → JudgesListed P D s list old r new
-      unfolding listed_reading listed_bits cut_reading
-      list-judged z j =
-          let l : length (parts_of list) ≤ 64 = omega arith in
-          (j.0 ∙ rw (ne_eqb some, eq-eqb whole, ge-ltb l), j.1 ∙ rw (ne_eqb some, eq-eqb whole, ge-ltb l))
+  pub list-judged : {n : ℕ} → cut_reading list ≡ Ok n → {r : Reading} {new : List ℕ} → JudgesAll P D s list old r new → JudgesListed P D s list old r new
+  unfolding listed_reading listed_bits
+  list-judged e j = (j.0 ∙ rw e, j.1 ∙ rw e)
 
 -- ---- the supplier
 
