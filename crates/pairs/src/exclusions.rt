@@ -26,7 +26,7 @@ impl<'a> Exclusions<'a> {
     /// The exclusions of a list, those of its first 64 pairs. What the index held before does not count; it holds that of these pairs.
     pub fn new(pairs: &'a [u8], index: &'a mut [u8; INDEX_BYTES]) -> Self
         ensures listed { result.pairs.now ≡ take 259 pairs.now }
-        ensures held { result.index.now ≡ indexed_to (take 259 pairs.now) (replicate 512 0) (named_count (take 259 pairs.now)) }
+        ensures held { result.index.now ≡ indexed_to (take 259 pairs.now) (replicate INDEX_BYTES 0) (named_count (take 259 pairs.now)) }
     {
         let listed = &pairs[..pairs.len().min(MOST_BYTES)];
         index.fill(0);
