@@ -1,11 +1,12 @@
-# make run: compares two shipped descriptions. make lib: the static library for C and Rust. make test: the gate, which proves everything,
-# tries to break it, runs the programs, and then all of make outside: the library from C and from Rust, the program and the library
-# beside the reference, and the Rust side under valgrind. make fuzz: the library against the reference on drawn cases, for SECONDS from
-# SEED. make vectors: the vectors of crates/vectors and what the reference answers to them, made again. make bench: how long a run of
-# each program takes, and each call of the library beside plain Rust (docs/BENCHMARKS.md). make stack: the stack that each call of the
-# library takes. make gx: the tool that shows, writes, checks and explains descriptions. make page: its sample pages, looked at in
-# Chromium where that is installed. make install: gx with its manual page and completions, and the library with its header, below PREFIX.
-.PHONY: run lib test outside memory fuzz vectors bench stack gx page install installed lib-anew always
+# make try: compares two shipped descriptions by the program as it stands, not proved. make run: proves it and all that it uses, and
+# compares. make lib: the static library for C and Rust. make test: the gate, which proves everything, tries to break it, runs the
+# programs, and then all of make outside: the library from C and from Rust, the program and the library beside the reference, and the
+# Rust side under valgrind. make fuzz: the library against the reference on drawn cases, for SECONDS from SEED. make vectors: the vectors
+# of crates/vectors and what the reference answers to them, made again. make bench: how long a run of each program takes, and each call of
+# the library beside plain Rust (docs/BENCHMARKS.md). make stack: the stack that each call of the library takes. make gx: the tool that
+# shows, writes, checks and explains descriptions. make page: its sample pages, looked at in Chromium where that is installed. make
+# install: gx with its manual page and completions, and the library with its header, below PREFIX.
+.PHONY: try run lib test outside memory fuzz vectors bench stack gx page install installed lib-anew always
 
 CC = gcc
 CFLAGS = -O2 -Wall -Wextra -Werror -Iinclude
@@ -14,22 +15,28 @@ SECONDS = 600
 SEED = $(shell date +%s)
 VALGRIND = valgrind --quiet --error-exitcode=1
 
+# The program as it stands, before it is proved. Only what it prints is shown; where it prints nothing, why.
+try: SHELL := /bin/bash
+try:
+	@echo "Not proved yet, only run, in some half a minute; make run proves it first." >&2
+	@set -o pipefail; mkdir -p target; cd crates/goltximen && rt try < ../../examples/pair.blocks > ../../target/try.log 2>&1; \
+		grep -E '^(contained|not contained|refused|has|group)\b' ../../target/try.log || { tail -n 40 ../../target/try.log; exit 1; }
+
 run: target/bin/goltximen
 	@target/bin/goltximen < examples/pair.blocks
 
-# How many crates a program needs, itself among them: crates.txt from its end, since each crate stands below those that it uses.
-NEEDED = tac crates.txt | awk -F '[: ]+' '/^$*:/ { need[$$1] } \
-	$$1 in need { n++; for (i = 2; i <= NF; i++) need[$$i] } END { print n }'
-
-# Proves and builds a program, and shows rt's own lines; target/NAME.log has all that rt prints. Where nothing has changed rt says so at
-# once, so it is asked each time.
+# Proves a program with all that it uses, side by side, and builds it; tools/prove tells how many crates are left. Where no source has
+# changed since, it is not asked. The toolchain's own lines are in target/NAME.log.
 target/bin/%: SHELL := /bin/bash
 target/bin/%: always
 	@mkdir -p target/bin
-	@[ -e $@ ] || echo "proving $$($(NEEDED)) crates, some minutes the first time"
-	@set -o pipefail; cd crates/$* && rt run < stdin 2>&1 > /dev/null | tee ../../target/$*.log | sed -un '/^rt: \(nothing\|running\)/d; /^rt:/p' || \
+	@[ -e $@ ] || echo "Proving $* and all that it uses: 27 minutes of processor time from nothing, shared by $$(nproc) processors." >&2
+	@[ -e target/$*.proved ] && [ -z "$$(find crates.txt crates -type f \( -name '*.rt' -o -name '*.antt' -o -name crates.txt \) \
+		-newer target/$*.proved -print -quit)" ] || tools/prove $* >&2
+	@cd crates/$* && rt run < stdin > ../../target/$*.log 2>&1 || \
 		{ echo "NOT PROVED. The end of target/$*.log:"; tail -n 40 ../../target/$*.log; exit 1; }
 	@cmp -s crates/$*/out/$* $@ || cp crates/$*/out/$* $@
+	@touch target/$*.proved
 
 # The crates that the library needs, itself among them.
 LIBRARY = tac crates.txt | awk -F '[: ]+' '/^capi / { need[$$1] } $$1 in need { print "crates/" $$1; for (i = 2; i <= NF; i++) need[$$i] }'
