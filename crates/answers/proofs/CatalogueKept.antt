@@ -51,8 +51,8 @@ sent_means : (D : List ℕ) (j : ℕ) (s : List ℕ) {m : ℕ} → unfolding_of 
 sent_means D j s e r x = rw (sent-accepted D j s e j).1 ((unfolds-plainly (dictionary_of D) (entries_of s) (sent-legal D j s e)).means r x)
 
 module _ (P D c list out : List ℕ) {n : ℕ} (F : catalogue_of P D c list out ≡ Ok n) (i : ℕ) (h : i < n) where
-  -- "1 contained": every item that fits the supplier's description fits the service's, in every finite record that keeps the list of pairs and
-  -- the rule on single links
+  -- [L3] 1 for contained: every item that fits the supplier's description fits the service's, in every finite record
+  -- that keeps the list of pairs and the rule on single links
   pub catalogue-means : (byte_at P D c list out i ≡ 1) ↔ ContainedNamed P D c (service_at list i)
   catalogue-means =
       let d = service_at list i in
@@ -83,7 +83,7 @@ module _ (P D c list out : List ℕ) {n : ℕ} (F : catalogue_of P D c list out 
         ∙ compared (under P) (sent_of D c) (sent_of D d) o
         (record { first = _; second = m; first_read = (sent-accepted D 1 c a 1).0; second-read = (sent-accepted D 2 d e 2).0; room = room })))
 
-    -- "Each byte equals the single comparison", into any output that is long enough for it
+    -- [L4] each byte is the single comparison's, into any output that is long enough for it
     pub catalogue-single : AsCompared P D c (service_at list i) o (byte_at P D c list out i)
     catalogue-single =
         let d = service_at list i in

@@ -211,7 +211,7 @@ module _ (K : List (List Entry)) (s : List ℕ) where
       } in
       in-turn R.whole ∙ rw c (found-lowest (entry_rows (Named most) es) (rows-placed most es) 1 (length es) r)
 
-  -- "at its entry after 4"
+  -- [R24] at its entry, after 4
   pub thirteen-exactly : {p : ℕ} → FirstOf (named_faults K s) Name p ↔ NameRefused K s p
   unfolding first
   thirteen-exactly {p} = (
@@ -227,7 +227,7 @@ module _ (K : List (List Entry)) (s : List ℕ) where
 
   -- ---- 14
 
-  -- "place 0, after all other checks of that input"
+  -- [R24] place 0, after the input's other checks
   pub fourteen-exactly : {p : ℕ} → FirstOf (named_faults K s) Size p ↔ ((p ≡ 0) × SizeRefused K s)
   unfolding first
   fourteen-exactly {p} = (

@@ -24,7 +24,7 @@ pub mod PromiseKept
 pub mod Unfolding
 -- What the contracts of the exported calls say beside their equations.
 pub mod Calls
--- "One meaning, one set of bytes".
+-- [N20] one meaning, one set of bytes.
 pub mod OneSetOfBytes
 -- What the bytes of a catalogue say, and that each is the answer of the single comparison.
 pub mod CatalogueKept

@@ -98,7 +98,7 @@ module _ (P D : List ℕ) where
 
 -- ---- its own bytes
 
--- "each named entry replaced": where there is none, nothing changes
+-- [D6] the contents stand where the name stood: where there is none, nothing changes
 pub own-bytes : (D s : List ℕ) → Admitted D s → Plain (entries_of s) → Bytes s → plain_of D s ≡ s
 unfolding plain_of unfolded_by
 own-bytes D s A none small =

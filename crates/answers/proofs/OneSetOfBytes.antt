@@ -1,5 +1,6 @@
--- "One meaning, one set of bytes": for every two accepted descriptions their normal forms are equal byte for byte exactly when the same items
--- fit both in every finite record, under any one list of excluding pairs, and each with any dictionary of its own.
+-- [N20] one meaning, one set of bytes: for every two accepted descriptions their normal forms are equal byte for byte
+-- exactly when the same items fit both in every finite record, under any one list of excluding pairs, and each with
+-- any dictionary of its own.
 -- Assumes nothing.
 use Rattle.std.proofs.Common.{◌≡◌, ℕ, ◌+◌, ◌≤◌, ◌↔◌, List, length, None, Ok, sym, ap, ◌∙◌}
 use Rattle.answers.proofs.Accepted.{plain-means}
@@ -61,7 +62,8 @@ pub one-set-of-bytes : (P D c E d out out' : List ℕ) {k k' : ℕ} → normalis
 one-set-of-bytes P D c E d out out' e f =
     normalised-ready P D c out e (λ L C. normalised-ready P E d out' f (λ L' A. bytes-exactly P D c E d C A out out' L e f))
 
--- "for every two accepted descriptions": each is normalised, into every output that is as long as the unfolded description
+-- [N20] any two accepted descriptions: each is normalised, into every output that is as long as the unfolded
+-- description
 pub accepted-one-set : (P D c E d out out' : List ℕ) → ListRead P → Admitted D c → Admitted E d
     → length (plain_of D c) ≤ length out → length (plain_of E d) ≤ length out'
     → (normal_bytes P D c out ≡ normal_bytes P E d out') ↔ SameItemsNamed P D c E d

@@ -46,7 +46,7 @@ list_cases P f g = reading-cases (pairs_reading P) (λ k i p e. f k p (first-of-
 -- ---- a dictionary and a description
 
 module _ (D : List ℕ) (i : ℕ) (s : List ℕ) where
-  -- "checked before the other inputs"
+  -- [R25] the dictionary before the inputs
   pub early : {k : Cause} {j p : ℕ} → DictionaryRefused D k j p → unfolding_of D i s ≡ refused k j p
   unfolding unfolding_of
   early r = let e = dictionary-refused D r in rw e
@@ -82,7 +82,7 @@ module _ (D s : List ℕ) where
 -- ---- the normal form
 
 module _ (P D d out : List ℕ) where
-  -- a refusal, and the output "unchanged"
+  -- a refusal, and the output as it was [R21]
   pub normal-refuses : {k : Cause} {i p : ℕ} → NormalRefused P D d out k i p
       → (normalise_named P D d out ≡ refused k i p) × (normalised_named P D d out ≡ out)
   unfolding normalise_named normalised_named
@@ -117,7 +117,7 @@ module _ (P D d out : List ℕ) where
       let B : AcceptedBy D d = record { dictionary = T; description = z } in
       lt-cases (length out) (length (plain_of D d)) (λ h. f Room 0 0 (normal-short n B h)) (λ h. g n B h))))
 
-  -- "11; the dictionary; input 1 in full; then 7": exactly by the first that applies
+  -- [R25] 11, the dictionary, input 1, then 7: exactly by the first that applies
   pub normal-refused-exactly : {k : Cause} {i p : ℕ} → (normalise_named P D d out ≡ refused k i p) ↔ NormalRefused P D d out k i p
   normal-refused-exactly = (
     λ e. normal-cases
@@ -175,7 +175,7 @@ module _ (P D c d out : List ℕ) where
       let B' : AcceptedBy D d = record { dictionary = T; description = z' } in
       lt-cases (length out) (length (plain_of D c) + length (plain_of D d)) (λ h. f Room 0 0 (compares-short n B B' h)) (λ h. g n B B' h)))))
 
-  -- "11; the dictionary; input 1 in full, input 2 in full, then 7"
+  -- [R25] 11, the dictionary, input 1, input 2, then 7
   pub comparison-refused-exactly : {k : Cause} {i p : ℕ} → (compare_named P D c d out ≡ refused k i p) ↔ ComparisonRefused P D c d out k i p
   comparison-refused-exactly = (
     λ e. comparison-cases
@@ -249,7 +249,7 @@ module _ (P D s d : List ℕ) where
       (λ k p r. f k 2 p (judges-description n T z r))
       (λ y. g n (record { dictionary = T; description = y }) z))))
 
-  -- "11; the dictionary; input 1 in full", a specimen, "input 2 in full"
+  -- [R25] 11, the dictionary, input 1, a specimen, then input 2
   pub fit-refused-exactly : {k : Cause} {i p : ℕ} → (fit_named P D s d ≡ refused k i p) ↔ FitRefused P D s d k i p
   fit-refused-exactly = (
     λ e. fit-cases

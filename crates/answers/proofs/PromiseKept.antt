@@ -35,7 +35,7 @@ use Rattle.pairs.specs.Promise.{ListRead}
 
 -- ---- unfolding
 
--- "Unfolding writes a plain description of the same meaning"
+-- [D7] the unfolded description means the same
 pub stands-for : (D s : List ℕ) (A : Admitted D s) → StandsFor D s A.entries
 stands-for D s A = record {
   accepted = plain-read D s A;

@@ -73,7 +73,7 @@ pub sent-read : (D s : List ℕ) (A : Admitted D s) (i : ℕ) → reading_of Des
 sent-read [] s A i = ap (reading_of Description i) (sent-itself [] s refl) ∙ own_read s A i
 sent-read (x ∷ D) s A i = ap (reading_of Description i) (sent-plain (x ∷ D) s (omega arith)) ∙ plain-read (x ∷ D) s A i
 
--- "by which the output .. [is] measured too": the blocks of the entries once unfolded
+-- [D8] the output is measured by the unfolded ones: the blocks of the entries once unfolded
 pub sent-length : (D s : List ℕ) (A : Admitted D s) → length (sent_of D s) ≡ 512 * blocks_for plain A.entries
 sent-length [] s A = ap length (sent-itself [] s refl) ∙ own-length s A
 sent-length (x ∷ D) s A = ap length (sent-plain (x ∷ D) s (omega arith)) ∙ plain-length (x ∷ D) s A

@@ -63,7 +63,7 @@ dictionary-number D (broken h) z = omega arith
 dictionary-number D (many w h) z = omega arith
 dictionary-number D (part w h r) z = not-seven (line-number _ _ r.first) z
 
--- "as input 100, its n-th description as 100 + n"
+-- [D2] input 100, and 100 + n for the n-th description
 pub dictionary-inputs : (D : List ℕ) {k : Cause} {i p : ℕ} → DictionaryRefused D k i p → 100 ≤ i
 dictionary-inputs D r = dictionary-input D (dictionary-refused D r)
 
@@ -110,7 +110,7 @@ module _ (P D c d out : List ℕ) where
     λ h. let q = (comparison-refused-exactly P D c d out).1 (compares-short h.0 h.1 h.2 h.3) in rw q,
   )
 
--- "It has no output buffer"
+-- [F10] it writes no output
 module _ (P D s d : List ℕ) where
   fit-last : {k : Cause} {i p : ℕ} → FitRefused P D s d k i p → number_of k ≢ 7
   fit-last (judges-list f) z = list-number P f z

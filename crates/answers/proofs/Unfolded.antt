@@ -1,5 +1,5 @@
--- "All answers and written bytes for named descriptions, entry numbers included, equal those for the unfolded ones, by which the output ..
--- [is] measured too": by the plain calls, and by the same calls with a dictionary of length 0.
+-- [D8] answers and written bytes are those for the unfolded descriptions, by which the output is measured: by the
+-- plain calls, and by the same calls with a dictionary of length 0.
 -- Assumes nothing.
 use Rattle.std.proofs.Common.{◌≡◌, ℕ, List, [], length, Some, None, Ok, Err, sym, refl, ap, ◌∙◌}
 use Rattle.answers.proofs.Accepted.{plain-read}

@@ -30,11 +30,11 @@ use Rattle.unfolding.specs.Answer.{unfolded_at}
 
 -- ---- refusals
 
--- an answer is a refusal exactly where a row of a table applies, with that row's cause, input and place
+-- [R25] an answer is a refusal exactly where a row of a table applies, with that row's cause, input and place
 abbrev pub RefusedExactly : {A : Type 0} → Result A Refusal → (Cause → ℕ → ℕ → Type 0) → Type 0
 RefusedExactly answer Row = (k : Cause) (i p : ℕ) → (answer ≡ refused k i p) ↔ Row k i p
 
--- and a refusal writes nothing: the output after it is the output before it
+-- [R21] and a refusal writes nothing: the output after it is the output before it
 abbrev pub NothingWritten : {A : Type 0} → Result A Refusal → List ℕ → List ℕ → Type 0
 NothingWritten answer after before = (k : Cause) (i p : ℕ) → answer ≡ refused k i p → after ≡ before
 
@@ -44,19 +44,20 @@ NothingWritten answer after before = (k : Cause) (i p : ℕ) → answer ≡ refu
 abbrev pub FirstLine : List Fault → Cause → ℕ → ℕ → Type 0
 FirstLine lines k i p = (i ≡ 1) × FirstOf lines k p
 
--- input 1 is refused exactly by the first line that applies, and accepted exactly where none does, with its number of entries
+-- [R24] [R26] input 1 is refused exactly by the first line that applies, and accepted exactly where none does, with
+-- its number of entries
 pub record ReadExactly (σ : Schema) (s : List ℕ) : Type 0 where
   pub refuses : RefusedExactly (reading_of σ 1 s) (FirstLine (faults σ s))
   pub accepts : (n : ℕ) → (reading_of σ 1 s ≡ Ok n) ↔ (NoneApplies (faults σ s) × (n ≡ length (entries_of s)))
 
 -- ---- unfolding
 
--- What the answer that n entries are written says of the output.
+-- [D12] What the answer that n entries are written says of the output.
 pub record Unfolds (D s out : List ℕ) (n : ℕ) : Type 0 where
   -- the blocks fit the output, and later bytes are unchanged
   pub room : 512 * blocks_for plain n ≤ length out
   pub later : drop (512 * blocks_for plain n) (unfolded_at D 1 s out) ≡ drop (512 * blocks_for plain n) out
-  -- they are the plain description: n entries, at most 1,008, accepted as any input, and none is a name
+  -- [D7] they are the plain description: n entries, at most 1,008, accepted as any input, and none is a name
   pub blocks : first_blocks n (unfolded_at D 1 s out) ≡ plain_of D s
   pub few : n ≤ 1008
   pub accepted : (i : ℕ) → reading_of Description i (first_blocks n (unfolded_at D 1 s out)) ≡ Ok n
@@ -71,7 +72,7 @@ pub record FitsPlainly (s d : List ℕ) : Type 0 where
   pub answer : fit_named [] [] s d ≡ fit_of [] s d
   pub exactly : FitsExactly [] s d
 
--- counted too: each group is added once in making the table, and none in the walk
+-- [F13] counted too: each group is added once in making the table, and none in the walk
 pub record CountsPlainly (s d : List ℕ) : Type 0 where
   pub counted : counted_named s d ≡ with_table (fit_of [] s d) (groups_in s)
   pub exactly : FitsExactly [] s d

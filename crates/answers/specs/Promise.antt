@@ -34,13 +34,13 @@ use Rattle.pairs.specs.Pairs.{under}
 abbrev pub fits_in : Record → List ℕ → List ℕ → ℕ → Bool
 fits_in R D s x = fits_named R (dictionary_of D) (entries_of s) x
 
--- "A description is now accepted if 13 and 14 don't apply to it either and the call's dictionary isn't refused": whichever input it is
+-- [D11] accepted with a dictionary: whichever input it is
 pub record Admitted (D s : List ℕ) : Type 0 where
   -- how many entries it has once unfolded
   pub entries : ℕ
   pub read : (i : ℕ) → unfolding_of D i s ≡ Ok entries
 
--- "Unfolding writes a plain description of the same meaning": one that is accepted, without names, and that the same items fit
+-- [D7] the unfolded description means the same: one that is accepted, without names, and that the same items fit
 pub record StandsFor (D s : List ℕ) (n : ℕ) : Type 0 where
   pub accepted : (i : ℕ) → reading_of Description i (plain_of D s) ≡ Ok n
   pub nameless : Plain (entries_of (plain_of D s))
@@ -48,11 +48,13 @@ pub record StandsFor (D s : List ℕ) (n : ℕ) : Type 0 where
 
 -- ---- in every finite record
 
--- every item that fits c fits d, in every finite record that keeps the list and the rule on single links
+-- [C7] every item that fits c fits d, in every finite record that keeps the list and the rule on single links; of a
+-- service [L8]
 abbrev pub ContainedNamed : List ℕ → List ℕ → List ℕ → List ℕ → Type 0
 ContainedNamed P D c d = (R : Record) → Keeps (under P) R → (x : ℕ) → x < R.size → fits_in R D c x ≡ true → fits_in R D d x ≡ true
 
--- the same items fit both in every finite record that keeps one list of excluding pairs: c under the dictionary D, d under the dictionary E
+-- [N20] the same items fit both, in every finite record that keeps one list of excluding pairs: c under the
+-- dictionary D, d under the dictionary E
 abbrev pub SameItemsNamed : List ℕ → List ℕ → List ℕ → List ℕ → List ℕ → Type 0
 SameItemsNamed P D c E d = (R : Record) → Keeps (under P) R → (x : ℕ) → x < R.size → fits_in R D c x ≡ fits_in R E d x
 
@@ -67,7 +69,7 @@ pub record CountermodelNamed (P D c d : List ℕ) : Type 0 where
 
 -- ---- the comparison
 
--- both are accepted, and the output is at least as long as "the unfolded ones, by which the output .. [is] measured too"
+-- both are accepted, and the output is at least as long as the unfolded ones, by which it is measured [D8]
 pub record ComparableNamed (D c d out : List ℕ) : Type 0 where
   pub first : Admitted D c
   pub second : Admitted D d
@@ -81,7 +83,8 @@ pub record AnswersNotNamed (P D c d out : List ℕ) : Type 0 where
 
 -- What the answer 'not contained', with the numbers j and k, says of the output.
 pub record RefutedNamed (P D c d out : List ℕ) (j k : ℕ) : Type 0 where
-  -- "entry numbers included": of d unfolded, j is the first entry, apart from 'every' entries, that c does not say
+  -- [D8] entries are counted in what is unfolded: of d unfolded, j is the first entry, apart from 'every' entries,
+  -- that c does not say
   pub number : FirstNotEntailed (under P) (place_of (entries_of (plain_of D c)) 0) (entries_of (plain_of D d)) j
   -- the blocks fit the output, and later bytes are unchanged
   pub room : 512 * blocks_for plain k ≤ length out
@@ -96,7 +99,8 @@ pub record RefutedNamed (P D c d out : List ℕ) (j k : ℕ) : Type 0 where
   pub yes : fit_named P D (first_blocks k (output_named P D c d out)) c ≡ Ok true
   pub no : fit_named P D (first_blocks k (output_named P D c d out)) d ≡ Ok false
 
--- Demand 3 with names: one of the two answers, each exactly as the finite records have it, and what each says of the output
+-- [C7] with names [D14]: one of the two answers, each exactly as the finite records have it, and what each says of
+-- the output
 pub record DecidedNamed (P D c d out : List ℕ) : Type 0 where
   pub answers : (compare_named P D c d out ≡ Ok None) ⊎ AnswersNotNamed P D c d out
   pub contained : (compare_named P D c d out ≡ Ok None) ↔ ContainedNamed P D c d
@@ -127,7 +131,8 @@ pub record NormalisesNamed (P D d out : List ℕ) (k : ℕ) : Type 0 where
       → (normalise_named P D (first_blocks k (normalised_named P D d out)) out' ≡ Ok k)
       × (first_blocks k (normalised_named P D (first_blocks k (normalised_named P D d out)) out') ≡ first_blocks k (normalised_named P D d out))
 
--- the bytes of the normal form: those that its entries take from the start of the output
+-- [N21] the bytes of the normal form, which are compared for doubles: those that its entries take from the start of
+-- the output
 abbrev pub bytes_for : Reading → List ℕ → List ℕ
 bytes_for (Ok k) out = first_blocks k out
 bytes_for (Err e) out = []
@@ -150,7 +155,7 @@ pub record FitsNamedExactly (P D s d : List ℕ) : Type 0 where
 
 -- ---- a catalogue
 
--- "Each byte equals the single comparison": 1 exactly if it answers 'contained', and 0 exactly if 'not contained'
+-- [L4] each byte is the single comparison's: 1 exactly if it answers 'contained', and 0 exactly if 'not contained'
 pub record AsCompared (P D c d o : List ℕ) (byte : ℕ) : Type 0 where
   pub contained : (byte ≡ 1) ↔ (compare_named P D c d o ≡ Ok None)
   pub not-contained : (byte ≡ 0) ↔ AnswersNotNamed P D c d o

@@ -18,8 +18,8 @@ use Rattle.pairs.specs.Pairs.{pair_faults}
 
 -- ---- a description under a dictionary
 
--- "13: a name of 0, above the dictionary's count or not earlier; at its entry after 4": no line before that of the name applies, and whether
--- 5, 6 or a later line does is not looked at
+-- [R13] [R24] 13, a name that may not be given, after 4 at its entry: no line before that of the name applies, and
+-- whether 5, 6 or a later line does is not looked at
 pub record NameRefused (K : List (List Entry)) (s : List ℕ) (p : ℕ) : Type 0 where
   pub whole : length_wrong (Named (length K)) s ≡ false
   pub blocks : NoneApplies (block_faults plain s (blocks_in s) 0 (blocks_in s))
@@ -30,18 +30,19 @@ pub record NameRefused (K : List (List Entry)) (s : List ℕ) (p : ℕ) : Type 0
   pub named : is_named (nth (entries_of s) p) ≡ true
   pub wrong : ((nth (entries_of s) p).name ≡ 0) ⊎ (length K < (nth (entries_of s) p).name)
 
--- "14: .. more than 1,008 entries or depth over 32 once unfolded; .. after all other checks of that input"
+-- [R14] [R24] 14, too large once unfolded, after the input's other checks
 pub record SizeRefused (K : List (List Entry)) (s : List ℕ) : Type 0 where
   pub others : NoneApplies (faults (Named (length K)) s)
   pub large : too_large (unfolded_by K (entries_of s)) ≡ true
 
 -- ---- a dictionary
 
--- the lines of the description of a dictionary that has n before it, under those: "A dictionary description may name only earlier ones"
+-- the lines of the description of a dictionary that has n before it, under those: [D4] names go to earlier
+-- descriptions only
 abbrev pub part_faults : List ℕ → ℕ → List Fault
 part_faults D n = named_faults (map entries_of (take n (parts_of D))) (get_or (parts_of D) n [])
 
--- the first description that is refused: "its n-th description as 100 + n"
+-- the first description that is refused: [D2] the n-th description is input 100 + n
 pub record FirstRefused (D : List ℕ) (k : Cause) (i p : ℕ) : Type 0 where
   pub before : ℕ
   pub there : before < length (parts_of D)
@@ -49,11 +50,11 @@ pub record FirstRefused (D : List ℕ) (k : Cause) (i p : ℕ) : Type 0 where
   pub accepted : (m : ℕ) → m < before → NoneApplies (part_faults D m)
   pub first : FirstOf (part_faults D before) k p
 
--- why a dictionary is refused: "checked before the other inputs, as input 100"
+-- why a dictionary is refused: [D2] [R25] input 100, before the inputs
 pub data DictionaryRefused (D : List ℕ) : Cause → ℕ → ℕ → Type 0 where
-  -- 1, "no multiple of 512"; a dictionary "of length 0" has no descriptions
+  -- 1, no multiple of 512 [D2]; a dictionary of length 0 has no descriptions [D1]
   broken : length D % 512 ≢ 0 → DictionaryRefused D Length 100 0
-  -- 8, "more than 64"
+  -- 8, more than 64 [R8]
   many : length D % 512 ≡ 0 → 64 < length (parts_of D) → DictionaryRefused D Count 100 0
   -- then its descriptions, each in full before the next
   part : {k : Cause} {i p : ℕ} → length D % 512 ≡ 0 → length (parts_of D) ≤ 64 → FirstRefused D k i p → DictionaryRefused D k i p
@@ -66,7 +67,7 @@ pub record DictionaryTaken (D : List ℕ) : Type 0 where
 
 -- ---- the calls
 
--- "A description is now accepted if 13 and 14 don't apply to it either and the call's dictionary isn't refused": by the lines of both
+-- [D11] accepted with a dictionary: by the lines of both
 pub record AcceptedBy (D s : List ℕ) : Type 0 where
   pub dictionary : DictionaryTaken D
   pub description : NoneApplies (named_faults (dictionary_of D) s)
@@ -79,30 +80,30 @@ pub data UnfoldRefused (D d out : List ℕ) : Cause → ℕ → ℕ → Type 0 w
 
 -- the normal form
 pub data NormalRefused (P D d out : List ℕ) : Cause → ℕ → ℕ → Type 0 where
-  -- "11, input 0, before any other check"
+  -- [R25] 11 before all else
   list : {k : Cause} {p : ℕ} → FirstOf (pair_faults P) k p → NormalRefused P D d out k 0 p
-  -- "checked before the other inputs"
+  -- [R25] the dictionary before the inputs
   dictionary : {k : Cause} {i p : ℕ} → NoneApplies (pair_faults P) → DictionaryRefused D k i p → NormalRefused P D d out k i p
-  -- "input 1 in full", with 13 "at its entry after 4" and 14 "after all other checks of that input"
+  -- [R25] input 1 first, with 13 after 4 and 14 last [R24]
   input : {k : Cause} {p : ℕ} → NoneApplies (pair_faults P) → DictionaryTaken D → FirstOf (named_faults (dictionary_of D) d) k p
       → NormalRefused P D d out k 1 p
-  -- "then 7": the output is measured by the unfolded input
+  -- [R25] 7 last: the output is measured by the unfolded input
   short : NoneApplies (pair_faults P) → AcceptedBy D d → length out < length (plain_of D d) → NormalRefused P D d out Room 0 0
 
 -- the comparison
 pub data ComparisonRefused (P D c d out : List ℕ) : Cause → ℕ → ℕ → Type 0 where
   list : {k : Cause} {p : ℕ} → FirstOf (pair_faults P) k p → ComparisonRefused P D c d out k 0 p
   dictionary : {k : Cause} {i p : ℕ} → NoneApplies (pair_faults P) → DictionaryRefused D k i p → ComparisonRefused P D c d out k i p
-  -- "input 1 in full, input 2 in full"
+  -- [R25] input 1, then input 2
   first : {k : Cause} {p : ℕ} → NoneApplies (pair_faults P) → DictionaryTaken D → FirstOf (named_faults (dictionary_of D) c) k p
       → ComparisonRefused P D c d out k 1 p
   second : {k : Cause} {p : ℕ} → NoneApplies (pair_faults P) → AcceptedBy D c → FirstOf (named_faults (dictionary_of D) d) k p
       → ComparisonRefused P D c d out k 2 p
-  -- "then 7": the output is measured by the unfolded inputs
+  -- [R25] 7 last: the output is measured by the unfolded inputs
   short : NoneApplies (pair_faults P) → AcceptedBy D c → AcceptedBy D d → length out < length (plain_of D c) + length (plain_of D d)
       → ComparisonRefused P D c d out Room 0 0
 
--- the fit answer: "a specimen (input 1) and a description (input 2)"; it has no output
+-- the fit answer: [F10] a specimen, then a description; it has no output
 pub data FitRefused (P D s d : List ℕ) : Cause → ℕ → ℕ → Type 0 where
   list : {k : Cause} {p : ℕ} → FirstOf (pair_faults P) k p → FitRefused P D s d k 0 p
   dictionary : {k : Cause} {i p : ℕ} → NoneApplies (pair_faults P) → DictionaryRefused D k i p → FitRefused P D s d k i p

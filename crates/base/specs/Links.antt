@@ -2,6 +2,6 @@
 -- Assumes nothing.
 use Rattle.std.specs.Prelude.{ℕ, leb, Bool}
 
--- "Link numbers from 32,768 up are such links": they "never lead to two items"
+-- [S1] links from 32,768 up are single: they lead to one item at most
 abbrev pub is_single : ℕ → Bool
 is_single l = leb 32768 l

@@ -30,7 +30,7 @@ module _ (F : Frame) where
   encode_from zero i rows = []
   encode_from (suc n) i rows = block_bytes i (take F.room rows) ++ encode_from n (suc i) (drop F.room rows)
 
-  -- the blocks that c entries take: full ones and the rest, and one where there is no entry
+  -- [B10] the blocks that c entries take: full ones and the rest, and one where there is no entry [B9]
   unfoldable pub blocks_for : ℕ → ℕ
   blocks_for c = max 1 ((c + F.room - 1) / F.room)
 
@@ -38,7 +38,7 @@ module _ (F : Frame) where
   unfoldable pub encode_rows : List (List ℕ) → List ℕ
   encode_rows rows = encode_from (blocks_for (length rows)) 0 rows
 
--- the entries as blocks
+-- [B10] the entries as blocks
 unfoldable pub encode : List Entry → List ℕ
 encode es = encode_rows plain (map entry_bytes es)
 
@@ -59,7 +59,8 @@ module _ (F : Frame) where
   framed_bytes most bytes given count =
       cond (nat_le count given && (nat_le count most && nat_le (512 * blocks_for F count) bytes)) (512 * blocks_for F count) 0
 
-  -- the output with the first `count` packed entries, by the bytes of each, as blocks at its start, where it has room for them; later bytes stay
+  -- [N15] [C6] the output with the first `count` packed entries, by the bytes of each, as blocks at its start, where
+  -- it has room for them; later bytes stay
   abbrev pub framed_written : (ℕ → List ℕ) → (most : ℕ) (out rows : List ℕ) (count : ℕ) → List ℕ
   framed_written row most out rows count =
       cond (framed_bytes most (length out) (length rows) count == 0) out

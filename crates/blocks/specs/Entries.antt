@@ -9,7 +9,7 @@ use Rattle.blocks.specs.declared.Schema.TheVariants.{Description, Named, Specime
 
 -- ---- bytes
 
--- "Entry: kind (1 byte), zero (1 byte), owner, name, number (2 bytes each)": the entry whose bytes start at an offset
+-- [E1] kind, a zero byte, owner, name, number: the entry whose bytes start at an offset
 unfoldable pub entry_from : List ℕ → ℕ → Entry
 entry_from s at = record {
   kind = slice_index s at;
@@ -64,19 +64,19 @@ entry_of s total n = cond (nat_lt 0 n && nat_le n total) (entry_at s n) zero_ent
 
 -- ---- the table of kinds
 
--- "A description has 1 to 16 blocks .., a specimen 1 to 32"
+-- [B8] at most 16 blocks, of a specimen 32
 abbrev pub limit_of : Schema → ℕ
 limit_of Description = 16
 limit_of Specimen = 32
 limit_of (Named most) = 16
 
--- "otherwise it is an earlier entry of kind 5 (description) or 7 (specimen)": the kind that may own entries
+-- [E7] an 'every' owns in a description, a group in a specimen: the kind that may own entries
 abbrev pub owning_kind : Schema → ℕ
 owning_kind Description = 5
 owning_kind Specimen = 7
 owning_kind (Named most) = 5
 
--- "Descriptions use 1-6, specimens 1 and 7"; "entry kind 9", where a dictionary can be named
+-- [E4] kinds 1 to 6 in descriptions, 1 and 7 in specimens; and 9, where a dictionary can be named
 abbrev pub kind_ok : Schema → ℕ → Bool
 kind_ok Description k = nat_lt 0 k && nat_le k 6
 kind_ok Specimen k = k == 1 || k == 7
@@ -95,11 +95,11 @@ form_ok σ e = kind_ok σ e.kind && (e.reserved == 0 && (name_ok e.kind e.name &
 
 -- ---- names
 
--- "entry kind 9 with name n and number 0 stands for its n-th description"
+-- [D3] a named entry stands for the description of its name
 abbrev pub is_named : Entry → Bool
 is_named e = e.kind == 9
 
--- the contrary of 13, "a name of 0, above the dictionary's count or not earlier": names up to `most` may be given
+-- the contrary of [R13]: names up to `most` may be given
 unfoldable pub name_given : ℕ → Entry → Bool
 name_given most e = not (is_named e) || (nat_lt 0 e.name && nat_le e.name most)
 

@@ -16,11 +16,11 @@ module _ (F : Frame) where
   abbrev pub cell_pos : ℕ → ℕ → ℕ
   cell_pos b e = 512 * b + 4 + F.width * e
 
-  -- "their word sums": the words of entry e of block b, added
+  -- [B11] word sums: the words of entry e of block b, added
   unfoldable pub entry_words : List ℕ → ℕ → ℕ → ℕ
   entry_words s b e = sum (word_from s (cell_pos b e)) (F.width / 2)
 
-  -- "Exchanging two .. entries p entries apart in one block": t is s with the bytes of entries e and e + p of block b exchanged
+  -- [B11] two entries of one block exchanged: t is s with the bytes of entries e and e + p of block b exchanged
   pub record EntriesExchanged (s t : List ℕ) (b e p : ℕ) : Type 0 where
     pub size : length t ≡ length s
     pub bytes : Exchanged (λ k. slice_index s k) (λ k. slice_index t k) F.width (cell_pos b e) (cell_pos b (e + p))

@@ -11,7 +11,7 @@ use Rattle.blocks.specs.declared.Entry.{Entry}
 use Rattle.blocks.specs.declared.Schema.{Schema}
 use Rattle.blocks.specs.declared.Schema.TheVariants.{Description, Named, Specimen}
 
--- a line of the table at one place: whether it applies, its number as a cause, and the place given
+-- a line of the table at one place: whether it applies, its number as a cause, and the place given [R22]
 pub record Fault : Type 0 where
   pub applies : Bool
   pub cause : Cause
@@ -20,14 +20,14 @@ pub record Fault : Type 0 where
 abbrev pub fault : Bool → Cause → ℕ → Fault
 fault b k p = record { applies = b; cause = k; place = p }
 
--- number 1: "input length 0, no multiple of 512, or over the limit", which is so many blocks
+-- [R1] the length is 0, no multiple of 512, or too much, which is so many blocks
 abbrev pub length_over : ℕ → List ℕ → Bool
 length_over most s = length s == 0 || (not (length s % 512 == 0) || nat_lt (512 * most) (length s))
 
 unfoldable pub length_wrong : Schema → List ℕ → Bool
 length_wrong σ s = length_over (limit_of σ) s
 
--- numbers 2 and 3 of `left` blocks from block i on, of n: "the lowest block that breaks 2 or 3 decides, 2 before 3"
+-- numbers 2 and 3 of `left` blocks from block i on, of n: [R24] the lowest block decides, 2 before 3
 unfoldable pub block_faults : Frame → List ℕ → ℕ → ℕ → ℕ → List Fault
 block_faults F s n i zero = []
 block_faults F s n i (suc left) =
@@ -37,7 +37,7 @@ block_faults F s n i (suc left) =
 abbrev pub frame_faults : Frame → ℕ → List ℕ → List Fault
 frame_faults F most s = fault (length_over most s) Length 0 ∷ block_faults F s (blocks_in s) 0 (blocks_in s)
 
--- the lines of entry n by the entries, one for each number
+-- the lines of entry n by the entries: [R4] form, [R13] name, [R5] owner, [R6] depth, [R9] a single link twice
 abbrev pub form_row : Schema → List Entry → ℕ → Fault
 form_row σ es n = fault (not (form_ok σ (nth es n))) Form n
 
@@ -53,8 +53,8 @@ depth_row es n = fault (not (depth_ok es n)) Depth n
 abbrev pub single_row : List Entry → ℕ → Fault
 single_row es n = fault (not (single_ok es n)) Double n
 
--- the lines that an entry of each schema may break, in their order: "4, 5 or 6, in that order", 13 "at its entry after 4", and 9 "after 6
--- at the same entry"
+-- the lines that an entry of each schema may break, in their order: [R24] 4, then 5, then 6; 13 after 4, and 9 after
+-- 6
 abbrev pub entry_rows : Schema → List Entry → ℕ → List Fault
 entry_rows Description es n = form_row Description es n ∷ owner_row Description es n ∷ depth_row es n ∷ []
 entry_rows (Named most) es n = form_row (Named most) es n ∷ name_row most es n ∷ owner_row (Named most) es n ∷ depth_row es n ∷ []
@@ -65,11 +65,12 @@ unfoldable pub rows_from : (ℕ → List Fault) → ℕ → ℕ → List Fault
 rows_from rows n zero = []
 rows_from rows n (suc left) = rows n ++ rows_from rows (suc n) left
 
--- "the lowest entry that breaks 4, 5 or 6, in that order", or a further line of the schema
+-- [R24] the lowest entry decides, 4 before 5 before 6, or a further line of the schema
 unfoldable pub entry_faults : Schema → List Entry → ℕ → ℕ → List Fault
 entry_faults σ es n left = rows_from (entry_rows σ es) n left
 
--- "In one input: 1; then the lowest block .., then the lowest entry .."
+-- [R24] the length, then the lowest block, then the lowest entry. No line asks for an order of entries, or that equal
+-- ones stand once [E10].
 unfoldable pub faults : Schema → List ℕ → List Fault
 faults σ s =
     fault (length_wrong σ s) Length 0 ∷ (block_faults plain s (blocks_in s) 0 (blocks_in s) ++ entry_faults σ (entries_of s) 1 (length (entries_of s)))
@@ -79,7 +80,7 @@ pub data Finding : Type 0 where
   Clean : Finding
   Faulty : Cause → ℕ → Finding
 
--- "the first that applies in its order"
+-- [R24] the first that applies
 unfoldable pub first : List Fault → Finding
 first [] = Clean
 first (f ∷ fs) = elim f.applies [ true ↦ Faulty f.cause f.place | false ↦ first fs ]

@@ -13,7 +13,7 @@ pub record Frame : Type 0 where
 abbrev pub framed : ℕ → ℕ → Frame
 framed w r = record { width = w; room = r }
 
--- "Bytes 4-507: 63 entries of 8 bytes."
+-- [B2] 63 entries of 8 bytes
 abbrev pub plain : Frame
 plain = record { width = 8; room = 63 }
 
@@ -25,12 +25,11 @@ stored_frame = record { width = 6; room = 84 }
 unfoldable pub blocks_in : List ℕ → ℕ
 blocks_in s = length s / 512
 
--- "Bytes 2-3: entries used", of block i, counted from 0
+-- [B4] the used count, of block i, counted from 0
 unfoldable pub used_in : List ℕ → ℕ → ℕ
 used_in s i = word_at s (512 * i + 2)
 
--- number 2, "a check is wrong": block i; bytes 510-511 hold the check, and bytes 508-509 the second sum: "a wrong second sum is
--- refused as 2, no longer as 3"
+-- [R2] a check is not its sum, of block i: bytes 510-511 hold the first, bytes 508-509 the second
 unfoldable pub check_wrong : List ℕ → ℕ → Bool
 check_wrong s i =
     not (word_at s (512 * i + 510) == check_of s (512 * i)) || not (word_at s (512 * i + 508) == second_of s (512 * i))
@@ -40,7 +39,7 @@ unfoldable pub zero_at : List ℕ → ℕ → Bool
 zero_at s k = slice_index s k == 0
 
 module _ (F : Frame) where
-  -- "Entries count from 1 over all blocks": the offset of entry n
+  -- [E2] entries count from 1 over all blocks: the offset of entry n
   unfoldable pub entry_pos : ℕ → ℕ
   entry_pos n = 512 * ((n - 1) / F.room) + 4 + F.width * ((n - 1) % F.room)
 
@@ -48,14 +47,14 @@ module _ (F : Frame) where
   unfoldable pub total_in : List ℕ → ℕ
   total_in s = F.room * (blocks_in s - 1) + used_in s (blocks_in s - 1)
 
-  -- "Each block but the last uses 63 entries; the last uses 1 to 63, or 0 if it is the only block": of block i of n
+  -- [B4] all blocks but the last are full, and only a sole block may be empty: of block i of n
   unfoldable pub used_ok : ℕ → ℕ → ℕ → Bool
   used_ok n i used = cond (nat_lt (suc i) n) (used == F.room) (nat_le used F.room && (nat_lt 0 used || n == 1))
 
-  -- "Unused entry bytes are zero", of block i
+  -- [B5] bytes of unused entries are zero, of block i
   unfoldable pub rest_zero : List ℕ → ℕ → Bool
   rest_zero s i = all (zero_at s) (512 * i + 4 + F.width * used_in s i) (F.width * F.room - F.width * used_in s i)
 
-  -- number 3, "block number, used count or a byte due to be zero in frame or unused entries is wrong": block i of n
+  -- [R3] the frame is wrong, of block i of n: its number is not its position [B3], or [B4] or [B5] is broken
   unfoldable pub frame_wrong : List ℕ → ℕ → ℕ → Bool
   frame_wrong s n i = not (word_at s (512 * i) == suc i) || (not (used_ok n i (used_in s i)) || not (rest_zero s i))

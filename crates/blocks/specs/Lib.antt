@@ -18,7 +18,7 @@ pub mod Reading
 pub mod Encoding
 -- Two entries of one block exchanged.
 pub mod Exchange
--- Mirrors of the code: the contracts of its functions cite these, and no promise to the customer does.
+-- Mirrors of the code: the contracts of its functions cite these, and no promise does.
 pub mod code
 -- What the promises of the block layer speak of: the first fault that applies, and lists of entries that no rule refuses.
 pub mod Promise

@@ -9,7 +9,7 @@ use Rattle.blocks.specs.declared.Schema.{Schema}
 unfoldable pub owner_of : List Entry → ℕ → ℕ
 owner_of es n = (nth es n).owner
 
--- "Owner 0 is the top; otherwise it is an earlier entry of kind 5 (description) or 7 (specimen)"
+-- [E7] the owner is the top, or an earlier entry that may own
 unfoldable pub owner_ok : Schema → List Entry → ℕ → Bool
 owner_ok σ es n = owner_of es n == 0 || (nat_lt (owner_of es n) n && (nth es (owner_of es n)).kind == owning_kind σ)
 
@@ -18,12 +18,11 @@ unfoldable pub chain : List Entry → ℕ → ℕ → ℕ
 chain es zero n = 0
 chain es (suc steps) n = cond (owner_of es n == 0) 0 (suc (chain es steps (owner_of es n)))
 
--- "An entry's depth is the number of entries in its chain of owners .. owner 0 gives depth 0". Owners stand earlier, so n
--- steps reach the top.
+-- [E9] how many owners an entry has above it. Owners stand earlier, so n steps reach the top.
 unfoldable pub depth_of : List Entry → ℕ → ℕ
 depth_of es n = chain es n n
 
--- "at most 32"
+-- [E9] at most 32
 unfoldable pub depth_ok : List Entry → ℕ → Bool
 depth_ok es n = nat_le (depth_of es n) 32
 

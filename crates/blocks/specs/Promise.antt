@@ -22,18 +22,18 @@ pub record FirstOf (fs : List Fault) (k : Cause) (p : ℕ) : Type 0 where
   pub listed : fs ≡ before ++ (fault true k p ∷ after)
   pub none : NoneApplies before
 
--- each entry has an allowed form, an allowed owner, and an allowed depth
+-- [R27] each entry has an allowed form, an allowed owner, and an allowed depth
 pub record Legal (σ : Schema) (es : List Entry) : Type 0 where
   pub form : (n : ℕ) → 1 ≤ n → n ≤ length es → form_ok σ (nth es n) ≡ true
   pub owner : (n : ℕ) → 1 ≤ n → n ≤ length es → owner_ok σ es n ≡ true
   pub depth : (n : ℕ) → 1 ≤ n → n ≤ length es → depth_ok es n ≡ true
 
--- no group brings its owner above one item by a link that leads to one item only. Apart from `Legal`: what a record of a legal list
+-- [S5] no group brings its owner above one item by a single link. Apart from `Legal`: what a record of a legal list
 -- keeps is a reason for this.
 pub record Single (es : List Entry) : Type 0 where
   pub each : (n : ℕ) → 1 ≤ n → n ≤ length es → single_ok es n ≡ true
 
--- what the schema's other lines than 4, 5 and 6 ask
+-- what the schema's other lines than 4, 5 and 6 ask: of a plain description nothing [S4]
 abbrev pub Further : Schema → List Entry → Type 0
 Further Description es = Unit {0}
 Further Specimen es = Single es

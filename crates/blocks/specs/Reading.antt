@@ -12,15 +12,15 @@ abbrev pub answer : {A : Type 0} → ℕ → A → Finding → Result A Refusal
 answer i a Clean = Ok a
 answer i a (Faulty k p) = refused k i p
 
--- "A description is accepted when none of 1 to 6 applies to it": reading s as input i, its number of entries or a refusal
+-- [R26] accepted where none of 1 to 6 refuses: reading s as input i, its number of entries or a refusal
 abbrev pub Reading : Type 0
 Reading = Result ℕ Refusal
 
 unfoldable pub reading_of : Schema → ℕ → List ℕ → Reading
 reading_of σ i s = answer i (total_in plain s) (first (faults σ s))
 
--- The paper's numbers for each case: the number returned, 0 where nothing is refused, the input, the place, and the entries
--- of an accepted input.
+-- [K6] The numbers of each case: the number returned, 0 where nothing is refused, the input, the place, and the
+-- entries of an accepted input.
 pub record Returned : Type 0 where
   pub number : ℕ
   pub input : ℕ

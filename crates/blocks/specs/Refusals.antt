@@ -7,20 +7,21 @@ use Rattle.blocks.specs.declared.Cause.TheVariants.{Length, Check, Framing, Form
 use Rattle.blocks.specs.declared.Refusal.{Refusal}
 
 -- The table of refusals: the number of each row, and what the row says.
--- Length: the input's length is 0, no multiple of 512, or over the limit
--- Check: a check of a block is wrong
--- Framing: a block's number or used count is wrong, or a byte due to be zero in its frame or unused entries
--- Form: an entry's kind is not allowed, its byte 1 is not zero, or its name or number is outside the table of kinds
--- Owner: an entry's owner is not earlier, or not of kind 5 (in a specimen 7)
--- Depth: a depth over 32
--- Room: the output is too short
--- Count: more than 64 services, or more than 64 descriptions of a dictionary
--- Double: a group of a specimen that brings its owner above one item by a link that leads to one item only
+-- Length: [R1] the input's length is 0, no multiple of 512, or over the limit
+-- Check: [R2] a check of a block is wrong
+-- Framing: [R3] a block's number or used count is wrong, or a byte due to be zero in its frame or unused entries
+-- Form: [R4] an entry's kind is not allowed, its byte 1 is not zero, or its name or number is outside the table of
+-- kinds
+-- Owner: [R5] an entry's owner is not earlier, or not of kind 5 (in a specimen 7)
+-- Depth: [R6] a depth over 32
+-- Room: [R7] the output is too short
+-- Count: [R8] more than 64 services, or more than 64 descriptions of a dictionary
+-- Double: [R9] a group of a specimen that brings its owner above one item by a link that leads to one item only
 -- Item: an item number of a record of 0 or above the total, or a total of 0 or over 256
--- Pairs: a length that is no multiple of 4 or over 64 pairs, or a pair with a 0 or two equal numbers
--- Clash: an item of a specimen or of a record that has both of a pair
--- Name: a name of 0, above the dictionary's count, or in the dictionary not earlier
--- Size: a description, in the dictionary or not, of more than 1,008 entries or depth over 32 once unfolded
+-- Pairs: [R11] a length that is no multiple of 4 or over 64 pairs, or a pair with a 0 or two equal numbers
+-- Clash: [R12] an item of a specimen or of a record that has both of a pair
+-- Name: [R13] a name of 0, above the dictionary's count, or in the dictionary not earlier
+-- Size: [R14] a description, in the dictionary or not, of more than 1,008 entries or depth over 32 once unfolded
 -- Walking: a stored entry whose nearest earlier entry of lesser depth is no 'every' one less deep
 -- Full: adding to a desk that holds 1,008 entries
 -- Empty: taking off from a desk that holds none
@@ -56,7 +57,7 @@ refusal k i p = record { cause = k; input = i; place = p }
 abbrev pub refused : {A : Type 0} → Cause → ℕ → ℕ → Result A Refusal
 refused k i p = Err (refusal k i p)
 
--- "`refused N input I place P`": its words
+-- [Q3] the words of a refusal
 abbrev pub refused_text : Refusal → List ℕ
 refused_text e = codes "refused " ++ (decimal (number_of e.cause) ++ (codes " input " ++ (decimal e.input ++ (codes " place " ++ decimal e.place))))
 

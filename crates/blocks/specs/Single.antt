@@ -7,11 +7,13 @@ use Rattle.blocks.specs.Entries.{nth}
 use Rattle.blocks.specs.Owners.{owner_of}
 use Rattle.blocks.specs.declared.Entry.{Entry}
 
--- "for each group that many different items": what an entry adds to the items of owner o by link l. The count is stored less 1.
+-- [F6] a group has as many items as it counts: what an entry adds to the items of owner o by link l. The count is
+-- stored less 1.
 abbrev pub items_for : ℕ → ℕ → Entry → ℕ
 items_for o l e = cond (e.kind == 7 && (o == e.owner && l == e.name)) (suc e.number) 0
 
--- "Groups of one owner and link add up": the items of owner o by link l that the entries up to and with entry n bring
+-- [F9] groups of one owner and link add up: the items of owner o by link l that the entries up to and with entry n
+-- bring
 unfoldable pub items_up_to : List Entry → ℕ → ℕ → ℕ → ℕ
 items_up_to es o l n = sum (λ i. items_for o l (nth es (suc i))) n
 
@@ -19,6 +21,6 @@ items_up_to es o l n = sum (λ i. items_for o l (nth es (suc i))) n
 abbrev pub single_group : Entry → Bool
 single_group e = e.kind == 7 && is_single e.name
 
--- the contrary of number 9: "a specimen group that brings its owner above one item by such a link"
+-- the contrary of [R9], a group that brings its owner a second item by a single link
 unfoldable pub single_ok : List Entry → ℕ → Bool
 single_ok es n = not (single_group (nth es n) && nat_lt 1 (items_up_to es (owner_of es n) (nth es n).name n))

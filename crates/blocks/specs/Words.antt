@@ -3,7 +3,7 @@
 use Rattle.std.specs.Prelude.{ℕ, suc, ◌+◌, ◌*◌, ◌/◌, ◌%◌, List, [], ◌∷◌, slice_index}
 use Rattle.base.specs.Range.{sum}
 
--- "numbers low byte first": the word of two bytes at an offset; a byte past the end reads 0
+-- [B1] a word, low byte first: the word of two bytes at an offset; a byte past the end reads 0
 unfoldable pub word_at : List ℕ → ℕ → ℕ
 word_at s at = slice_index s at + 256 * slice_index s (at + 1)
 
@@ -15,7 +15,7 @@ word_bytes x = x % 256 ∷ x / 256 ∷ []
 unfoldable pub word_from : List ℕ → ℕ → ℕ → ℕ
 word_from s at k = word_at s (at + 2 * k)
 
--- "The check is the sum of the 255 words of two bytes in bytes 0-509, and this sum wraps at 65,536": of the block at an offset
+-- [B7] the sum of the 255 words before it: of the block at an offset
 unfoldable pub check_of : List ℕ → ℕ → ℕ
 check_of s at = sum (word_from s at) 255 % 65536
 
@@ -23,6 +23,6 @@ check_of s at = sum (word_from s at) 255 % 65536
 unfoldable pub weighted : List ℕ → ℕ → ℕ → ℕ
 weighted s at k = suc k * word_from s at k
 
--- "a second sum over bytes 0-507: word number times word, words counted from 1, modulo 65,536"
+-- [B6] each word times its position, added
 unfoldable pub second_of : List ℕ → ℕ → ℕ
 second_of s at = sum (weighted s at) 254 % 65536

@@ -18,7 +18,7 @@ pub use entries::{nth_entry, pack};
 pub use in_order::{InOrder, entries_in_order};
 pub use words::{block_check, block_second, byte, word, word_of_bytes};
 
-// A property's number. Properties and links are numbered apart, so each has a type of its own.
+// A property's number. Properties and links are numbered apart [E6], so each has a type of its own.
 #[derive(Clone, Copy, PartialEq, Eq)]
 pub struct Property(pub u16);
 

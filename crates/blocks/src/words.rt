@@ -40,7 +40,7 @@ fn part(s: &[u8], at: usize, most: usize) -> &[u8]
     &rest[..most.min(rest.len())]
 }
 
-// Words added: "this sum wraps at 65,536".
+// Words added: [B7] the sum wraps.
 #[tactic(auto, unfolding(base::specs::Range::sum))]
 fn sum_words(words: &[[u8; 2]]) -> u16
     ensures { result ≡ sum (pair words.now) (length words.now) % 65536 }

@@ -1,5 +1,6 @@
-// The library's calls for C and Rust: twelve functions under their plain names, each slice a pointer and a length. Each answers what the
-// call that it wraps answers, as one number of 64 bits; include/goltximen.h states the terms for a C program.
+// The library's calls for C and Rust [K4]: twelve functions under their plain names, each slice a pointer and a
+// length. Each is total [K1] and has, for its result and each byte that it may write, the equation of the call that
+// it wraps [K2], with the answer as one number of 64 bits [K5]; include/goltximen.h states the terms for a C program.
 //
 // Each contract has an equation, clause `answer`: the number and every byte of the output, by the definitions of the call and by Packing of
 // `packing`, which has the table of these numbers. The clauses beside it say what that means:
@@ -102,7 +103,7 @@ pub extern "C" fn gx_compare(c: &[u8], d: &[u8], out: &mut [u8]) -> u64
     pack_comparison(named::compare_sent(&[], c, d, out))
 }
 
-// ---- under a list of pairs and a dictionary
+// ---- under a list of pairs [S14] and a dictionary
 
 // Whether the top item of a specimen fits a description, where records keep a list of pairs; or the refusal.
 #[unsafe(no_mangle)]

@@ -51,11 +51,11 @@ joined-some (d ∷ ds) A h = λ z. let long = A.0.long in let some = A.0.some in
 -- ---- the services
 
 module _ (D : List ℕ) (ds : List (List ℕ)) (all : (i : ℕ) → i < length ds → ServiceTaken (dictionary_of D) (2 + i) (get_or ds i [])) where
-  -- "laid end to end": they are the services of the list
+  -- [L1] laid end to end: they are the services of the list
   pub laid-parts : parts_of (joined ds) ≡ ds
   laid-parts = joined-parts ds (all-numbered (dictionary_of D) 2 ds all)
 
-  -- "a list of 1 to 64 service descriptions", each accepted: none is refused, and each has its byte
+  -- [L3] 1 to 64 services, each accepted: none is refused, and each has its byte
   pub laid_filled : (P c out : List ℕ) {l m n : ℕ} → pairs_reading P ≡ Ok l → dictionary_reading D ≡ Ok m → named_unfolding (dictionary_of D) 1 c ≡ Ok n
       → 1 ≤ length ds → length ds ≤ 64 → length ds ≤ length out → catalogue_of P D c (joined ds) out ≡ Ok (length ds)
   laid_filled P c out p d s some few room =

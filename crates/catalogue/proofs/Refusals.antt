@@ -28,7 +28,7 @@ use Rattle.slots.specs.Catalogue.{cut_reading, list_reading, listed_reading, ser
 use Rattle.blocks.specs.declared.Cause.{Cause}
 use Rattle.blocks.specs.declared.Cause.TheVariants.{Count, Length, Room}
 
--- "a refusal leaves every byte"
+-- [R21] a refusal leaves every byte
 pub refused-stays : (P D c list out : List ℕ) {k : Cause} {i p : ℕ} → catalogue_of P D c list out ≡ refused k i p → filled_of P D c list out ≡ out
 unfolding filled_of
 refused-stays P D c list out e = ap (filled_after (answers_of P D c list) out) e
@@ -114,25 +114,26 @@ module _ (P D c list out : List ℕ) where
         unfolding catalogue_of list_reading unfolding_of
         goes e = rw (list-read, dictionary-read, supplier-read, e)
 
-        -- then 1 "for a list of length 0"
+        -- then 1 of a list of length 0 [L6]
         pub refused-empty : length list ≡ 0 → answer ≡ refused Length 2 0
         unfolding listed_reading cut_reading
         refused-empty z = goes {r = refused Length 2 0} (rw (eq-eqb z))
 
         module _ (some : length list ≢ 0) where
-          -- "or no multiple of 512"
+          -- [L6] or no multiple of 512
           pub refused-broken : length list % 512 ≢ 0 → answer ≡ refused Length 2 0
           unfolding listed_reading cut_reading
           refused-broken z = goes {r = refused Length 2 0} (rw (ne_eqb some, ne_eqb z))
 
           module _ (whole : length list % 512 ≡ 0) where
-            -- then 8 for "more than 64 services"
+            -- then 8 for more than 64 services [R8]
             pub refused-many : 64 < length (parts_of list) → answer ≡ refused Count 2 0
             unfolding listed_reading cut_reading
             refused-many z = goes {r = refused Count 2 0} (rw (ne_eqb some, eq-eqb whole, lt-ltb z))
 
             module _ (few : length (parts_of list) ≤ 64) where
-              -- then the services: the first that is refused decides, "input 1 plus the service's position", and none before it is
+              -- then the services: the first that is refused decides, [L5] its input is 1 and its position, and none
+              -- before it is
               pub refused-service : (i : ℕ) → i < length (parts_of list) → ((j : ℕ) → j < i → ServiceTaken (dictionary_of D) (2 + j) (get_or (parts_of list) j []))
                   → {k : Cause} {l p : ℕ} → named_unfolding (dictionary_of D) (2 + i) (get_or (parts_of list) i []) ≡ refused k l p → answer ≡ refused k l p
               unfolding listed_reading cut_reading
@@ -145,7 +146,7 @@ module _ (P D c list out : List ℕ) where
                 unfolding listed_reading cut_reading
                 taken = let r = none-refused (dictionary_of D) 2 (parts_of list) all in rw (ne_eqb some, eq-eqb whole, ge-ltb few, r)
 
-                -- "with 7 last for fewer answer bytes than services"
+                -- [L7] 7 last, for fewer bytes than services
                 pub refused-short : length out < length (parts_of list) → answer ≡ refused Room 0 0
                 refused-short h = goes taken ∙ rw (lt-ltb h)
 

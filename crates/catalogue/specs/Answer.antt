@@ -8,11 +8,11 @@ use Rattle.names.specs.NamedReading.{sent_of}
 use Rattle.slots.specs.Catalogue.{list_reading, service_bit}
 use Rattle.blocks.specs.declared.Cause.TheVariants.{Room}
 
--- "one byte for each: 1 contained, 0 not"
+-- [L3] a byte for each service: 1 for contained, 0 for not
 unfoldable pub answers_of : List ℕ → List ℕ → List ℕ → List ℕ → List ℕ
 answers_of P D c list = map (service_bit P D (sent_of D c)) (parts_of list)
 
--- all refusals of the inputs, "with 7 last for fewer answer bytes than services"; else "the number filled"
+-- all refusals of the inputs, [L7] 7 last, for fewer bytes than services; else how many bytes are filled [L7]
 unfoldable pub catalogue_of : List ℕ → List ℕ → List ℕ → List ℕ → List ℕ → Reading
 catalogue_of P D c list out =
     unless_refused Err (list_reading P D c list)

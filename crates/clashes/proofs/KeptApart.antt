@@ -136,7 +136,7 @@ module _ (P : List ℕ) (es : List Entry) where
         both_ways (and_both first second) (rw here at none)));
   }
 
-  -- "an item that has both of a pair": no entry completes one exactly where no item has both
+  -- [R12] an item with both properties of a pair: no entry completes one exactly where no item has both
   pub apart-exactly : {m : ℕ} → pairs_reading P ≡ Ok m → Legal Specimen es → Apart P es ↔ ExclusionsKept P (record_of es)
   apart-exactly e L = (apart-kept (pairs-right P e), kept-apart L)
 
@@ -181,7 +181,7 @@ module _ (P s : List ℕ) where
   keeps-read e f K =
       none-refused P s e f (apart-clash (kept-apart P (entries_of s) (sound-of-accepted Specimen 1 s f).entries K.exclusions))
 
-  -- "records must keep it .. and a specimen is judged under the same list"
+  -- [S13] the record keeps the list exactly where 12 does not refuse
   pub twelve-exactly : {m n : ℕ} → pairs_reading P ≡ Ok m → reading_of Specimen 1 s ≡ Ok n
       → (specimen_reading P s ≡ Ok n) ↔ Keeps (under P) (record_of (entries_of s))
   twelve-exactly e f = (read_keeps, keeps-read e f)

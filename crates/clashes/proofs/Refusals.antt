@@ -67,7 +67,7 @@ module _ (P s : List ℕ) {k : Cause} {i p : ℕ} where
       let r = refused-finding 1 (total_in plain s) (first (specimen_faults P s)) (sym (under-list P s f) ∙ e) in
       inr (list-none P f, (r.0, found_first (specimen_faults P s) k p r.1)))
 
-  -- "11 .. before any other check", then 1 to 9 of the specimen, then 12
+  -- [R25] 11 before all else, then 1 to 9 of the specimen, then 12
   pub refused-exactly : (specimen_reading P s ≡ refused k i p) ↔ RefusedBy P s k i p
   refused-exactly = (first_of, refused-by)
 
@@ -104,7 +104,7 @@ module _ (P s : List ℕ) where
     before = λ j lo hi. not-to-true (c.before j lo hi);
   }
 
-  -- "place the lowest entry that completes one"
+  -- [R12] at the lowest entry that completes a pair
   pub twelve-place : {i p : ℕ} → specimen_reading P s ≡ refused Clash i p → (i ≡ 1) × LowestClash P es p
   twelve-place {i} {p} e =
       specimen-cases P s
@@ -115,7 +115,7 @@ module _ (P s : List ℕ) where
       (sym r.1.0, least-clash (first-least (apart_ok P es) 1 (length es) r.1.1 (λ y. z (r.1.1 ∙ y)))))
       (λ m n f h z g. refused-accepted e g)
 
-  -- "after that input's other checks"
+  -- [S13] after the specimen's other checks
   pub twelve-refuses : {m n p : ℕ} → pairs_reading P ≡ Ok m → reading_of Specimen 1 s ≡ Ok n → LowestClash P es p
       → specimen_reading P s ≡ refused Clash 1 p
   twelve-refuses {m} {n} {p} e f c =

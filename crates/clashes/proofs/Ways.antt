@@ -148,6 +148,6 @@ none-listed P s e z =
     (λ k i p f. specimen-refused P s e f ∙ sym f)
     (λ n f. none-refused P s e f (none_first (apart_ok P (entries_of s)) 1 _ (λ j lo hi. not-to-true (never-completes P empty (entries_of s) j))) ∙ sym f)
 
--- "With an empty list all answers match those from before"
+-- [S11] an empty list is none
 pub empty-reading : (s : List ℕ) → specimen_reading [] s ≡ reading_of Specimen 1 s
 empty-reading s = none-listed [] s (right-pairs [] {n = 0} (record { whole = refl; few = omega arith; right = λ i lo hi. absurd (omega arith) })) refl

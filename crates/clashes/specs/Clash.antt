@@ -29,8 +29,8 @@ partner_of P o p e = gives_property e && (eqb o e.owner && excludes_in P e.name 
 abbrev pub partner_before : List ℕ → List Entry → ℕ → ℕ → ℕ → Bool
 partner_before P es o p n = one_of_first (partner_of P o p) es n
 
--- number 12, "an item that has both of a pair", by the "entry that completes one": entry n gives its owner a property, and an earlier
--- entry gives the same owner one that makes a pair with it
+-- number 12, [R12] an item with both properties of a pair, by the entry that completes one [R12]: entry n gives its
+-- owner a property, and an earlier entry gives the same owner one that makes a pair with it
 unfoldable pub completes : List ℕ → List Entry → ℕ → Bool
 completes P es n = gives_property (nth es n) && partner_before P es (owner_of es n) (nth es n).name (n - 1)
 
@@ -38,10 +38,11 @@ completes P es n = gives_property (nth es n) && partner_before P es (owner_of es
 abbrev pub clash_rows : List ℕ → List Entry → ℕ → List Fault
 clash_rows P es n = fault (completes P es n) Clash n ∷ []
 
--- 12, "place the lowest entry that completes one; after that input's other checks"
+-- 12, [R12] [S13] at the lowest entry that completes a pair, after the other checks
 unfoldable pub specimen_faults : List ℕ → List ℕ → List Fault
 specimen_faults P s = faults Specimen s ++ rows_from (clash_rows P (entries_of s)) 1 (length (entries_of s))
 
--- Reading a specimen as input 1 under a list: "11 .. before any other check", then the first of that one list of lines that applies
+-- Reading a specimen as input 1 under a list: [R25] 11 before all else, then the first of that one list of lines that
+-- applies
 unfoldable pub specimen_reading : List ℕ → List ℕ → Reading
 specimen_reading P s = unless_refused Err (pairs_reading P) (answer 1 (total_in plain s) (first (specimen_faults P s)))

@@ -12,7 +12,7 @@ use Rattle.pairs.specs.Pairs.{excludes_in, pair_faults}
 abbrev pub RefusedBy : List ℕ → List ℕ → Cause → ℕ → ℕ → Type 0
 RefusedBy P s k i p = ((i ≡ 0) × FirstOf (pair_faults P) k p) ⊎ (NoneApplies (pair_faults P) × ((i ≡ 1) × FirstOf (specimen_faults P s) k p))
 
--- "the lowest entry that completes one"
+-- [R12] the lowest entry that completes a pair
 pub record LowestClash (P : List ℕ) (es : List Entry) (p : ℕ) : Type 0 where
   pub from : 1 ≤ p
   pub to : p ≤ length es

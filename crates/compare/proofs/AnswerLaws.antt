@@ -33,18 +33,18 @@ use Rattle.blocks.specs.declared.Cause.TheVariants.{Room}
 -- ---- the ways to an answer
 
 module _ (b : Background) (c d out : List ℕ) where
-  -- "input 1 in full"
+  -- [R25] input 1 first
   pub first-refused : {k : Cause} {i p : ℕ} → reading_of Description 1 c ≡ refused k i p → compare_under b c d out ≡ refused k i p
   unfolding compare_under
   first-refused e = rw (compare_under, e)
 
-  -- "input 2 in full"
+  -- [R25] then input 2
   pub second-refused : {n : ℕ} {k : Cause} {i p : ℕ} → reading_of Description 1 c ≡ Ok n → reading_of Description 2 d ≡ refused k i p
       → compare_under b c d out ≡ refused k i p
   unfolding compare_under
   second-refused e f = rw (compare_under, e, f)
 
-  -- "then 7"
+  -- [R25] 7 last
   pub too_short : {n m : ℕ} → reading_of Description 1 c ≡ Ok n → reading_of Description 2 d ≡ Ok m
       → length out < length c + length d → compare_under b c d out ≡ refused Room 0 0
   unfolding compare_under
@@ -75,7 +75,7 @@ module _ (b : Background) (c d out : List ℕ) where
 -- ---- under a list of pairs
 
 module _ (P c d out : List ℕ) where
-  -- "11 .. before any other check"
+  -- [R25] 11 before all else
   pub list-refused : {k : Cause} {i p : ℕ} → pairs_reading P ≡ refused k i p → compare_of P c d out ≡ refused k i p
   unfolding compare_of
   list-refused e = rw (compare_of, e)
@@ -94,14 +94,14 @@ module _ (P c d out : List ℕ) where
       → ((n : ℕ) → pairs_reading P ≡ Ok n → compare_of P c d out ≡ compare_under (under P) c d out → X) → X
   list_cases f g = reading-cases (pairs_reading P) (λ k i p e. f k i p (list-refused e)) (λ n e. g n e (list_read e))
 
--- "With an empty list all answers match those from before."
+-- [S11] an empty list is none
 pub empty-list : (c d out : List ℕ) → (compare_of [] c d out ≡ compare_under standing c d out) × (output_of [] c d out ≡ output_under standing c d out)
 empty-list c d out = (list_read [] c d out empty-read ∙ rw empty-standing, list-output [] c d out empty-read ∙ rw empty-standing)
 
--- ---- the paper's numbers for the refusals
+-- ---- the numbers of the refusals [K6]
 
 module _ (P c d out : List ℕ) where
-  -- "11, input 0, before any other check"
+  -- [R25] 11 before all else
   pub returned-list : {k : Cause} {p : ℕ} → FirstOf (pair_faults P) k p
       → returned (compare_of P c d out) ≡ record { contained = none; entry = 0; entries = 0; number = number_of k; input = 0; place = p }
   returned-list f = ap returned (list-refused P c d out (pairs-refused P f))
@@ -110,7 +110,7 @@ module _ (P c d out : List ℕ) where
     under-list : compare_of P c d out ≡ compare_under (under P) c d out
     under-list = list_read P c d out (none-accepted P l)
 
-    -- "In one input: .." of input 1
+    -- [R24] by the first that applies of input 1
     pub returned-first : {k : Cause} {p : ℕ} → FirstOf (faults Description c) k p
         → returned (compare_of P c d out) ≡ record { contained = none; entry = 0; entries = 0; number = number_of k; input = 1; place = p }
     returned-first f = ap returned (under-list ∙ first-refused (under P) c d out (refused-by-first Description 1 c f))
@@ -121,7 +121,7 @@ module _ (P c d out : List ℕ) where
     returned-second n f =
         ap returned (under-list ∙ second-refused (under P) c d out (accepted-by-none Description 1 c n) (refused-by-first Description 2 d f))
 
-    -- "then 7", "0 for number 7"
+    -- [R25] 7 last, [R23] at input 0
     pub returned-short : NoneApplies (faults Description c) → NoneApplies (faults Description d) → length out < length c + length d
         → returned (compare_of P c d out) ≡ record { contained = none; entry = 0; entries = 0; number = 7; input = 0; place = 0 }
     returned-short n m h =
@@ -141,7 +141,7 @@ none-comparable c d out n m h =
 -- ---- two lists of entries
 
 module _ (b : Background) (c d : List Entry) where
-  -- "All hold: 'contained'"
+  -- [C5] every entry holds: contained
   pub verdict-contained : failing b c d ≡ 0 → verdict b c d ≡ Ok None
   unfolding verdict
   verdict-contained e = rw (verdict, eq-eqb e)

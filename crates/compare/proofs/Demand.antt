@@ -1,4 +1,5 @@
--- Demand 3 as one statement: an answer for all accepted inputs, each exactly as the finite records have it; and when 7 is answered.
+-- [C7] as one statement: an answer for all accepted inputs, each exactly as the finite records have it; and when 7 is
+-- answered.
 -- Assumes nothing.
 use Prim.Native.Nat.{◌+◌, ℕ}
 use lib.ListN.{length}
@@ -115,7 +116,7 @@ module _ (P c d out : List ℕ) where
           (λ z. let g : Ok None ≡ refused Room i p = sym (compared b c d out r ∙ verdict-contained b (entries_of c) (entries_of d) z) ∙ e in let w : ◌≡◌ {A = ℕ} 0 1 = cc in omega arith)
           (λ z. let g = sym (compared b c d out r ∙ verdict-not b (entries_of c) (entries_of d) z) ∙ e in let w : ◌≡◌ {A = ℕ} 0 1 = cc in omega arith)
 
-  -- "then 7": exactly if the list and both inputs are accepted and the output is shorter than both together
+  -- [R25] 7 last: exactly if the list and both inputs are accepted and the output is shorter than both together
   pub seven-exactly : (compare_of P c d out ≡ refused Room 0 0) ↔ TooShort P c d out
   seven-exactly = (
     seven-short,

@@ -6,5 +6,6 @@ pub mod Cases
 pub mod PromiseKept
 -- What a yes is worth on arrival: where C is contained in D, each specimen that fits C fits D.
 pub mod ContainedFits
--- Demand 3 as one statement: an answer for all accepted inputs, each exactly as the finite records have it; and when 7 is answered.
+-- [C7] as one statement: an answer for all accepted inputs, each exactly as the finite records have it; and when 7 is
+-- answered.
 pub mod Demand

@@ -16,7 +16,7 @@ use Rattle.meaning.specs.Failing.{failing, specimen_of}
 use Rattle.pairs.specs.Pairs.{pairs_reading, under}
 use Rattle.blocks.specs.declared.Cause.TheVariants.{Room}
 
--- "contained", "not contained, .. the number of the first .. that fails, the number of specimen entries", or a refusal
+-- [C5] contained, [C6] not contained, with the entry that fails and the specimen's total, or a refusal
 abbrev pub Comparison : Type 0
 Comparison = Result (Option NotContained) Refusal
 
@@ -25,13 +25,13 @@ not_contained j k = Ok (Some (record { entry = j; entries = k }))
 
 -- ---- two lists of entries
 
--- "All hold: 'contained' .. Otherwise 'not contained', the number of the first e that fails, the number of specimen entries"
+-- [C5] [C6] contained where all hold, else the entry that fails and the specimen's total
 unfoldable pub verdict : Background → List Entry → List Entry → Comparison
 verdict b c d = cond (eqb (failing b c d) 0) (Ok None) (not_contained (failing b c d) (length (specimen_of b c d)))
 
 -- ---- two inputs
 
--- "the output is at least as long as both"; 7 otherwise, "0 for number 7"
+-- [C1] the output is as long as both together; 7 otherwise, [R23] at input 0
 abbrev pub room_of : Background → List ℕ → List ℕ → List ℕ → Comparison
 room_of b c d out = cond (ltb (length out) (length c + length d)) (refused Room 0 0) (verdict b (entries_of c) (entries_of d))
 
@@ -42,12 +42,12 @@ second_of b c d out r = unless_refused Err r (room_of b c d out)
 abbrev pub first_of : Background → List ℕ → List ℕ → List ℕ → Reading → Comparison
 first_of b c d out r = unless_refused Err r (second_of b c d out (reading_of Description 2 d))
 
--- "Input 1 is C, input 2 is D"; "input 1 in full, input 2 in full, then 7"
+-- [C1] input 1 is C, input 2 is D; [R25] input 1, then input 2, then 7
 unfoldable pub compare_under : Background → List ℕ → List ℕ → List ℕ → Comparison
 compare_under b c d out = first_of b c d out (reading_of Description 1 c)
 
--- the output after each answer: "contained, output unchanged"; "the specimen in blocks from the start, later bytes unchanged"; a
--- refusal leaves it "unchanged"
+-- the output after each answer: [C5] contained leaves the output; [C6] the specimen's blocks from the start, later
+-- bytes stay; a refusal leaves it as it was [R21]
 abbrev pub output_after : Background → List ℕ → List ℕ → List ℕ → Comparison → List ℕ
 output_after b c d out (Ok None) = out
 output_after b c d out (Ok (Some n)) = encode (specimen_of b (entries_of c) (entries_of d)) ++ drop (512 * blocks_for plain n.entries) out
@@ -58,15 +58,16 @@ output_under b c d out = output_after b c d out (compare_under b c d out)
 
 -- ---- under a list of pairs
 
--- "11, input 0, before any other check"
+-- [R25] 11 before all else
 unfoldable pub compare_of : List ℕ → List ℕ → List ℕ → List ℕ → Comparison
 compare_of P c d out = unless_refused Err (pairs_reading P) (compare_under (under P) c d out)
 
 unfoldable pub output_of : List ℕ → List ℕ → List ℕ → List ℕ → List ℕ
 output_of P c d out = output_after (under P) c d out (compare_of P c d out)
 
--- The paper's numbers for each case: whether C is contained in D, and neither where an input is refused or the output too short; the number
--- of the first entry that fails and the number of specimen entries; the number returned, the input and the place. 0 where a case has none.
+-- [K6] The numbers of each case: whether C is contained in D, and neither where an input is refused or the output too
+-- short; the number of the first entry that fails and the number of specimen entries; the number returned, the input
+-- and the place. 0 where a case has none.
 pub record Returned : Type 0 where
   pub contained : math.Option Bool
   pub entry : ℕ

@@ -1,5 +1,6 @@
--- What the promises of the comparison speak of: inputs that are compared, containment in every finite record that keeps a background, what
--- 'not contained' says of the output, demand 3 as one statement, and what each line of the starred cases says.
+-- What the promises of the comparison speak of: inputs that are compared, containment in every finite record that
+-- keeps a background, what 'not contained' says of the output, an answer for all inputs as one statement, and what
+-- each line of the cases says.
 -- Assumes nothing.
 use Rattle.std.specs.Prelude.{◌*◌, ◌+◌, ◌<◌, ◌≤◌, ℕ, drop, length, false, true, List, ◌++◌, ◌⊎◌, ◌↔◌, ◌≡◌, Ok, None}
 use Rattle.base.specs.Ascending.{Sorted}
@@ -36,7 +37,8 @@ pub record Comparable (c d out : List ℕ) : Type 0 where
 abbrev pub TooShort : List ℕ → List ℕ → List ℕ → List ℕ → Type 0
 TooShort P c d out = NoneApplies (pair_faults P) × NoneApplies (faults Description c) × NoneApplies (faults Description d) × (length out < length c + length d)
 
--- every item that fits C fits D, in every finite record that keeps the background
+-- [C7] every item that fits C fits D, in every finite record that keeps the background; so in that of a specimen
+-- [C15]
 abbrev pub ContainedInAll : Background → List ℕ → List ℕ → Type 0
 ContainedInAll b c d = Subsumed b (place_of (entries_of c) 0) (place_of (entries_of d) 0)
 
@@ -68,14 +70,14 @@ pub record Refuted (P c d out : List ℕ) (j k : ℕ) : Type 0 where
   pub accepted : specimen_reading P (first_blocks k (output_of P c d out)) ≡ Ok k
   pub few : k ≤ length (entries_of c) + length (entries_of d)
   pub keeps : Keeps (under P) (record_of (entries_of (first_blocks k (output_of P c d out))))
-  -- "Order as in the normal form": so each property of a place, and each group of a place and link, stands once
+  -- [C12] the specimen ascends: so each property of a place, and each group of a place and link, stands once
   pub ascending : Sorted entry_before (entries_of (first_blocks k (output_of P c d out)))
-  -- whose top item fits C and does not fit D, by the fit call under the same list
+  -- [C14] whose top item fits C and does not fit D, by the fit call under the same list
   pub yes : fit_of P (first_blocks k (output_of P c d out)) c ≡ Ok true
   pub no : fit_of P (first_blocks k (output_of P c d out)) d ≡ Ok false
 
--- Demand 3: "the comparison answers 'contained' (no finite record of any size .. has an item that fits the first and misses the second) or
--- 'not contained' (exactly when such a record exists)", and shows it.
+-- [C7] contained exactly where no record has an item that fits C and not D, not contained exactly where one has, and
+-- shows it. So no program that answers one of the two to all, or shows nothing, passes for this one [K7].
 pub record Decided (P c d out : List ℕ) : Type 0 where
   pub answers : (compare_of P c d out ≡ Ok None) ⊎ AnswersNot P c d out
   pub contained : (compare_of P c d out ≡ Ok None) ↔ ContainedInAll (under P) c d

@@ -1,4 +1,4 @@
--- Mirrors of the code: the contracts of its functions cite these, and no promise to the customer does.
+-- Mirrors of the code: the contracts of its functions cite these, and no promise does.
 
 -- What a place is asked for, as names and numbers.
 pub mod Asked

@@ -45,7 +45,7 @@ accepted-facts σ i s e =
 pub accepted-single : (i : ℕ) (s : List ℕ) {n : ℕ} → reading_of Specimen i s ≡ Ok n → Singles (entries_of s) (length (entries_of s))
 accepted-single i s e o l q = single-most (entries_of s) o l q (length (entries_of s)) (sound-of-accepted Specimen i s e).further.each
 
--- the answer by groups and numbers is Table 1's
+-- the answer by groups and numbers is the record's
 pub top-judged : (s d : List ℕ) {m : ℕ} {r : Bool} → reading_of Description 2 d ≡ Ok m
     → r ≡ fits_place 33 (entries_of s) (entries_of d) 0 0 → r ≡ top_fits s d
 unfolding top_fits
@@ -72,7 +72,7 @@ module _ (P s d : List ℕ) {x : Reading} (e : x ≡ specimen_reading P s) where
   unfolding fit_of
   first-accepted f h = h ∙ rw (fit_of, ← e, f)
 
--- "With an empty list all answers match those from before."
+-- [S11] an empty list is none
 pub empty-list : (s d : List ℕ) → fit_of [] s d ≡ plain_fit s d
 unfolding fit_of plain_fit
 empty-list s d = rw (fit_of, empty-reading s)

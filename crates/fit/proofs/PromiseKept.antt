@@ -1,5 +1,5 @@
--- The fit answer of two inputs: for accepted ones exactly as Table 1 has it, and otherwise the refusal by the first number that applies, which
--- is never 7.
+-- The fit answer of two inputs: for accepted ones exactly as the record has it [F11], and otherwise the refusal by
+-- the first number that applies, which is never 7.
 -- Assumes nothing.
 use Prim.Native.Nat.{ℕ}
 use mathlib.Core.Bool.{Bool}
@@ -40,20 +40,20 @@ module _ (P s d : List ℕ) (r : Judgeable P s d) where
   unfolding top_fits
   fit-exactly = record { yes = (same-word, λ t. says ∙ ap Ok t); no = (same-word, λ t. says ∙ ap Ok t) }
 
--- ---- the paper's numbers for each case
+-- ---- the numbers of each case [K6]
 
 module _ (P s d : List ℕ) where
-  -- "11 .. before any other check"; "input 1 in full", with 12
+  -- [R25] 11 before all else; [R25] input 1 first, with 12
   pub returned-first : {k : Cause} {i p : ℕ} → RefusedBy P s k i p → returned (fit_of P s d) ≡ record { fits = none; number = number_of k; input = i; place = p }
   returned-first f = ap returned (sym (first-refused P s d refl ((refused-exactly P s).1 f)))
 
   module _ {n : ℕ} (a : specimen_reading P s ≡ Ok n) where
-    -- "input 2 in full"
+    -- [R25] then input 2
     pub returned-second : {k : Cause} {p : ℕ} → FirstOf (faults Description d) k p
         → returned (fit_of P s d) ≡ record { fits = none; number = number_of k; input = 2; place = p }
     returned-second f = ap returned (sym (first-accepted P s d refl a (second-refused s d refl (refused-by-first Description 2 d f))))
 
-    -- "says yes or no for the top item"; nothing else is refused
+    -- [F10] yes or no for the top item; nothing else is refused
     pub returned-fits : NoneApplies (faults Description d)
         → returned (fit_of P s d) ≡ record { fits = some (top_fits s d); number = 0; input = 0; place = 0 }
     returned-fits m =
@@ -67,7 +67,7 @@ module _ (P s d : List ℕ) where
       (λ n k i p a e. f k i p (sym (first-accepted P s d refl a (second-refused s d refl e))))
       (λ n m a e. g (record { first = n; second = m; first_read = a; second-read = e }))
 
-  -- "It has no output buffer": number 7 is never answered
+  -- [F10] it writes no output: number 7 is never answered
   pub never-seven : {i p : ℕ} → fit_of P s d ≡ refused Room i p → ⊥
   never-seven {i} {p} e =
       readings-cases (specimen_reading P s) (reading_of Description 2 d)

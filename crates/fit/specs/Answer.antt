@@ -12,7 +12,7 @@ use Rattle.logic.specs.Record.{fits}
 use Rattle.meaning.specs.Description.{place_of}
 use Rattle.meaning.specs.Specimen.{record_of}
 
--- "says yes or no for the top item": the top item of the specimen's record fits the description
+-- [F10] yes or no for the top item: the top item of the specimen's record fits the description
 unfoldable pub top_fits : List ℕ → List ℕ → Bool
 top_fits s d = fits (record_of (entries_of s)) (place_of (entries_of d) 0) 0
 
@@ -24,16 +24,16 @@ FitAnswer = Result Bool Refusal
 abbrev pub second_of : List ℕ → List ℕ → Reading → FitAnswer
 second_of s d r = unless_refused Err r (Ok (top_fits s d))
 
--- "The fit answer takes a specimen (input 1) and a description (input 2)"; "input 1 in full, input 2 in full": without pairs
+-- [F10] a specimen as input 1, a description as input 2; [R25] input 1, then input 2: without pairs
 unfoldable pub plain_fit : List ℕ → List ℕ → FitAnswer
 plain_fit s d = unless_refused Err (reading_of Specimen 1 s) (second_of s d (reading_of Description 2 d))
 
--- The same under a list of pairs: the specimen's record must keep it, or 12; Table 1 stays.
+-- The same under a list of pairs: the specimen's record must keep it, or 12 [S13]; what fits stays.
 unfoldable pub fit_of : List ℕ → List ℕ → List ℕ → FitAnswer
 fit_of P s d = unless_refused Err (specimen_reading P s) (second_of s d (reading_of Description 2 d))
 
--- The paper's numbers for each case: yes or no, and neither where an input is refused; the number returned, the input and the place, 0
--- where nothing is refused.
+-- [K6] The numbers of each case: yes or no, and neither where an input is refused; the number returned, the input and
+-- the place, 0 where nothing is refused.
 pub record Returned : Type 0 where
   pub fits : Option Bool
   pub number : ℕ

@@ -1,4 +1,4 @@
--- The fit answer with the additions that it took: "the table adds each group once and the walk none".
+-- The fit answer with the additions that it took: [F13] the table adds each group once, the walk none.
 -- Assumes nothing.
 use Rattle.std.specs.Prelude.{List, ℕ, length}
 use Rattle.blocks.specs.Entries.{entries_of}

@@ -1,6 +1,6 @@
 -- The fit answer.
 pub mod Answer
--- Mirrors of the code: the contracts of its functions cite these, and no promise to the customer does.
+-- Mirrors of the code: the contracts of its functions cite these, and no promise does.
 pub mod code
 -- What the promises of the fit answer speak of.
 pub mod Promise

@@ -1,5 +1,5 @@
--- What the promises of the fit answer speak of: inputs that are judged, the answer exactly as Table 1 has it, and a specimen that shows a
--- difference.
+-- What the promises of the fit answer speak of: inputs that are judged, the answer exactly as the record has it, and
+-- a specimen that shows a difference.
 -- Assumes nothing.
 use Rattle.std.specs.Prelude.{ℕ, false, true, List, ◌↔◌, ◌≡◌, Ok}
 use Rattle.blocks.specs.Entries.{entries_of}
@@ -20,7 +20,7 @@ pub record Judgeable (P s d : List ℕ) : Type 0 where
   pub first_read : specimen_reading P s ≡ Ok first
   pub second-read : reading_of Description 2 d ≡ Ok second
 
--- "The fit answer is yes exactly when Table 1 of the report puts the specimen's top item in the description", and no otherwise
+-- [F11] yes exactly where the top item fits the description in the specimen's record, and no otherwise
 pub record FitsExactly (P s d : List ℕ) : Type 0 where
   pub yes : (fit_of P s d ≡ Ok true) ↔ (fits (record_of (entries_of s)) (place_of (entries_of d) 0) 0 ≡ true)
   pub no : (fit_of P s d ≡ Ok false) ↔ (fits (record_of (entries_of s)) (place_of (entries_of d) 0) 0 ≡ false)

@@ -34,19 +34,20 @@ pub record GroupAt (es : List Entry) (n o l k : ℕ) : Type 0 where
 
 -- ---- the table
 
--- "for each owner and link with a group, the number of items in all its groups, and nothing else": the table of the first n entries
+-- [F12] for each owner and link with a group the items of its groups, and nothing else: the table of the first n
+-- entries
 pub record TotalsOf (es : List Entry) (n : ℕ) (rows : List ℕ) (used : ℕ) : Type 0 where
-  -- "for each owner and link with a group": there is a row
+  -- [F12] for each owner and link with a group: there is a row
   pub all : (k o l : ℕ) → GroupAt es n o l k → (r : ℕ) × RowAt rows used o l r
-  -- "and nothing else": each row is that of an owner and link with a group,
+  -- [F12] nothing else: each row is that of an owner and link with a group,
   pub pair : (r o l : ℕ) → RowAt rows used o l r → (k : ℕ) × GroupAt es n o l k
   -- and no owner and link has two
   pub apart : (i j o l : ℕ) → RowAt rows used o l i → RowAt rows used o l j → i ≡ j
-  -- "the number of items in all its groups"
+  -- [F12] the items of its groups
   pub number : (r o l : ℕ) → RowAt rows used o l r → items_in (get_or rows r 0) ≡ items_up_to es o l n
 
 -- ---- additions
 
--- the groups among the first n entries: "the table adds each group once"
+-- the groups among the first n entries: [F13] each group is added once
 unfoldable pub groups_up_to : List Entry → ℕ → ℕ
 groups_up_to es n = sum (λ i. bit (eqb (nth es (suc i)).kind 7)) n

@@ -1,8 +1,8 @@
-// Fitting: when the top item of a specimen fits a description, by Table 1 of the report.
+// Fitting: when the top item of a specimen fits a description, in the specimen's record [F11].
 //
-// The contract of `fit` speaks of the record of items that a specimen is, of the tree of places that a description is, and of Table 1
-// itself: Specimen and Description of `meaning`, and Record of `logic`. That the answer by groups, which the code works out, is Table 1's
-// is proved in proofs/.
+// The contract of `fit` speaks of the record of items that a specimen is, of the tree of places that a description
+// is, and of fitting itself: Specimen and Description of `meaning`, and Record of `logic`. That the answer by groups,
+// which the code works out, is the record's is proved in proofs/.
 #![tactic(auto)]
 
 mod answer;

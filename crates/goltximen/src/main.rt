@@ -1,6 +1,7 @@
-// Reads standard input up to a limit, compares the two descriptions that it holds, one after the other, and prints the answer, line by
-// line. A read error counts as the end of the input; a write error ends the program. How much is read, where the input divides, what is
-// compared and the bytes of each line are the library's: this program only reads, calls and writes.
+// Reads standard input up to a limit, compares the two descriptions that it holds, one after the other, and prints
+// the answer, line by line. A read error counts as the end of the input [Q1]; a write error ends the program [Q7].
+// How much is read, where the input divides, what is compared and the bytes of each line are the library's: this
+// program only reads, calls and writes.
 #![tactic(auto)]
 
 use report::LINE_BYTES;

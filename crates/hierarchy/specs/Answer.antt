@@ -22,7 +22,7 @@ service_entries list i = entries_of (get_or (parts_of list) i [])
 abbrev pub contains : List ℕ → List ℕ → ℕ → ℕ → Bool
 contains P list = within (under P) (service_entries list)
 
--- n rows of n bytes, 1 where f holds of row and column, else 0
+-- [H1] n rows of n bytes, 1 where f holds of row and column, else 0
 unfoldable pub square_rows : (ℕ → ℕ → Bool) → ℕ → List (List ℕ)
 square_rows f n = listed (λ i. listed (λ j. bit (f i j)) 0 n) 0 n
 
@@ -34,7 +34,8 @@ ranks t n = joined (square_rows t n) ++ (joined (square_rows (direct t n) n) ++ 
 abbrev pub hierarchy_size : ℕ → ℕ
 hierarchy_size n = 2 * (n * n) + n
 
--- the refusals of the pairs, the list and its services; then an output that is too short; else the number of bytes written
+-- [H6] the refusals of the pairs, the list and its services; then an output that is too short; else the number of
+-- bytes written
 unfoldable pub hierarchy_of : List ℕ → List ℕ → List ℕ → Reading
 hierarchy_of P list out =
     unless_refused Err (table_reading P list)

@@ -39,7 +39,8 @@ pub record RanksServices (P list out : List ℕ) (m : ℕ) : Type 0 where
   pub size : m ≡ hierarchy_size (services_in list)
   pub room : m ≤ length out
   pub later : drop m (ranked_of P list out) ≡ drop m out
-  -- a byte of the table is 1 exactly where in every record each item that fits service i fits service j, and else 0
+  -- [H2] a byte of the table is 1 exactly where in every record each item that fits service i fits service j, and
+  -- else 0
   pub cell : (i j : ℕ) → i < services_in list → j < services_in list → table_byte P list out i j ≡ bit (contains P list i j)
   pub means : (i j : ℕ) → i < services_in list → j < services_in list → (contains P list i j ≡ true) ↔ ContainedUnder P (service_in list i) (service_in list j)
   -- a byte of the superiors is 1 exactly for those that strictly contain service i with no third strictly between

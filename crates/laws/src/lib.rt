@@ -13,68 +13,69 @@ ghost use Rattle.laws.specs.Laws.{DeskExamples, RulesLeaveNothingOut, SevenLast,
 ghost use Rattle.laws.specs.Laws.{AsUnfolded, ContainedFits, EmptyListAsBefore, WithoutNames};
 ghost use Rattle.laws.specs.Laws.{OneSetOfBytes, SameBytesContained, SameBytesExactly};
 
-// What is written is read back, an accepted input is what its entries are written as, and every list of entries that
-// no line refuses is accepted once written: nothing else is refused.
+// [B10] [R27] What is written is read back, an accepted input is what its entries are written as, and every list of
+// entries that no line refuses is accepted once written: nothing else is refused.
 pub fn bytes_and_entries()
     ensures one_to_one { BytesAndEntries }
     ensures accepted { WrittenIsAccepted }
 {}
 
-// Two used entries of one block exchanged, p entries apart: the input is refused as 2 exactly where p times the
+// [B11] Two used entries of one block exchanged, p entries apart: the input is refused as 2 exactly where p times the
 // difference of their word sums is no multiple of 16,384, and else not as 1, 2 or 3.
 pub fn exchanged_entries()
     ensures refused { ExchangeRefused }
     ensures otherwise { ExchangeOtherwise }
 {}
 
-// The starred examples of the desk, all of them: answers, normal forms and every byte of the output; and their
-// specimens fit the one description and not the other.
+// [C16] The listed cases, all of them: answers, normal forms and every byte of the output; and their specimens fit
+// the one description and not the other.
 pub fn desk_examples()
     ensures { DeskExamples }
 {}
 
-// An accepted description whose entries ascend, and to which no rule applies, is its own normal form: the rules leave
-// nothing out.
+// [N17] An accepted description whose entries ascend, and to which no rule applies, is its own normal form: the rules
+// leave nothing out.
 pub fn rules_leave_nothing_out()
     ensures { RulesLeaveNothingOut }
 {}
 
-// One meaning, one set of bytes: two accepted descriptions, each under its dictionary, have equal normal forms exactly
-// where the same items fit both in every finite record that keeps the list; and under one dictionary exactly where
-// each is contained in the other.
+// [N20] [N21] One meaning, one set of bytes: two accepted descriptions, each under its dictionary, have equal normal
+// forms exactly where the same items fit both in every finite record that keeps the list; and under one dictionary
+// exactly where each is contained in the other.
 pub fn one_set_of_bytes()
     ensures exactly { SameBytesExactly }
     ensures accepted { OneSetOfBytes }
     ensures compared { SameBytesContained }
 {}
 
-// What fits a description fits every description that contains it.
+// [C15] What fits a description fits every description that contains it.
 pub fn contained_fits()
     ensures { ContainedFits }
 {}
 
-// With an empty list of pairs every answer and every byte is as it was before there were lists.
+// [S11] With an empty list of pairs every answer and every byte is what it is without one.
 pub fn empty_list_as_before()
     ensures { EmptyListAsBefore }
 {}
 
-// All answers and all bytes for descriptions with names are those for the plain descriptions that they stand for.
+// [D8] All answers and all bytes for descriptions with names are those for the plain descriptions that they stand
+// for.
 pub fn as_unfolded()
     ensures { AsUnfolded }
 {}
 
-// A description without names stands for itself, and is answered under any dictionary as without one.
+// [D13] A description without names stands for itself, and is answered under any dictionary as without one.
 pub fn without_names()
     ensures { WithoutNames }
 {}
 
-// 7 comes last: exactly where all inputs are accepted and the output is shorter than the call asks for. The fit answer
-// never gives it.
+// [R7] 7 comes last: exactly where all inputs are accepted and the output is shorter than the call asks for. The fit
+// answer never gives it.
 pub fn seven_last()
     ensures { SevenLast }
 {}
 
-// The numbers of the comparison's answers: yes and no have number 0, and a refusal is neither.
+// [K6] The numbers of the comparison's answers: yes and no have number 0, and a refusal is neither.
 pub fn yes_and_no()
     ensures { YesAndNo }
 {}

@@ -129,10 +129,10 @@ module _ (s : List ℕ) where
 
   -- ---- the first part, and what is left
 
-  -- "D is the rest"
+  -- [Q2] D is the rest
   pub parts_join : first_part s ++ second_part s ≡ s
   parts_join = take-append-drop (first_length s) s
 
-  -- "with no such block C is all of it and D has length 0"
+  -- [Q2] without one, C is all
   pub no_second : ((k : ℕ) → Begins s k → ⊥) → (first_part s ≡ s) × (second_part s ≡ [])
   no_second h = let e = undivided-by-none h in (rw (e, take-length), rw (e, drop-length))

@@ -113,7 +113,7 @@ cut-first c d some e =
     let back : second_part (c ++ d) ≡ d = rw (e, drop-append_seam) in
     parts-of (c ++ d) long ∙ rw (front, back)
 
--- "the first block, and each later one numbered 1, begins a service": laid end to end, they are cut into just those
+-- [L1] each block numbered 1 begins a description: laid end to end, they are cut into just those
 pub joined-parts : (ss : List (List ℕ)) → AllNumbered ss → parts_of (joined ss) ≡ ss
 unfolding joined
 joined-parts [] A = parts-of-nil

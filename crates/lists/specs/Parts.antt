@@ -1,4 +1,4 @@
--- Where the descriptions of a list begin: "the first block, and each later one numbered 1, begins a description". The list is cut on the
+-- Where the descriptions of a list begin: [L1] each block numbered 1 begins a description. The list is cut on the
 -- stored numbers, before any block is checked.
 -- Assumes nothing.
 use Rattle.std.specs.Prelude.{◌*◌, ◌+◌, ◌-◌, ◌≤◌, suc, zero, ℕ, eqb, drop, length, take, cond, List, [], ◌∷◌, ◌≡◌}
@@ -10,11 +10,11 @@ unfoldable pub division_from : List ℕ → ℕ → ℕ → ℕ
 division_from s i zero = length s
 division_from s i (suc left) = cond (eqb (word_at s (512 * i)) 1) (512 * i) (division_from s (suc i) left)
 
--- "C runs up to the first later whole block with number 1 .. with no such block C is all of it": the length of C
+-- [Q2] C runs up to the first later block numbered 1, or is all: the length of C
 unfoldable pub first_length : List ℕ → ℕ
 first_length s = division_from s 1 (blocks_in s - 1)
 
--- C, and "D is the rest"
+-- C, and D is the rest [Q2]
 abbrev pub first_part : List ℕ → List ℕ
 first_part s = take (first_length s) s
 
@@ -23,7 +23,8 @@ second_part s = drop (first_length s) s
 
 -- ---- all parts
 
--- the parts of a list: the first, and those of what is left; each has a byte, so that as many steps as there are bytes are enough
+-- [L1] the parts of a list: the first, and those of what is left; each has a byte, so that as many steps as there are
+-- bytes are enough
 unfoldable pub parts_from : ℕ → List ℕ → List (List ℕ)
 parts_from zero s = []
 parts_from (suc steps) s = cond (eqb (length s) 0) [] (first_part s ∷ parts_from steps (second_part s))
@@ -38,7 +39,7 @@ start_of (suc n) s = first_length s + start_of n (second_part s)
 
 -- ---- meaning
 
--- "later whole block with number 1": block i, counted from 0
+-- [Q2] a later whole block numbered 1: block i, counted from 0
 pub record Begins (s : List ℕ) (i : ℕ) : Type 0 where
   pub later : 1 ≤ i
   pub whole : 512 * i + 512 ≤ length s

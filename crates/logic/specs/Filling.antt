@@ -1,5 +1,5 @@
--- Tables that are filled row by row, with a code noted for each row that leads to a place, and the jobs that such a table stands for.
--- Normal forms and specimens are both written by way of them. No promise to the customer names these.
+-- Tables that are filled row by row, with a code noted for each row that leads to a place, and the jobs that such a
+-- table stands for. Normal forms and specimens are both written by way of them. No promise names these.
 -- Assumes nothing.
 use Rattle.std.specs.Prelude.{◌+◌, suc, zero, ℕ, eqb, get_or, length, set, take, cond, List, [], ◌++◌, ◌∷◌, ◌≡◌}
 use Rattle.logic.specs.Layout.{Queue, done, job, later}

@@ -5,11 +5,11 @@ use Rattle.logic.specs.Background.{Background}
 use Rattle.logic.specs.Normal.{is_bottom, sub, supports}
 use Rattle.logic.specs.Place.{Atom, Place, atom, most}
 
--- "if N has at most 0 of the next link at a place passed on W; or if N's place W (empty if N has none) supports it"
+-- [C3] at most 0 of the next link on the way, or the place supports it
 unfoldable pub holds_at : Background → Place → List ℕ → Atom → Bool
 holds_at b t [] a = supports b t a
 holds_at b t (l ∷ w) a = supports b t (atom most l 0) || holds_at b (sub l t) w a
 
--- "It holds if N is kind 6; or .."
+-- [C3] N is a sole entry of kind 6, or
 unfoldable pub holds : Background → Place → List ℕ → Atom → Bool
 holds b t w a = is_bottom t || holds_at b t w a

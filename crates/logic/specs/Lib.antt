@@ -2,7 +2,7 @@
 pub mod Tree
 -- What an entry says at a place, and places: trees of what their entries say.
 pub mod Place
--- Finite records, and which items fit a place: Table 1 of the report and "Records and fitting".
+-- Finite records, and which items fit a place.
 pub mod Record
 -- What all records that are spoken of keep: links from 32,768 up lead to one item at most, and what a list of exclusions adds.
 pub mod Background

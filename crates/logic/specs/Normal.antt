@@ -8,7 +8,7 @@ use Rattle.logic.specs.Tree.{end, leaf, node}
 
 -- ---- the order of entries
 
--- "entries ascend by owner, then kind, then name": the kind's number. An 'every' has 5.
+-- [E11] entries ascend by owner, then kind, then name: the kind's number. An 'every' has 5.
 abbrev pub rank : Kind → ℕ
 rank has = 1
 rank lacks = 2
@@ -38,7 +38,7 @@ sub l end = end
 sub l (leaf a r) = sub l r
 sub l (node l' s r) = cond (eqb l l') s (sub l r)
 
--- some property that excludes p is listed
+-- [S10] some property that excludes p is listed
 unfoldable pub excluded : Background → ℕ → Place → Bool
 excluded b p end = false
 excluded b p (leaf (atom k q m) r) = (eqb (rank has) (rank k) && b.excludes q p) || excluded b p r
@@ -50,7 +50,7 @@ is_bottom end = false
 is_bottom (leaf (atom k n m) r) = eqb (rank nothing) (rank k)
 is_bottom (node l s r) = false
 
--- "an 'every' that owns nothing": the place is empty
+-- [N9] an 'every' that owns nothing: the place is empty
 abbrev pub is_end : Place → Bool
 is_end end = true
 is_end (leaf a r) = false
@@ -63,12 +63,12 @@ abbrev pub found : Option ℕ → Bool
 found none = false
 found (some q) = true
 
--- "kind 3 needs n = 0 or at least m with m ≥ n"
+-- [C4] at least n is supported by as much or more, at least 0 by all
 abbrev pub enough : ℕ → Option ℕ → Bool
 enough m none = eqb m 0
 enough m (some q) = leb m q
 
--- "kind 4 needs at most m with m ≤ n"
+-- [C4] at most n is supported by as little or less
 abbrev pub at_most : ℕ → Option ℕ → Bool
 at_most m none = false
 at_most m (some q) = leb q m
@@ -83,8 +83,8 @@ abbrev pub under : ℕ → Option ℕ → Bool
 under m none = false
 under m (some q) = ltb q m
 
--- The place supports the atom: it lists it, or what says more. A property that is listed says the lack of those that it excludes,
--- and a cap says an at most.
+-- [C4] The place supports the atom: it lists it, or what says more. A property that is listed says the lack of those
+-- that it excludes, and a cap says an at most [S3].
 abbrev pub supports : Background → Place → Atom → Bool
 supports b t (atom has p m) = found (find has p t)
 supports b t (atom lacks p m) = found (find lacks p t) || excluded b p t
@@ -92,7 +92,7 @@ supports b t (atom least l m) = enough m (find least l t)
 supports b t (atom most l m) = at_most m (find most l t) || at_most m (b.cap l)
 supports b t (atom nothing n m) = false
 
--- The place rules the atom out: "has and lacks of one property, or kind 6", "at least n and at most m of one link have m < n".
+-- The place rules the atom out: [N2] has and lacks, or nothing fits, [N3] more is asked than allowed.
 abbrev pub clash : Background → Place → Atom → Bool
 clash b t (atom has p m) = found (find lacks p t) || excluded b p t
 clash b t (atom lacks p m) = found (find has p t)
@@ -136,11 +136,12 @@ remove_lacks b p (node l s r) = node l s (remove_lacks b p r)
 
 -- ---- adding
 
--- "becomes one entry of kind 6"
+-- [N5] one entry of kind 6
 abbrev pub bottom : Place
 bottom = leaf (atom nothing 0 0) end
 
--- a place without what an atom makes idle: "at most 0 removes the 'every' of that link"; a property, the lacks that it implies
+-- a place without what an atom makes idle: [N4] at most 0 removes the 'every' of its link; a property, the lacks that
+-- it implies
 abbrev pub clear : Background → Atom → Place → Place
 clear b (atom has p m) t = remove_lacks b p t
 clear b (atom lacks p m) t = t
@@ -156,19 +157,19 @@ stored least m = m
 stored most m = m
 stored nothing m = 0
 
--- An atom added: "of several at most of one link the smallest stays", "of several at least the largest", "at least 0 goes". What
--- is listed and not supporting is weaker.
+-- An atom added: [N6] the smallest at most stays, [N7] the largest at least stays, [N8] at least 0 goes. What is
+-- listed and not supporting is weaker.
 unfoldable pub insert : Background → Atom → Place → Place
 insert b (atom k n m) t =
     cond (is_bottom t || supports b t (atom k n m)) t
     (cond (clash b t (atom k n m)) bottom (put k n (stored k m) (remove k n (clear b (atom k n m) t))))
 
--- The 'every' of link l now owns s: an impossible place "goes with all below it, and its owner's place gains at most 0 of that
--- link"; "an 'every' that owns nothing goes".
+-- The 'every' of link l now owns s: an impossible place goes with all below, and leaves at most 0 of its link [N2];
+-- [N9] an 'every' that owns nothing goes.
 unfoldable pub fill : Background → ℕ → Place → Place → Place
 fill b l s t = cond (is_bottom s) (insert b (atom most l 0) t) (cond (is_end s) t (put_every l s (remove_every l t)))
 
--- what f adds, added under link l: "'every' entries of one owner and link merge"
+-- what f adds, added under link l: [N1] 'every' entries of one owner and link merge
 unfoldable pub within : Background → ℕ → (Place → Place) → Place → Place
 within b l f t = cond (is_bottom t || supports b t (atom most l 0)) t (fill b l (f (sub l t)) t)
 
@@ -178,6 +179,6 @@ add b end t = t
 add b (leaf a r) t = insert b a (add b r t)
 add b (node l s r) t = within b l (λ u. add b s u) (add b r t)
 
--- the normal form of a place
+-- [N13] the normal form of a place
 unfoldable pub nf : Background → Place → Place
 nf b d = add b d end

@@ -3,8 +3,7 @@
 use Rattle.std.specs.Prelude.{cond, ℕ, eqb}
 use Rattle.logic.specs.Tree.{Tree}
 
--- what an entry that owns nothing says, by the table of kinds: "has property", "lacks property", "at least n by link",
--- "at most n by link", "nothing fits"
+-- what an entry that owns nothing says, by the table of kinds [E3]: has, lacks, at least, at most, nothing fits
 pub data Kind : Type 0 where
   has lacks least most nothing : Kind
 

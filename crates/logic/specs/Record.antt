@@ -1,12 +1,12 @@
--- Finite records, and which items fit a place: Table 1 of the report and "Records and fitting".
+-- Finite records, and which items fit a place.
 -- Assumes nothing.
 use Rattle.std.specs.Prelude.{Bool, true, false, not, ◌&&◌, ◌||◌, List, [], ◌∷◌, ℕ, zero, suc, ◌+◌, leb}
 use Rattle.base.specs.Range.{bit}
 use Rattle.logic.specs.Place.{has, lacks, least, most, nothing, Atom, atom, Place}
 use Rattle.logic.specs.Tree.{end, leaf, node}
 
--- "A finite record is a finite set of items, for each property the set of items that have it, for each link a set of ordered
--- pairs." The items are the numbers below the size. In the report: a finite interpretation, concept names and role names.
+-- [F1] finitely many items, and which have which properties and links. The items are the numbers below the size. In
+-- description logic: a finite interpretation, concept names and role names.
 pub record Record : Type 0 where
   pub size : ℕ
   pub property : ℕ → ℕ → Bool
@@ -22,7 +22,7 @@ unfoldable pub every : (ℕ → Bool) → ℕ → Bool
 every p zero = true
 every p (suc n) = p n && every p n
 
--- the number of different items that item x is linked to by link l
+-- [F3] the number of different items that item x is linked to by link l
 abbrev pub successors : Record → ℕ → ℕ → ℕ
 successors c l x = count (λ y. c.link l x y) c.size
 
@@ -30,7 +30,7 @@ successors c l x = count (λ y. c.link l x y) c.size
 abbrev pub each_linked : Record → ℕ → ℕ → (ℕ → Bool) → Bool
 each_linked c l x p = every (λ y. not (c.link l x y) || p y) c.size
 
--- item x meets an atom
+-- [F4] item x meets an atom, whatever background records keep [F14]
 abbrev pub meets : Record → Atom → ℕ → Bool
 meets c (atom has p m) x = c.property p x
 meets c (atom lacks p m) x = not (c.property p x)
@@ -38,8 +38,8 @@ meets c (atom least l m) x = leb m (successors c l x)
 meets c (atom most l m) x = leb (successors c l x) m
 meets c (atom nothing n m) x = false
 
--- "An item fits a place of a description if it meets each entry there; it meets an 'every' entry if each item linked by that
--- link fits the place this entry owns. The empty description is fitted by all items."
+-- [F4] [F5] an item fits a place where it meets each entry of it, an 'every' where each linked item fits the place
+-- below
 unfoldable pub fits : Record → Place → ℕ → Bool
 fits c end x = true
 fits c (leaf a r) x = meets c a x && fits c r x

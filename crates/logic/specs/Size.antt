@@ -13,7 +13,7 @@ measure join (node x s r) = join (suc (measure join s)) (measure join r)
 abbrev pub nodes : {A B : Type 0} → Tree A B → ℕ
 nodes t = measure (λ m n. m + n) t
 
--- The number of levels: 0 for a place with no entries, else the greatest depth of an entry, and 1. "An entry's depth is the number
--- of entries in its chain of owners".
+-- The number of levels: 0 for a place with no entries, else the greatest depth of an entry, and 1. [E9] how many
+-- owners an entry has above it.
 abbrev pub levels : {A B : Type 0} → Tree A B → ℕ
 levels t = measure (λ m n. max m n) t

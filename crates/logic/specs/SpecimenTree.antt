@@ -14,13 +14,13 @@ pub data Group : Type 0 where
 abbrev pub SpecimenTree : Type 0
 SpecimenTree = Tree ℕ Group
 
--- "An item has the properties owned by its group (top: owner 0) and no others": the top item has property p
+-- [F8] the properties that its group owns, and no others: the top item has property p
 unfoldable pub given : ℕ → SpecimenTree → Bool
 given p end = false
 given p (leaf q r) = eqb p q || given p r
 given p (node (group l n) s r) = given p r
 
--- "Groups of one owner and link add up": the items that the top item is linked to by l
+-- [F9] groups of one owner and link add up: the items that the top item is linked to by l
 unfoldable pub total : ℕ → SpecimenTree → ℕ
 total l end = 0
 total l (leaf q r) = total l r

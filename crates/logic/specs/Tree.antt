@@ -2,8 +2,8 @@
 -- Assumes nothing.
 use Rattle.std.specs.Prelude.{cond, List, [], ◌∷◌, ℕ, suc, ◌<◌, eqb}
 
--- The entries of one owner, in a row: `end`; an entry that owns nothing, then the rest; an entry with what it owns, then the
--- rest. "The entries of one owner form a place".
+-- The entries of one owner, in a row: `end`; an entry that owns nothing, then the rest; an entry with what it owns,
+-- then the rest. [E8] the entries of one owner are a place.
 pub data Tree (A B : Type 0) : Type 0 where
   end : Tree A B
   leaf : A → Tree A B → Tree A B

@@ -20,7 +20,7 @@ next off l = off
 next (on [] a) l = off
 next (on (l' ∷ w) a) l = cond (eqb l l') (on w a) off
 
--- the items that an atom asks for, to be refuted: "at least n + 1 if p is W and e is at most n of R"
+-- the items that an atom asks for, to be refuted: [C10] one more than the at most that is to fail
 abbrev pub want_at : Atom → ℕ → ℕ
 want_at (atom has n m) l = 0
 want_at (atom lacks n m) l = 0
@@ -28,7 +28,7 @@ want_at (atom least n m) l = 0
 want_at (atom most n m) l = cond (eqb l n) (suc m) 0
 want_at (atom nothing n m) l = 0
 
--- the items that a target asks for: "at least 1 if p followed by R lies on W or is W"
+-- the items that a target asks for: [C10] one on the way to W
 abbrev pub want : Target → ℕ → ℕ
 want off l = 0
 want (on [] a) l = want_at a l
@@ -47,7 +47,7 @@ target_links off = []
 target_links (on [] a) = links_at a
 target_links (on (l ∷ w) a) = l ∷ []
 
--- the properties that an atom, or a target, asks for: "e's at W if e is kind 2"
+-- the properties that an atom, or a target, asks for: [C11] the property that is to be lacked
 abbrev pub properties_at : Atom → List ℕ
 properties_at (atom has n m) = []
 properties_at (atom lacks n m) = n ∷ []
@@ -66,7 +66,7 @@ abbrev pub or_zero : Option ℕ → ℕ
 or_zero none = 0
 or_zero (some m) = m
 
--- "the count for link R is N's at least there (0 if none)", or what the target asks for, if that is more
+-- [C10] the count is N's at least, or what the target asks for, if that is more
 abbrev pub count_for : Place → Target → ℕ → ℕ
 count_for t g l = max (or_zero (find least l t)) (want g l)
 
@@ -92,7 +92,7 @@ names k (node l s r) ys = names k r ys
 
 -- ---- the specimen
 
--- groups by the links of a list, f l items by l, each as s l says: "A count above 0 gives a group"
+-- groups by the links of a list, f l items by l, each as s l says: [C10] a count above 0 is a group
 unfoldable pub groups_by : List ℕ → (ℕ → ℕ) → (ℕ → SpecimenTree) → SpecimenTree
 groups_by [] f s = end
 groups_by (l ∷ ls) f s = cond (eqb (f l) 0) (groups_by ls f s) (node (group l (pred (f l))) (s l) (groups_by ls f s))
@@ -102,8 +102,8 @@ unfoldable pub with_properties : List ℕ → SpecimenTree → SpecimenTree
 with_properties [] s = s
 with_properties (p ∷ ps) s = leaf p (with_properties ps s)
 
--- The specimen of a place, given those of the places below it: "Properties are those N lists with kind 1 there, and e's at W if e
--- is kind 2", and groups, "its place is filled likewise".
+-- The specimen of a place, given those of the places below it: [C11] the properties that N has there, and the one to
+-- be lacked, and groups, [C10] each filled in the same way.
 unfoldable pub build : (ℕ → Target → SpecimenTree) → Place → Target → SpecimenTree
 build f t g =
     with_properties (names has t (target_properties g)) (groups_by (names least t (target_links g)) (count_for t g) (λ l. f l (next g l)))
@@ -123,6 +123,6 @@ below end l g = path_of g
 below (leaf a r) l g = below r l g
 below (node l' s r) l g = cond (eqb l l') (build (λ l'' g'. below s l'' g') s g) (below r l g)
 
--- "The specimen has one place for each path of links."
+-- [C9] one place for each path of links
 unfoldable pub witness : Place → Target → SpecimenTree
 witness t g = build (λ l g'. below t l g') t g

@@ -27,6 +27,6 @@ links_up es zero n = []
 links_up es (suc steps) n =
     cond (eqb (owner_of es n) 0) [] (links_up es steps (owner_of es n) ++ ((nth es (owner_of es n)).name ∷ []))
 
--- "An entry e of D stands at the place reached by its owners' links": the links to the place of entry n
+-- [C2] the links of its owners, from the top: the links to the place of entry n
 unfoldable pub links_to : List Entry → ℕ → List ℕ
 links_to es n = links_up es n n

@@ -9,11 +9,11 @@ use Rattle.meaning.specs.Description.{place_of}
 use Rattle.meaning.specs.First.{first_failing}
 use Rattle.meaning.specs.SpecimenFor.{specimen_for}
 
--- "N is C's normal form", for the records that keep a background
+-- [C2] the normal form of C, for the records that keep a background
 unfoldable pub normal_of : Background → List Entry → Place
 normal_of b c = nf b (place_of c 0)
 
--- "the number of the first e that fails", 0 where all hold
+-- [C6] the lowest entry that fails, 0 where all hold
 unfoldable pub failing : Background → List Entry → List Entry → ℕ
 failing b c d = first_failing b (normal_of b c) d
 

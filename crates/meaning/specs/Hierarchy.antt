@@ -23,7 +23,7 @@ strict t i j = t i j && not (t j i)
 abbrev pub between : (ℕ → ℕ → Bool) → ℕ → ℕ → ℕ → Bool
 between t i j k = strict t i k && strict t k j
 
--- j is a direct superior of i, among n: it strictly contains i, and no third stands strictly between
+-- [H3] j is a direct superior of i, among n: it strictly contains i, and no third stands strictly between
 abbrev pub direct : (ℕ → ℕ → Bool) → ℕ → ℕ → ℕ → Bool
 direct t n i j = strict t i j && not (some_below (between t i j) n)
 
@@ -31,7 +31,7 @@ direct t n i j = strict t i j && not (some_below (between t i j) n)
 abbrev pub alike : (ℕ → ℕ → Bool) → ℕ → ℕ → Bool
 alike t i j = t i j && t j i
 
--- the class of i among n, shown by its lowest position, counted from 1: position k is service k - 1
+-- [H5] the class of i among n, shown by its lowest position, counted from 1: position k is service k - 1
 unfoldable pub class_of : (ℕ → ℕ → Bool) → ℕ → ℕ → ℕ
 class_of t n i = first_from (λ k. not (alike t i (k - 1))) 1 n
 
@@ -40,7 +40,7 @@ pub record Ordered (t : ℕ → ℕ → Bool) (n : ℕ) : Type 0 where
   pub itself : (i : ℕ) → i < n → t i i ≡ true
   pub through : (i j k : ℕ) → i < n → j < n → k < n → t i j ≡ true → t j k ≡ true → t i k ≡ true
 
--- from i one comes to j by following direct superiors
+-- [H4] from i one comes to j by following direct superiors
 pub data Leads (t : ℕ → ℕ → Bool) (n : ℕ) : ℕ → ℕ → Type 0 where
   last : (i j : ℕ) → direct t n i j ≡ true → Leads t n i j
   on : (i k j : ℕ) → k < n → direct t n i k ≡ true → Leads t n k j → Leads t n i j

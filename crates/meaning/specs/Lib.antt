@@ -20,11 +20,11 @@ pub mod Promise
 pub mod RowEntries
 -- The entry of an owner, a kind and a name.
 pub mod Lookup
--- "The starred cases form one list": all of them, each about answers and output bytes.
+-- [C16] the cases of one list: all of them, each about answers and output bytes.
 pub mod StarredCases
--- The starred desk examples that give a normal form, the report's example, and one for each of the nine rules, as one list.
+-- The cases that give a normal form, Molitor's running example, and one for each rule, as one list.
 pub mod NormalExamples
--- The starred desk examples that have a specimen, as one list.
+-- The cases that have a specimen, as one list.
 pub mod FitExamples
 -- A table of which descriptions are contained in which, direct superiors, and classes.
 pub mod Hierarchy

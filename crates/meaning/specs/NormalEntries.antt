@@ -8,6 +8,7 @@ use Rattle.logic.specs.Normal.{nf}
 use Rattle.meaning.specs.Description.{place_of}
 use Rattle.meaning.specs.RowEntries.{row_entry}
 
--- the normal form's entries, for the records that keep a background: "entries ascend by owner, then kind, then name"
+-- the normal form's entries, for the records that keep a background: [E11] entries ascend by owner, then kind, then
+-- name
 unfoldable pub normal_entries : Background → List Entry → List Entry
 normal_entries b es = map row_entry (write (nf b (place_of es 0)))

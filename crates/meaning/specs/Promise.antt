@@ -21,7 +21,7 @@ Subsumed b t u = (r : Record) → Keeps b r → (x : ℕ) → x < r.size → fit
 abbrev pub EntailsEntry : Background → Place → List Entry → ℕ → Type 0
 EntailsEntry b t d n = Entails b t (links_to d n) (atom_of (nth d n))
 
--- entry n of d is the first, apart from 'every' entries, that t does not say
+-- [C8] entry n of d is the first, apart from 'every' entries, that t does not say
 pub record FirstNotEntailed (b : Background) (t : Place) (d : List Entry) (n : ℕ) : Type 0 where
   pub low : 1 ≤ n
   pub high : n ≤ length d
@@ -35,5 +35,5 @@ pub record Shown (c d sp : List Entry) : Type 0 where
   pub legal : Legal Specimen sp
   pub fitting : fits (record_of sp) (place_of c 0) 0 ≡ true
   pub missing : fits (record_of sp) (place_of d 0) 0 ≡ false
-  -- "Entries never exceed those of C and D together."
+  -- [C13] no more entries than C and D together
   pub size : length sp ≤ length c + length d

@@ -11,6 +11,6 @@ abbrev pub row_entry : Row Atom ℕ → Entry
 row_entry (leaf_row o (atom a n m)) = record { kind = rank a; reserved = 0; owner = o; name = n; number = m }
 row_entry (node_row o l) = record { kind = 5; reserved = 0; owner = o; name = l; number = 0 }
 
--- "entries ascend by owner, then kind, then name": the first of two entries stands before the second
+-- [E11] entries ascend by owner, then kind, then name: the first of two entries stands before the second
 abbrev pub entry_before : Entry → Entry → Bool
 entry_before e f = ltb e.owner f.owner || (eqb e.owner f.owner && before e.kind e.name f.kind f.name)

@@ -32,7 +32,7 @@ pub record Twice (es : List Entry) (k : ℕ) : Type 0 where
 
 -- ---- impossible places
 
--- "a place with has and lacks of one property": place o
+-- [N2] has and lacks of one property: place o
 pub record HasAndLacks (es : List Entry) (o : ℕ) : Type 0 where
   pub having : ℕ
   pub lacking : ℕ
@@ -42,14 +42,14 @@ pub record HasAndLacks (es : List Entry) (o : ℕ) : Type 0 where
   pub is-having : Is es having 1 o property number
   pub is-lacking : Is es lacking 2 o property number'
 
--- "or kind 6": of place o
+-- [N2] an entry that nothing fits: of place o
 pub record SaysNothing (es : List Entry) (o : ℕ) : Type 0 where
   pub entry : ℕ
   pub name : ℕ
   pub number : ℕ
   pub is-nothing : Is es entry 6 o name number
 
--- "A place with both is impossible": place o has two properties that exclude each other
+-- [S9] both properties of a pair: place o has two properties that exclude each other
 pub record HasBoth (b : Background) (es : List Entry) (o : ℕ) : Type 0 where
   pub one : ℕ
   pub other : ℕ
@@ -64,7 +64,7 @@ pub record HasBoth (b : Background) (es : List Entry) (o : ℕ) : Type 0 where
 abbrev pub Clashes : Background → List Entry → ℕ → Type 0
 Clashes b es o = HasAndLacks es o ⊎ (SaysNothing es o ⊎ HasBoth b es o)
 
--- "at least n and at most m of one link have m < n": at place o
+-- [N3] more is asked than allowed: at place o
 pub record Crosses (es : List Entry) (o : ℕ) : Type 0 where
   pub asking : ℕ
   pub allowing : ℕ
@@ -75,7 +75,7 @@ pub record Crosses (es : List Entry) (o : ℕ) : Type 0 where
   pub is-allowing : Is es allowing 4 o link m
   pub less : m < n
 
--- "at least 2 of such a link makes its place impossible": at place o more are asked for than the cap of a link allows
+-- [S2] at least 2 of a single link: at place o more are asked for than the cap of a link allows
 pub record Exceeds (b : Background) (es : List Entry) (o : ℕ) : Type 0 where
   pub asking : ℕ
   pub link : ℕ
@@ -97,23 +97,23 @@ pub record IsEvery (es : List Entry) (n : ℕ) : Type 0 where
 
 -- ---- the rules
 
--- (1) "'every' entries of one owner and link merge"
+-- [N1] 'every' entries of one owner and link merge
 abbrev pub Merges : List Entry → Type 0
 Merges es = Twice es 5
 
--- (2) "a place with has and lacks of one property, or kind 6, goes with all below it, and its owner's place gains at most 0 of that link"
+-- [N2] an impossible place goes with all below, and its owner's place gains at most 0 of the link
 pub record GoesByClash (b : Background) (es : List Entry) : Type 0 where
   pub place : ℕ
   pub every : IsEvery es place
   pub clashes : Clashes b es place
 
--- (3) "likewise where at least n and at most m of one link have m < n"
+-- [N3] a place that asks for more than it allows goes likewise
 pub record GoesByCounts (b : Background) (es : List Entry) : Type 0 where
   pub place : ℕ
   pub every : IsEvery es place
   pub overasks : Overasks b es place
 
--- (4) "at most 0 removes the 'every' of that link"
+-- [N4] at most 0 removes the 'every' of its link
 pub record RemovesEvery (es : List Entry) : Type 0 where
   pub bound : ℕ
   pub removed : ℕ
@@ -128,33 +128,33 @@ pub record AloneSix (es : List Entry) : Type 0 where
   pub alone : length es ≡ 1
   pub six : (nth es 1).kind ≡ 6
 
--- (5) "a top that is impossible as in 2 or 3 becomes one entry of kind 6, and the rule doesn't apply to that entry alone"
+-- [N5] an impossible top becomes one entry of kind 6, to which the rule does not apply
 pub record TopGoes (b : Background) (es : List Entry) : Type 0 where
   pub impossible : Clashes b es 0 ⊎ Overasks b es 0
   pub not-alone : AloneSix es → ⊥
 
--- (6) "of several at most of one link the smallest stays"
+-- [N6] of several at most of one link the smallest stays
 abbrev pub SeveralMost : List Entry → Type 0
 SeveralMost es = Twice es 4
 
--- (7) "of several at least the largest"
+-- [N7] of several at least of one link the largest stays
 abbrev pub SeveralLeast : List Entry → Type 0
 SeveralLeast es = Twice es 3
 
--- (8) "at least 0 goes"
+-- [N8] at least 0 goes
 pub record LeastZero (es : List Entry) : Type 0 where
   pub entry : ℕ
   pub owner : ℕ
   pub link : ℕ
   pub is-least : Is es entry 3 owner link 0
 
--- (9) "an 'every' that owns nothing goes"
+-- [N9] an 'every' that owns nothing goes
 pub record OwnsNothing (es : List Entry) : Type 0 where
   pub entry : ℕ
   pub every : IsEvery es entry
   pub owns_none : (n : ℕ) → 1 ≤ n → n ≤ length es → (nth es n).owner ≢ entry
 
--- "Equal entries of one place become one."
+-- [N10] equal entries become one
 pub record Equal (es : List Entry) : Type 0 where
   pub one : ℕ
   pub other : ℕ
@@ -166,7 +166,7 @@ pub record Equal (es : List Entry) : Type 0 where
   pub is_one : Is es one kind owner name number
   pub is-other : Is es other kind owner name number
 
--- "a place with one counts as lacking the other, so that lack is dropped": beside a property, the lack of one that it excludes
+-- [N11] an implied lack goes: beside a property, the lack of one that it excludes
 pub record ImpliedLack (b : Background) (es : List Entry) : Type 0 where
   pub having : ℕ
   pub lacking : ℕ
@@ -179,7 +179,7 @@ pub record ImpliedLack (b : Background) (es : List Entry) : Type 0 where
   pub is-having : Is es having 1 owner property number
   pub is-lacking : Is es lacking 2 owner property' number'
 
--- "at most 1 or more is always met: it is dropped": an at most that the cap of its link says
+-- [N12] at most 1 or more of a single link goes: an at most that the cap of its link says
 pub record ImpliedMost (b : Background) (es : List Entry) : Type 0 where
   pub entry : ℕ
   pub owner : ℕ

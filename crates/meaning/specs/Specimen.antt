@@ -14,21 +14,22 @@ abbrev pub group_of : Item → ℕ
 group_of top = 0
 group_of (member k o l) = k
 
--- "for each group that many different items": the items of the entries that count from k. The count is stored less 1.
+-- [F6] a group has as many items as it counts: the items of the entries that count from k. The count is stored less
+-- 1.
 unfoldable pub items : ℕ → List Entry → List Item
 items k [] = []
 items k (e ∷ es) = cond (eqb e.kind 7) (replicate (suc e.number) (member k e.owner e.name) ++ items (suc k) es) (items (suc k) es)
 
--- "one top item, and for each group that many"
+-- [F6] the top item, and the items of each group
 abbrev pub all_items : List Entry → List Item
 all_items es = top ∷ items 1 es
 
--- "Each item of the owner is linked to each item of the group": item a to item b by link l
+-- [F7] each item of the owner is linked to each of the group: item a to item b by link l
 abbrev pub linked : ℕ → Item → Item → Bool
 linked l a top = false
 linked l a (member k o l') = eqb (group_of a) o && eqb l l'
 
--- "An item has the properties owned by its group (top: owner 0) and no others"
+-- [F8] the properties that its group owns, and no others
 unfoldable pub owns : ℕ → ℕ → List Entry → Bool
 owns g p [] = false
 owns g p (e ∷ es) = (eqb e.kind 1 && (eqb g e.owner && eqb p e.name)) || owns g p es

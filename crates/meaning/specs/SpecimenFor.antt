@@ -10,12 +10,12 @@ use Rattle.logic.specs.Tree.{Row, leaf_row, node_row}
 use Rattle.logic.specs.Witness.{on, witness}
 use Rattle.meaning.specs.Description.{atom_of, links_to}
 
--- a row of a specimen as an entry: "has property", or "group of items by link" with the number "count - 1"
+-- a row of a specimen as an entry [E3]: has, or a group, whose number is one less than its items
 abbrev pub row_entry : Row ℕ Group → Entry
 row_entry (leaf_row o p) = record { kind = 1; reserved = 0; owner = o; name = p; number = 0 }
 row_entry (node_row o (group l n)) = record { kind = 7; reserved = 0; owner = o; name = l; number = n }
 
--- the entries of a specimen: "Order as in the normal form"
+-- the entries of a specimen: [C12] the specimen ascends
 unfoldable pub specimen_entries : SpecimenTree → List Entry
 specimen_entries s = map row_entry (write s)
 

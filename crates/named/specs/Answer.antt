@@ -1,5 +1,5 @@
--- The answers of the calls that take a dictionary, and the outputs that they leave: "All answers and written bytes for named descriptions
--- .. equal those for the unfolded ones".
+-- The answers of the calls that take a dictionary, and the outputs that they leave: [D8] all answers and written
+-- bytes are those for the unfolded descriptions.
 -- Assumes nothing.
 use Rattle.std.specs.Prelude.{ℕ, List, [], Err}
 use Rattle.blocks.specs.Refusals.{unless_refused}
@@ -15,7 +15,7 @@ use Rattle.pairs.specs.Pairs.{pairs_reading}
 
 -- ---- the normal form
 
--- "11; the dictionary; input 1 in full", and then as for what it stands for
+-- [R25] 11, the dictionary, input 1, and then as for what it stands for
 unfoldable pub normalise_named : List ℕ → List ℕ → List ℕ → List ℕ → Reading
 normalise_named P D d out =
     unless_refused Err (pairs_reading P) (unless_refused Err (unfolding_of D 1 d) (normalise_of P (sent_of D d) out))
@@ -26,7 +26,7 @@ normalised_named P D d out =
 
 -- ---- the comparison
 
--- "11; the dictionary; input 1 in full, input 2 in full"
+-- [R25] 11, the dictionary, input 1, input 2
 unfoldable pub compare_named : List ℕ → List ℕ → List ℕ → List ℕ → List ℕ → Comparison
 compare_named P D c d out =
     unless_refused Err (pairs_reading P)
@@ -41,7 +41,7 @@ output_named P D c d out =
 
 -- ---- the fit answer
 
--- "11; the dictionary; input 1 in full", a specimen, "input 2 in full"
+-- [R25] 11, the dictionary, input 1, a specimen, then input 2
 unfoldable pub fit_named : List ℕ → List ℕ → List ℕ → List ℕ → FitAnswer
 fit_named P D s d =
     unless_refused Err (pairs_reading P)

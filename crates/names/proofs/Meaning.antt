@@ -4,5 +4,5 @@
 pub mod JoinedTrees
 -- The tree of an unfolded description: the trees of the contents, put in at the places of their names.
 pub mod UnfoldTree
--- "Unfolding writes a plain description of the same meaning".
+-- [D7] the unfolded description means the same.
 pub mod UnfoldMeans

@@ -24,7 +24,7 @@ each-owners : (k : ℕ) (K : List (List Entry)) → EachAfter LegalNamed k K →
 each-owners k [] h = tt
 each-owners k (d ∷ K) h = (h.0.owner, each-owners (suc k) K h.1)
 
--- "Unfolding writes a plain description of the same meaning"
+-- [D7] the unfolded description means the same
 pub unfolds-plainly : (K : List (List Entry)) (es : List Entry) → AcceptedNamed K es → UnfoldsPlainly K es
 unfolds-plainly K es A =
     let legal = unfold-legal K es A in

@@ -14,7 +14,7 @@ use Rattle.names.specs.NamedMeaning.{fits_named, fits_nth, fits_place, named_pla
 use Rattle.names.specs.Unfold.{contents, described, in_turn, unfold_from, unfolded, unfolded_by}
 use Rattle.names.specs.code.Passes.{inside, kept_by}
 
--- ---- "Suppliers repeat 'sealed core' forty times"
+-- ---- a name used again [D3]
 
 -- each item by link 1 has property 7, and there are at least 2 by link 2
 abbrev sealed_core : List Entry

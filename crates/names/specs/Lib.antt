@@ -10,5 +10,5 @@ pub mod NamedForm
 pub mod NamedReading
 -- What the promises on named descriptions speak of.
 pub mod Promise
--- Mirrors of the code: no promise to the customer cites these.
+-- Mirrors of the code: no promise cites these.
 pub mod code

@@ -16,8 +16,8 @@ named_row e = cond (eqb e.kind 5) (node_row e.owner e.name) (leaf_row e.owner e)
 unfoldable pub named_place : List Entry → ℕ → Tree Entry ℕ
 named_place es o = tree 1 (map named_row es) o
 
--- "stands for its n-th description, put in at that place": an item meets a named entry if it fits that description, where D tells which
--- items fit the description of a number
+-- [D5] meets what it stands for: an item meets a named entry if it fits that description, where D tells which items
+-- fit the description of a number
 abbrev pub meets_named : Record → (ℕ → ℕ → Bool) → Entry → ℕ → Bool
 meets_named c D e x = cond (is_named e) (D e.name x) (meets c (atom_of e) x)
 

@@ -19,21 +19,23 @@ use Rattle.blocks.specs.declared.Cause.TheVariants.{Name, Size, Count, Length}
 
 -- ---- a description
 
--- 14: "of more than 1,008 entries or depth over 32 once unfolded"
+-- [R14] too large once unfolded
 unfoldable pub too_large : List Entry → Bool
 too_large es = ltb 1008 (length es) || not (all (depth_ok es) 1 (length es))
 
--- the lines of a description under a dictionary: those of its blocks and entries, and 14 "place 0, after all other checks of that input"
+-- the lines of a description under a dictionary: those of its blocks, of which no more are sent than of any other
+-- [D9], and of its entries, and last 14 [R24]
 unfoldable pub named_faults : List (List Entry) → List ℕ → List Fault
 named_faults K s = faults (Named (length K)) s ++ (fault (too_large (unfolded_by K (entries_of s))) Size 0 ∷ [])
 
--- "A description is now accepted if 13 and 14 don't apply to it either": reading s as input i
+-- [D11] accepted with a dictionary: reading s as input i
 unfoldable pub named_reading : List (List Entry) → ℕ → List ℕ → Reading
 named_reading K i s = answer i (total_in plain s) (first (named_faults K s))
 
 -- ---- no dictionary
 
--- Where no name can be given, an entry that is one is refused as 13; as one of a plain description it would be as 4.
+-- [D10] Where no name can be given, an entry that is one is refused as 13; as one of a plain description it would be
+-- as 4.
 unfoldable pub cause_at : Entry → Cause → Cause
 cause_at e k = cond (eqb (number_of k) 4 && (is_named e && named_form_ok e)) Name k
 
@@ -44,17 +46,18 @@ unnamed e (Ok n) = Ok n
 
 -- ---- a dictionary
 
--- its descriptions, as entries: "a list like P1's, or of length 0 with no descriptions"
+-- its descriptions, as entries: [D1] a list of descriptions, or of length 0
 abbrev pub dictionary_of : List ℕ → List (List Entry)
 dictionary_of D = map entries_of (parts_of D)
 
--- "its n-th description as 100 + n", each in full before the next: those that come after the descriptions of K
+-- [D2] the n-th description is input 100 + n, each in full before the next: those that come after the descriptions of
+-- K
 unfoldable pub parts_reading : List (List Entry) → List (List ℕ) → Reading
 parts_reading K [] = Ok (length K)
 parts_reading K (s ∷ ss) = unless_refused Err (named_reading K (101 + length K) s) (parts_reading (K ++ (entries_of s ∷ [])) ss)
 
--- 1, "no multiple of 512", and 8, more than 64 descriptions, "both input 2, place 0" of a list of services, here "as input 100"; then the
--- descriptions
+-- 1, no multiple of 512, and 8, more than 64 descriptions, at input 2 of a list of services [L6], here at input 100
+-- [D2]; then the descriptions
 unfoldable pub dictionary_reading : List ℕ → Reading
 dictionary_reading D =
     cond (eqb (length D % 512) 0)
@@ -75,6 +78,6 @@ named_unfolding K i s = unless_refused Err (named_reading K i s) (Ok (length (un
 unfoldable pub unfolding_of : List ℕ → ℕ → List ℕ → Reading
 unfolding_of D i s = unless_refused Err (dictionary_reading D) (named_unfolding (dictionary_of D) i s)
 
--- the bytes that a call goes on with: a dictionary of length 0 leaves a description as it is sent
+-- [D13] the bytes that a call goes on with: a dictionary of length 0 leaves a description as it is sent
 unfoldable pub sent_of : List ℕ → List ℕ → List ℕ
 sent_of D s = cond (eqb (length D) 0) s (plain_of D s)

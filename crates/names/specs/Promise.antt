@@ -32,7 +32,7 @@ EachAfter P k (d ∷ ds) = P k d × EachAfter P (suc k) ds
 abbrev pub Each : (ℕ → List Entry → Type 0) → List (List Entry) → Type 0
 Each P K = EachAfter P 0 K
 
--- "Unfolding writes a plain description of the same meaning": the same items fit, in every record
+-- [D7] the unfolded description means the same: the same items fit, in every record
 abbrev pub SameMeaning : List (List Entry) → List Entry → Type 0
 SameMeaning K es = (c : Record) (x : ℕ) → fits c (place_of (unfolded_by K es) 0) x ≡ fits_named c K es x
 
@@ -43,17 +43,17 @@ pub record LegalNamed (most : ℕ) (es : List Entry) : Type 0 where
   pub owner : OwnersOk es
   pub depth : (n : ℕ) → 1 ≤ n → n ≤ length es → depth_ok es n ≡ true
 
--- 14 does not apply, where es are the entries "once unfolded": at most 1,008, and none of "depth over 32"
+-- 14 does not apply, where es are the entries once unfolded [R14]: at most 1,008, and none of depth above 32
 pub record SmallEnough (es : List Entry) : Type 0 where
   pub size : length es ≤ 1008
   pub depth : (n : ℕ) → 1 ≤ n → n ≤ length es → depth_ok es n ≡ true
 
--- "A dictionary description may name only earlier ones", and 14 applies to none, named or not
+-- [D4] names go to earlier descriptions only, and 14 applies to none, named or not
 pub record LegalDictionary (K : List (List Entry)) : Type 0 where
   pub each : Each LegalNamed K
   pub small : (n : ℕ) → SmallEnough (contents K n)
 
--- "A description is now accepted if 13 and 14 don't apply to it either and the call's dictionary isn't refused": by its entries
+-- [D11] accepted with a dictionary: by its entries
 pub record AcceptedNamed (K : List (List Entry)) (es : List Entry) : Type 0 where
   pub dictionary : LegalDictionary K
   pub legal : LegalNamed (length K) es
@@ -64,7 +64,7 @@ pub record Within (size levels : ℕ) : Type 0 where
   pub few : size ≤ 1008
   pub shallow : levels ≤ 33
 
--- "Unfolding writes a plain description of the same meaning": one that no rule refuses
+-- [D7] the unfolded description means the same: one that no rule refuses
 pub record UnfoldsPlainly (K : List (List Entry)) (es : List Entry) : Type 0 where
   pub legal : Legal Description (unfolded_by K es)
   pub plain : Plain (unfolded_by K es)

@@ -25,8 +25,9 @@ relocate m o e = owned_by (shifted m o e.owner) e
 abbrev pub noted : {A : Type 0} → (ℕ → A) → ℕ → A → ℕ → A
 noted f k x j = cond (eqb j k) x (f j)
 
--- "each named entry replaced by the contents, taken over in their order": entries that count from k, where m are written, T gives the
--- contents of each name, and ν the new number of each entry that may own others. A name of empty contents leaves nothing.
+-- [D6] the contents of a name stand where it stood, in their order: entries that count from k, where m are written, T
+-- gives the contents of each name, and ν the new number of each entry that may own others. A name of empty contents
+-- leaves nothing.
 unfoldable pub unfold_from : (ℕ → List Entry) → (ℕ → ℕ) → ℕ → ℕ → List Entry → List Entry
 unfold_from T ν k m [] = []
 unfold_from T ν k m (e ∷ es) =
@@ -40,8 +41,8 @@ unfolded T es = unfold_from T (λ j. j) 1 0 es
 
 -- ---- a dictionary
 
--- "A dictionary description may name only earlier ones": what f makes of each description in turn, from what it made of the earlier
--- ones. The descriptions count from k, and `made` gives what there is before them.
+-- [D4] names go to earlier descriptions only: what f makes of each description in turn, from what it made of the
+-- earlier ones. The descriptions count from k, and `made` gives what there is before them.
 unfoldable pub in_turn : {A : Type 0} → ((ℕ → A) → List Entry → A) → (ℕ → A) → ℕ → List (List Entry) → ℕ → A
 in_turn f made k [] = made
 in_turn f made k (d ∷ ds) = in_turn f (noted made k (f made d)) (suc k) ds
@@ -54,6 +55,6 @@ described K = in_turn (λ made d. d) (λ n. []) 1 K
 unfoldable pub contents : List (List Entry) → ℕ → List Entry
 contents K = in_turn unfolded (λ n. []) 1 K
 
--- "a plain description of the same meaning": the description that es stands for, under a dictionary
+-- [D7] a plain description of the same meaning: the description that es stands for, under a dictionary
 unfoldable pub unfolded_by : List (List Entry) → List Entry → List Entry
 unfolded_by K es = unfolded (contents K) es

@@ -1,4 +1,4 @@
--- Mirrors of the code: no promise to the customer cites these.
+-- Mirrors of the code: no promise cites these.
 
 -- Unfolding in passes: each replaces all names that are there.
 pub mod Passes

@@ -34,12 +34,12 @@ pub record Ready (d out : List ℕ) : Type 0 where
 module _ (b : Background) (d out : List ℕ) where
   -- ---- the ways to an answer
 
-  -- "input 1 in full"
+  -- [R25] input 1 first
   pub input-refused : {k : Cause} {i p : ℕ} → reading_of Description 1 d ≡ refused k i p → normalise_under b d out ≡ refused k i p
   unfolding normalise_under
   input-refused e = rw (normalise_under, e)
 
-  -- "then 7"
+  -- [R25] 7 last
   pub too_short : {n : ℕ} → reading_of Description 1 d ≡ Ok n → length out < length d → normalise_under b d out ≡ refused Room 0 0
   unfolding normalise_under
   too_short e h = rw (normalise_under, e, lt-ltb h)
@@ -86,19 +86,19 @@ module _ (b : Background) (d out : List ℕ) where
   unfolding normalised_under
   refused-output e = ap (output_after b d out) e
 
-  -- ---- the paper's numbers
+  -- ---- the numbers of each case [K6]
 
-  -- "In one input: .."
+  -- [R24] by the first that applies
   pub returned-refusal : {k : Cause} {p : ℕ} → FirstOf (faults Description d) k p
       → returned (normalise_under b d out) ≡ record { entries = 0; number = number_of k; input = 1; place = p }
   returned-refusal f = ap returned (input-refused (refused-by-first Description 1 d f))
 
-  -- "then 7", "0 for number 7"
+  -- [R25] 7 last, [R23] at input 0
   pub returned-short : NoneApplies (faults Description d) → length out < length d
       → returned (normalise_under b d out) ≡ record { entries = 0; number = 7; input = 0; place = 0 }
   returned-short n h = ap returned (too_short (accepted-by-none Description 1 d n) h)
 
-  -- "The answer is the number of entries."
+  -- [N15] the answer is the number of entries
   pub returned-entries : NoneApplies (faults Description d) → length d ≤ length out
       → returned (normalise_under b d out) ≡ record { entries = length (normal_entries b (entries_of d)); number = 0; input = 0; place = 0 }
   returned-entries n h =
@@ -107,7 +107,7 @@ module _ (b : Background) (d out : List ℕ) where
 -- ---- under a list of pairs
 
 module _ (P d out : List ℕ) where
-  -- "11 .. before any other check"
+  -- [R25] 11 before all else
   pub list-refused : {k : Cause} {i p : ℕ} → pairs_reading P ≡ refused k i p → normalise_of P d out ≡ refused k i p
   unfolding normalise_of
   list-refused e = rw (normalise_of, e)
@@ -134,6 +134,6 @@ module _ (P d out : List ℕ) where
       (λ j i p q. let y = list-refused q in let z : ◌≡◌ {A = ℕ} 0 1 = cc in absurd (omega arith))
       (λ n q. f n q (sym (list_read q) ∙ e))
 
--- "With an empty list all answers match those from before."
+-- [S11] an empty list is none
 pub empty-list : (d out : List ℕ) → (normalise_of [] d out ≡ normalise_under standing d out) × (normalised_of [] d out ≡ normalised_under standing d out)
 empty-list d out = (list_read [] d out empty-read ∙ rw empty-standing, list-output [] d out empty-read ∙ rw empty-standing)

@@ -12,18 +12,19 @@ use Rattle.meaning.specs.NormalEntries.{normal_entries}
 use Rattle.pairs.specs.Pairs.{pairs_reading, under}
 use Rattle.blocks.specs.declared.Cause.TheVariants.{Room}
 
--- "One input; the output is at least as long"; 7 otherwise, "0 for number 7". "The answer is the number of entries."
+-- [N14] one input, and an output as long; 7 otherwise, [R23] at input 0. [N15] the answer is the number of entries
 abbrev pub room_of : Background → List ℕ → List ℕ → Reading
 room_of b d out = cond (ltb (length out) (length d)) (refused Room 0 0) (Ok (length (normal_entries b (entries_of d))))
 
 abbrev pub read_of : Background → List ℕ → List ℕ → Reading → Reading
 read_of b d out r = unless_refused Err r (room_of b d out)
 
--- "Order: input 1 in full, .. then 7."
+-- [R25] the input first, 7 last
 unfoldable pub normalise_under : Background → List ℕ → List ℕ → Reading
 normalise_under b d out = read_of b d out (reading_of Description 1 d)
 
--- the output after each answer: "Written in blocks from the start of the output"; "later bytes stay"; a refusal leaves it "unchanged"
+-- the output after each answer: [N15] blocks from the start; [N15] later bytes stay; a refusal leaves it as it was
+-- [R21]
 abbrev pub output_after : Background → List ℕ → List ℕ → Reading → List ℕ
 output_after b d out (Ok k) = encode (normal_entries b (entries_of d)) ++ drop (512 * blocks_for plain k) out
 output_after b d out (Err e) = out
@@ -33,14 +34,15 @@ normalised_under b d out = output_after b d out (normalise_under b d out)
 
 -- ---- under a list of pairs
 
--- "11, input 0, before any other check"
+-- [R25] 11 before all else
 unfoldable pub normalise_of : List ℕ → List ℕ → List ℕ → Reading
 normalise_of P d out = unless_refused Err (pairs_reading P) (normalise_under (under P) d out)
 
 unfoldable pub normalised_of : List ℕ → List ℕ → List ℕ → List ℕ
 normalised_of P d out = output_after (under P) d out (normalise_of P d out)
 
--- The paper's numbers for each case: the number of entries; the number returned, the input and the place. 0 where a case has none.
+-- [K6] The numbers of each case: the number of entries; the number returned, the input and the place. 0 where a case
+-- has none.
 pub record Returned : Type 0 where
   pub entries : ℕ
   pub number : ℕ

@@ -18,7 +18,7 @@ use Rattle.meaning.specs.Rules.{Applies}
 use Rattle.normal.specs.Answer.{normalise_of, normalised_of}
 use Rattle.pairs.specs.Pairs.{under}
 
--- the same items fit both inputs, in every finite record that keeps the background
+-- [N16] the same items fit both inputs, in every finite record that keeps the background
 abbrev pub SameItems : Background → List ℕ → List ℕ → Type 0
 SameItems b c d = Equivalent b (place_of (entries_of c) 0) (place_of (entries_of d) 0)
 
@@ -28,16 +28,16 @@ pub record Normalises (P d out : List ℕ) (k : ℕ) : Type 0 where
   pub room : 512 * blocks_for plain k ≤ length out
   pub shorter : 512 * blocks_for plain k ≤ length d
   pub later : drop (512 * blocks_for plain k) (normalised_of P d out) ≡ drop (512 * blocks_for plain k) out
-  -- they are a description of k entries, no more than the input has
+  -- [N19] they are a description of k entries, no more than the input has
   pub blocks : first_blocks k (normalised_of P d out) ≡ encode (normal_entries (under P) (entries_of d))
   pub accepted : reading_of Description 1 (first_blocks k (normalised_of P d out)) ≡ Ok k
   pub few : k ≤ length (entries_of d)
   pub ascending : Sorted entry_before (entries_of (first_blocks k (normalised_of P d out)))
-  -- "none of the nine rules applies" to the entries that are read back from them, nor that equal entries become one
+  -- [N17] no rule applies to the entries that are read back from them, nor that equal entries become one
   pub irreducible : (n : ℕ) → Applies (under P) n (entries_of (first_blocks k (normalised_of P d out))) → ⊥
   -- the same items fit them as the input
   pub same : SameItems (under P) (first_blocks k (normalised_of P d out)) d
-  -- they are normalised to themselves, into any output that is as long
+  -- [N18] they are normalised to themselves, into any output that is as long
   pub again : (out' : List ℕ) → 512 * blocks_for plain k ≤ length out'
       → (normalise_of P (first_blocks k (normalised_of P d out)) out' ≡ Ok k)
       × (first_blocks k (normalised_of P (first_blocks k (normalised_of P d out)) out') ≡ first_blocks k (normalised_of P d out))
@@ -52,8 +52,8 @@ NormalisedAs P c n =
 abbrev pub Right : List ℕ → Line → Type 0
 Right P (normalises c n) = NormalisedAs P c n
 
--- "The rules leave nothing out": what holds of an accepted description whose entries ascend, and to which none of them applies. It is
--- normalised to its own bytes, into each output that is as long
+-- [N17] the rules leave nothing out: what holds of an accepted description whose entries ascend, and to which none of
+-- them applies. It is normalised to its own bytes, into each output that is as long
 abbrev pub OwnNormalForm : List ℕ → List ℕ → Type 0
 OwnNormalForm P d =
     (out : List ℕ) → length d ≤ length out

@@ -1,4 +1,4 @@
--- Mirrors of the code: the contracts of its functions cite these, and no promise to the customer does.
+-- Mirrors of the code: the contracts of its functions cite these, and no promise does.
 
 -- The cells of a place from its two runs, and the tables of the runs, as the code keeps them.
 pub mod ClassRuns

@@ -8,15 +8,15 @@ use Rattle.compare.specs.Answer.{Comparison}
 use Rattle.fit.specs.Answer.{FitAnswer}
 use Rattle.fit.specs.declared.Counted.{Counted}
 
--- "answer + 256 · number + 65,536 · first + 4,294,967,296 · second"
+-- [K5] the four fields of an answer
 abbrev pub packed : ℕ → ℕ → ℕ → ℕ → ℕ
 packed answer number first second = answer + 256 * number + 65536 * first + 4294967296 * second
 
--- "refused | 0 | refusal's number | input | place"
+-- [K5] a refusal: 0, its number, input and place
 abbrev pub pack_refusal : Refusal → ℕ
 pack_refusal e = packed 0 (number_of e.cause) e.input e.place
 
--- "a count (entries read, entries written, bytes filled) | 1 | 0 | 0 | the count"
+-- [K5] a count: 1, and the count in the second field
 abbrev pub counted : ℕ → ℕ
 counted count = packed 1 0 0 count
 
@@ -25,13 +25,13 @@ abbrev pub pack_reading : Reading → ℕ
 pack_reading (Ok count) = counted count
 pack_reading (Err e) = pack_refusal e
 
--- fitting: "yes; contained | 1 | 0 | 0 | 0", "no | 2 | 0 | 0 | 0"
+-- fitting: [K5] 1 for yes and contained, 2 for no
 abbrev pub pack_fit : FitAnswer → ℕ
 pack_fit (Ok true) = packed 1 0 0 0
 pack_fit (Ok false) = packed 2 0 0 0
 pack_fit (Err e) = pack_refusal e
 
--- fitting with counts: "yes, no; first: additions in the walk, second: additions in making the table"
+-- fitting with counts: [K5] additions in the walk, then in the table
 abbrev pub pack_adds : FitAnswer → ℕ → ℕ → ℕ
 pack_adds (Ok true) walk table = packed 1 0 walk table
 pack_adds (Ok false) walk table = packed 2 0 walk table
@@ -40,7 +40,7 @@ pack_adds (Err e) walk table = pack_refusal e
 abbrev pub pack_counted : Counted → ℕ
 pack_counted c = pack_adds c.answer c.walk c.table
 
--- comparing: "not contained | 2 | 0 | number of the entry that fails | entries of the specimen"
+-- comparing: [K5] not contained: 2, the entry that fails, the specimen's total
 abbrev pub pack_comparison : Comparison → ℕ
 pack_comparison (Ok None) = packed 1 0 0 0
 pack_comparison (Ok (Some n)) = packed 2 0 n.entry n.entries

@@ -2,7 +2,7 @@
 -- Assumes nothing.
 use Rattle.std.specs.Prelude.{◌%◌, ◌/◌, ℕ, ◌≡◌}
 
--- "answer (bits 0-7) | number (8-15) | first (16-31) | second (32-63)"
+-- [K5] which bits the fields have
 pub record Fields (r answer number first second : ℕ) : Type 0 where
   pub low : r % 256 ≡ answer
   pub next : r / 256 % 256 ≡ number

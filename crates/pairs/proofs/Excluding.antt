@@ -46,7 +46,7 @@ module _ (P : List ℕ) where
   none-excludes p q h =
       not-to-false (all_of (λ k. not (is_pair P p q k)) 1 (pair_count P) (λ k lo hi. not-to-true (h k lo (omega arith))))
 
-  -- "pairs are unordered"
+  -- [S7] a pair has no direction
   pub excludes-turned : (p q : ℕ) → excludes_in P p q ≡ excludes_in P q p
   unfolding excludes_in
   excludes-turned p q = ap not (all-ext _ _ 1 (pair_count P) (λ k lo hi. ap not (pair-unordered p q k)))

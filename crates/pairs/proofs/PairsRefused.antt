@@ -52,7 +52,7 @@ module _ (P : List ℕ) where
     unfolding pairs_reading
     finding = refused-finding 0 (pair_count P) (first (pair_faults P)) e
 
-    -- "11, input 0": the first that applies
+    -- [R11] 11: the first that applies
     pub first-of-pairs : (k ≡ Pairs) × ((i ≡ 0) × FirstOf (pair_faults P) k p)
     first-of-pairs = ((wrong-place finding.1).0, (finding.0, found_first (pair_faults P) k p finding.1))
 

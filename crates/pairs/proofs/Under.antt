@@ -53,14 +53,14 @@ module _ (P : List ℕ) (r : Record) where
     exclusions = λ p q x e h. and-never (λ a b. both_ways e (none-excludes P p q (λ i lo hi. clash none p q x i lo hi h a b)));
   }
 
-  -- "records must keep it": what every record keeps, and that no item has both of a pair
+  -- [S8] records keep the list: what every record keeps, and that no item has both of a pair
   pub keeps-exactly : Keeps (under P) r ↔ (Keeps standing r × NoneHasBoth P r)
   keeps-exactly = (
     (λ k. (record { caps = k.caps; exclusions = λ p q x e h. absurd (false≢true e) }, kept-apart k)),
     (λ k. apart-kept k.0 k.1),
   )
 
--- ---- "With an empty list all answers match those from before"
+-- ---- an empty list is none [S11]
 
 pub under-empty : (p q : ℕ) → excludes_in [] p q ≡ false
 unfolding excludes_in pair_count all

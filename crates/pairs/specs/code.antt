@@ -1,4 +1,4 @@
--- Mirrors of the code: the contracts of its functions cite these, and no promise to the customer does.
+-- Mirrors of the code: the contracts of its functions cite these, and no promise does.
 
 -- The test that the search for a wrong pair makes, and what a search answers.
 pub mod Search

@@ -1,4 +1,4 @@
--- Mirrors of the code: the contracts of its functions cite these, and no promise to the customer does.
+-- Mirrors of the code: the contracts of its functions cite these, and no promise does.
 
 -- The slots of a description: what the fast normal form computes from its rows, pass by pass, on lists.
 pub mod Slots

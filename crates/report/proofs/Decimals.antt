@@ -76,7 +76,7 @@ read = by_digits Read one more
           lead = λ e. let z = r.lead (rw (first-kept t d r.some) at e) in absurd (omega arith);
         }
 
--- "all fields are in decimal"
+-- [Q4] fields in decimal
 pub decimal-right : (n : ℕ) → Decimal n (decimal n)
 decimal-right n =
     let r = read n in

@@ -21,7 +21,7 @@ numbered-accepted i s e = numbered Description s (sound-of-accepted Description 
 
 -- ---- on standard input
 
--- "C runs up to the first later whole block with number 1, D is the rest"
+-- [Q2] C up to the first later block numbered 1, then D
 pub joined-divides : (i j : ℕ) (c d : List ℕ) {n m : ℕ} → reading_of Description i c ≡ Ok n → reading_of Description j d ≡ Ok m
     → first_length (c ++ d) ≡ length c
 joined-divides i j c d p q =
@@ -36,6 +36,6 @@ joined-parts i j c d p q =
     let e = joined-divides i j c d p q in
     (rw (e, take-append_seam), rw (e, drop-append_seam))
 
--- "with no such block C is all of it and D has length 0": as with one description alone
+-- [Q2] without one, C is all: as with one description alone
 pub alone-parts : (i : ℕ) (c : List ℕ) {n : ℕ} → reading_of Description i c ≡ Ok n → (first_part c ≡ c) × (second_part c ≡ [])
 alone-parts i c p = no_second c (begins-none (numbered-accepted i c p))

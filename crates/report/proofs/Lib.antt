@@ -6,7 +6,7 @@ pub mod Joined
 pub mod Printed
 -- What the program writes, to its last byte: by the input, and by the answer.
 pub mod PrintedText
--- The lines that the paper gives, to their last byte.
+-- The lines of the third case and of a property, to their last byte.
 pub mod SecondExample
 -- The lines of a specimen that is written at the start of the output are the lines of its entries.
 pub mod WrittenLines

@@ -40,17 +40,18 @@ printed s out = lines_for (first_part s) (second_part s) out
 -- ---- by the answer
 
 module _ (c d out : List ℕ) where
-  -- "It prints `contained`"
+  -- [Q3] contained
   pub contained-lines : compare_named [] [] c d out ≡ Ok None → lines_for c d out ≡ Contained ∷ []
   unfolding lines_of lines_from
   contained-lines e = rw (lines_of, e)
 
-  -- "or `refused N input I place P`"
+  -- [Q3] a refusal
   pub refused-lines : {e : Refusal} → compare_named [] [] c d out ≡ Err e → lines_for c d out ≡ Refused e ∷ []
   unfolding lines_of lines_from
   refused-lines h = rw (lines_of, h)
 
-  -- "or `not contained E` and one line for each specimen entry": of the specimen that the comparison's theorems speak of
+  -- [Q3] not contained, then a line for each entry of the specimen: of the specimen that the comparison's theorems
+  -- speak of
   pub not-contained-lines : {j k : ℕ} → compare_named [] [] c d out ≡ not_contained j k
       → lines_for c d out ≡ NotContained j ∷ entry_lines 1 (specimen_of standing (entries_of c) (entries_of d))
   unfolding lines_of output_under
@@ -80,7 +81,7 @@ length-wrong s h n =
     eq-cases (length s) 0 (λ q. rw (length_wrong, eq-eqb q))
     (λ q. let r : length s % 512 ≢ 0 = λ z. omega arith in rw (length_wrong, ne_eqb q, ne_eqb r))
 
--- "612 bytes or nothing at all: `refused 1 input 1 place 0`": so for every input that is shorter than two blocks and is not one block
+-- [Q5] 612 bytes, or none: so for every input that is shorter than two blocks and is not one block
 pub short-printed : (s out : List ℕ) → length s < 1024 → length s ≢ 512 → printed s out ≡ Refused (refusal Length 1 0) ∷ []
 short-printed s out h n =
     let none = no_second s (λ k b. let w = b.whole in let l = b.later in omega arith) in
@@ -88,7 +89,7 @@ short-printed s out h n =
     (plain-refused (first_part s) (second_part s) out (λ z. omega arith)
     (first-refused standing (first_part s) (second_part s) out (ap (reading_of Description 1) none.0 ∙ length-refused 1 s (length-wrong s h n))))
 
--- "A valid C alone: `refused 1 input 2 place 0`"
+-- [Q5] an accepted C alone
 pub alone-printed : (c out : List ℕ) {n : ℕ} → reading_of Description 1 c ≡ Ok n → printed c out ≡ Refused (refusal Length 2 0) ∷ []
 alone-printed c out e =
     let parts = alone-parts 1 c e in

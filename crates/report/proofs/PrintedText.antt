@@ -48,7 +48,7 @@ module _ (a : Comparison) (blocks : List ℕ) where
 pub program-text : (s : List ℕ) {t : List ℕ} → Prints s t → t ≡ lines_text (printed s lent)
 program-text s p = all-written p.answer p.blocks p.written ∙ ap₂ (λ (a : Comparison) (b : List ℕ). lines_text (lines_of a b)) p.answered p.shown
 
--- the output that it lends "is at least as long as both", so it never prints refusal 7
+-- the output that it lends is as long as both together [C1], so it never prints refusal 7
 pub output-room : (s : List ℕ) → length s ≤ input_bytes → length (first_part s) + length (second_part s) ≤ length lent
 output-room s h =
     let both : length (first_part s) + length (second_part s) ≡ length s = sym (length-append (first_part s) (second_part s)) ∙ ap length (parts_join s) in
@@ -57,24 +57,24 @@ output-room s h =
 -- ---- by the answer
 
 module _ (c d out : List ℕ) where
-  -- "It prints `contained`"
+  -- [Q3] contained
   pub contained-text : compare_named [] [] c d out ≡ Ok None → lines_text (lines_for c d out) ≡ ascii "contained\n"
   unfolding lines_text line_text line_words
   contained-text e = ap lines_text (contained-lines c d out e)
 
-  -- "or `refused N input I place P`"
+  -- [Q3] a refusal
   pub refused-text : {e : Refusal} → compare_named [] [] c d out ≡ Err e
       → lines_text (lines_for c d out) ≡ ascii "refused " ++ (decimal (number_of e.cause) ++ (ascii " input " ++ (decimal e.input ++ (ascii " place " ++ (decimal e.place ++ ascii "\n")))))
   unfolding lines_text line_text line_words
   refused-text h = ap lines_text (refused-lines c d out h) ∙ rw append-nil (simp append_assoc)
 
-  -- "or `not contained E` and one line for each specimen entry"
+  -- [Q3] not contained, then a line for each entry of the specimen
   pub not-contained-text : {j k : ℕ} → compare_named [] [] c d out ≡ not_contained j k
       → lines_text (lines_for c d out) ≡ ascii "not contained " ++ (decimal j ++ (ascii "\n" ++ lines_text (entry_lines 1 (specimen_of standing (entries_of c) (entries_of d)))))
   unfolding lines_text line_text line_words
   not-contained-text e = ap lines_text (not-contained-lines c d out e) ∙ simp append_assoc
 
--- "`has` or `group` with its entry number"; "`count` is the number of items, one more than the stored number"
+-- [Q3] `has` or `group` with its entry number; [Q4] `count` is one more than what is stored
 module _ (n : ℕ) (e : Entry) where
   pub has-text : e.kind ≢ 7 → line_text (entry_line n e)
       ≡ ascii "has " ++ (decimal n ++ (ascii " owner " ++ (decimal e.owner ++ (ascii " property " ++ (decimal e.name ++ ascii "\n")))))
@@ -89,12 +89,12 @@ module _ (n : ℕ) (e : Entry) where
 
 -- ---- by the input
 
--- "612 bytes or nothing at all: `refused 1 input 1 place 0`"
+-- [Q5] 612 bytes, or none
 pub short-text : (s out : List ℕ) → length s < 1024 → length s ≢ 512 → lines_text (printed s out) ≡ ascii "refused 1 input 1 place 0\n"
 unfolding lines_text line_text line_words decimal digits_of
 short-text s out h n = ap lines_text (short-printed s out h n)
 
--- "A valid C alone: `refused 1 input 2 place 0`"
+-- [Q5] an accepted C alone
 pub alone-text : (c out : List ℕ) {n : ℕ} → reading_of Description 1 c ≡ Ok n → lines_text (printed c out) ≡ ascii "refused 1 input 2 place 0\n"
 unfolding lines_text line_text line_words decimal digits_of
 alone-text c out e = ap lines_text (alone-printed c out e)

@@ -1,4 +1,4 @@
--- The lines that the paper gives, to their last byte.
+-- The lines of the third case and of a property, to their last byte.
 -- Assumes nothing.
 use Prim.Native.Nat.{◌+◌, ◌≤◌, ℕ}
 use lib.ListN.{length, length-replicate}
@@ -26,12 +26,12 @@ use Rattle.report.specs.declared.Line.TheVariants.{NotContained}
 abbrev entry : ℕ → ℕ → ℕ → ℕ → Entry
 entry k o name number = record { kind = k; reserved = 0; owner = o; name = name; number = number }
 
--- "A property line reads `has 1 owner 0 property 7`"
+-- [Q3] the line of a property
 pub property-line : line_text (entry_line 1 (entry 1 0 7 0)) ≡ ascii "has 1 owner 0 property 7\n"
 unfolding entry_line line_text line_words decimal digits_of
 property-line = refl
 
--- ---- the second example: "C: 5,1 [3,2,1]. D: 5,1 [3,2,1; 4,2,1]."
+-- ---- the third case [C16]: C is `5,1 [3,2,1]`, D is `5,1 [3,2,1; 4,2,1]`
 
 abbrev c₂ : List Entry
 c₂ = entry 5 0 1 0 ∷ entry 3 1 2 1 ∷ []
@@ -42,7 +42,7 @@ d₂ = entry 5 0 1 0 ∷ entry 3 1 2 1 ∷ entry 4 1 2 1 ∷ []
 abbrev shown₂ : List Entry
 shown₂ = entry 7 0 1 0 ∷ entry 7 1 2 1 ∷ []
 
--- "For the second example it prints exactly:"
+-- [Q6] what it prints for the third case
 abbrev text₂ : List ℕ
 text₂ = ascii "not contained 3\ngroup 1 owner 0 link 1 count 1\ngroup 2 owner 1 link 2 count 2\n"
 

@@ -47,7 +47,7 @@ lent = replicate input_bytes 0
 pub record Prints (s t : List ℕ) : Type 0 where
   pub answer : Comparison
   pub blocks : List ℕ
-  -- "the program passes length 0, and no pairs"
+  -- [Q3] a dictionary of length 0, and no pairs; without a second part D has length 0 [Q5]
   pub answered : answer ≡ compare_named [] [] (first_part s) (second_part s) lent
   pub shown : blocks ≡ output_named [] [] (first_part s) (second_part s) lent
   pub written : Writes answer blocks 0 (suc (specimen_lines answer)) t

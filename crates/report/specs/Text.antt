@@ -13,7 +13,7 @@ abbrev pub ascii : String → List ℕ
 ascii string.[] = []
 ascii (string.◌∷◌ c s) = code c ∷ ascii s
 
--- ---- "all fields are in decimal"
+-- ---- fields in decimal [Q4]
 
 -- the digits of n, where `most` is at least their number: those of a tenth of it, and then its last digit; `0` to `9` are 48 to 57
 unfoldable pub digits_of : ℕ → ℕ → List ℕ
@@ -66,6 +66,6 @@ lines_text (l ∷ ls) = line_text l ++ lines_text ls
 
 -- ---- the input
 
--- "The program reads at most 16,385 bytes of standard input"
+-- [Q1] at most 16,385 bytes of standard input
 abbrev pub input_bytes : ℕ
 input_bytes = 16385

@@ -1,9 +1,10 @@
 // The program's input and output: how much is read, where the input divides into two descriptions, what each printed line says, and its
 // bytes. The program itself only reads, calls and writes.
 //
-// The contracts cite specs/Lines and specs/Text, and the parts of crate lists. What these mean is proved in proofs/: that two accepted
-// descriptions, joined, divide into just these two, that the lines after the first are those of the specimen's entries, that what is
-// written are the bytes of these lines, one after the other, and the lines that the paper gives.
+// The contracts cite specs/Lines and specs/Text, and the parts of crate lists. What these mean is proved in proofs/:
+// that two accepted descriptions, joined, divide into just these two, that the lines after the first are those of the
+// specimen's entries, that what is written are the bytes of these lines, one after the other, and what is printed for
+// the third case.
 #![tactic(auto)]
 
 mod input;

@@ -1,4 +1,4 @@
--- Mirrors of the code: the contracts of its functions cite these, and no promise to the customer does.
+-- Mirrors of the code: the contracts of its functions cite these, and no promise does.
 
 -- The run and the name of a slot, and the chains of the runs.
 pub mod Chained

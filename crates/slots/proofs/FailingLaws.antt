@@ -39,13 +39,13 @@ accepted-few i d e =
 -- ---- two inputs
 
 module _ (b : Background) (room : ℕ) (c d : List ℕ) where
-  -- "input 1 in full"
+  -- [R25] input 1 first
   pub first-refused : {x : Refusal} → reading_of Description 1 c ≡ Err x → holding_under b room c d ≡ Err x
   unfolding holding_under
   first-refused e = rw (holding_under, e)
 
   module _ {n : ℕ} (e : reading_of Description 1 c ≡ Ok n) where
-    -- "input 2 in full"
+    -- [R25] then input 2
     pub second-refused : {x : Refusal} → reading_of Description 2 d ≡ Err x → holding_under b room c d ≡ Err x
     unfolding holding_under
     second-refused f = rw (holding_under, e, f)
@@ -55,7 +55,7 @@ module _ (b : Background) (room : ℕ) (c d : List ℕ) where
       unfolding holding_under
       both_read = rw (holding_under, e, f)
 
-      -- "then 7"
+      -- [R25] 7 last
       pub no_room : room ≤ length (entries_of c) → holding_under b room c d ≡ refused Room 0 0
       no_room l = both_read ∙ rw (ge-ltb l)
 
@@ -114,10 +114,10 @@ module _ (b : Background) (room : ℕ) (c d : List ℕ) where
       let f : failing_in b c d ≡ x.entry = ap (λ (h : Unheld). h.entry) g in
       (r, f, λ q. z (f ∙ q)))
 
--- ---- the paper's numbers
+-- ---- the numbers of each case [K6]
 
 module _ (b : Background) (room : ℕ) (c d : List ℕ) where
-  -- "In one input: .." of input 1
+  -- [R24] by the first that applies of input 1
   pub returned-first : {k : Cause} {p : ℕ} → FirstOf (faults Description c) k p
       → holding_returned (holding_under b room c d) ≡ record { all = none; entry = 0; number = number_of k; input = 1; place = p }
   returned-first f = ap holding_returned (first-refused b room c d (refused-by-first Description 1 c f))
@@ -128,7 +128,7 @@ module _ (b : Background) (room : ℕ) (c d : List ℕ) where
   returned-second n f = ap holding_returned (second-refused b room c d (accepted-by-none Description 1 c n) (refused-by-first Description 2 d f))
 
   module _ (n : NoneApplies (faults Description c)) (m : NoneApplies (faults Description d)) where
-    -- then 7, "0 for number 7"
+    -- then 7, [R23] at input 0
     pub returned-short : room ≤ length (entries_of c) → holding_returned (holding_under b room c d) ≡ record { all = none; entry = 0; number = 7; input = 0; place = 0 }
     returned-short l = ap holding_returned (no_room b room c d (accepted-by-none Description 1 c n) (accepted-by-none Description 2 d m) l)
 
@@ -141,7 +141,7 @@ module _ (b : Background) (room : ℕ) (c d : List ℕ) where
 -- ---- under a list of pairs
 
 module _ (P : List ℕ) (room : ℕ) (c d : List ℕ) where
-  -- "11 .. before any other check"
+  -- [R25] 11 before all else
   pub list-refused : {x : Refusal} → pairs_reading P ≡ Err x → holding_of P room c d ≡ Err x
   unfolding holding_of
   list-refused e = rw (holding_of, e)

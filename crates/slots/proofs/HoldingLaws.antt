@@ -129,14 +129,14 @@ module _ {b : Background} (law : LawfulBackground b) (rs : List (Row Atom ℕ)) 
       let hi : Option ℕ = high_at (slots_under b rs) (slot_for (slots_under b rs) v false n) in
       rw (place-lists b rs v lacks n) (bool_cases (found hi) (λ q. rw q) (λ q. rw q))
 
-  -- "n = 0 or at least m with m ≥ n"
+  -- [C4] at least n
   least-said : (v l m : ℕ) → leb m (low_at (slots_under b rs) (slot_for (slots_under b rs) v true l)) ≡ enough m (find least l (form (slots_under b rs) v))
   least-said v l m =
       let lo : ℕ = low_at (slots_under b rs) (slot_for (slots_under b rs) v true l) in
       let none : lo ≡ 0 → leb m lo ≡ eqb m 0 = λ q. iff-eq (λ h. omega tests) (λ h. omega tests) in
       rw (place-lists b rs v least l) (eq-cases lo 0 (λ q. rw (eq-eqb q) (none q)) (λ q. rw (ne_eqb q)))
 
-  -- "at most m with m ≤ n"
+  -- [C4] at most n
   most-said : (v l m : ℕ) → at_most m (high_at (slots_under b rs) (slot_for (slots_under b rs) v true l)) ≡ at_most m (find most l (form (slots_under b rs) v))
   most-said v l m = rw (place-lists b rs v most l)
 
@@ -158,7 +158,7 @@ module _ {b : Background} (law : LawfulBackground b) (rs : List (Row Atom ℕ)) 
       (λ z₃. eq-cases e.kind 4 (λ q. rw (q, most-said v e.name e.number))
       (λ z₄. let q : e.kind ≡ 6 = omega arith in rw q))))
 
-  -- "N has at most 0 of the next link": no cap says that
+  -- [C3] at most 0 of the next link: no cap says that
   none_said : (v l : ℕ) → at_most 0 (high_at (slots_under b rs) (slot_for (slots_under b rs) v true l)) ≡ supports b (form (slots_under b rs) v) (atom most l 0)
   none_said v l = most-said v l 0 ∙ rw (cap-open law l) (sym (or-false _))
 
@@ -222,7 +222,7 @@ module _ {b : Background} (law : LawfulBackground b) (rs : List (Row Atom ℕ)) 
 
 -- ---- the entries that hold
 
--- "kind 5 always holds"
+-- [C4] an 'every' always holds
 pub every_holds : (b : Background) (ss : List Slot) (s : ℕ) (e : Entry) → e.kind ≡ 5 → holds_in_state b ss s e ≡ true
 unfolding holds_in_state supported_by
 every_holds b ss s e q = rw (holds_in_state, q) (bool_cases (eqb s passed) (λ z. rw z) (λ z. rw z))

@@ -14,14 +14,15 @@ use Rattle.blocks.specs.declared.Cause.TheVariants.{Count, Length}
 
 -- ---- the refusals
 
--- "1 for a list of length 0 or no multiple of 512", "8: more than 64 services", "both at input 2, place 0". "The first block, and each
--- later one numbered 1, begins a service": the list is cut before any block is checked.
+-- [L6] 1 for a list of length 0 or no multiple of 512, 8 for more than 64 services, both at input 2, place 0. [L1]
+-- each block numbered 1 begins a service: the list is cut before any block is checked, and descriptions laid end to
+-- end are cut into just those [L2].
 unfoldable pub cut_reading : List ℕ → Reading
 cut_reading list =
     cond (eqb (length list) 0 || not (eqb (length list % 512) 0)) (refused Length 2 0)
     (cond (ltb 64 (length (parts_of list))) (refused Count 2 0) (Ok (length (parts_of list))))
 
--- "Inside the list the input number is 1 plus the service's position": those from input i on, each in full before the next
+-- [L5] the n-th service is input 1 + n: those from input i on, each in full before the next
 unfoldable pub services_reading : List (List Entry) → ℕ → List (List ℕ) → Reading
 services_reading K i [] = Ok 0
 services_reading K i (d ∷ ds) = unless_refused Err (named_unfolding K i d) (services_reading K (suc i) ds)
@@ -30,13 +31,13 @@ services_reading K i (d ∷ ds) = unless_refused Err (named_unfolding K i d) (se
 unfoldable pub listed_reading : List ℕ → List ℕ → Reading
 listed_reading D list = unless_refused Err (cut_reading list) (unless_refused Err (services_reading (dictionary_of D) 2 (parts_of list)) (Ok (length (parts_of list))))
 
--- 11, the dictionary, "the supplier's checks", the list and its services
+-- 11, the dictionary, [L6] the supplier's checks, the list and its services
 unfoldable pub list_reading : List ℕ → List ℕ → List ℕ → List ℕ → Reading
 list_reading P D c list = unless_refused Err (pairs_reading P) (unless_refused Err (unfolding_of D 1 c) (listed_reading D list))
 
 -- ---- the bytes
 
--- "1 contained, 0 not": the byte of a service, by the bytes that a call goes on with for the supplier
+-- [L3] 1 for contained, 0 for not: the byte of a service, by the bytes that a call goes on with for the supplier
 unfoldable pub service_bit : List ℕ → List ℕ → List ℕ → List ℕ → ℕ
 service_bit P D s d = bit (eqb (failing_in (under P) s (sent_of D d)) 0)
 

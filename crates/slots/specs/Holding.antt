@@ -25,22 +25,23 @@ holding_by used n = cond (eqb n 0) None (Some (record { entry = n; used = used }
 abbrev pub Holding : Type 0
 Holding = Result (Option Unheld) Refusal
 
--- A lent table has a number for each entry, after number 0. Where it has not, the answer is 7, "0 for number 7", and nothing is written.
+-- A lent table has a number for each entry, after number 0. Where it has not, the answer is 7, [R23] at input 0, and
+-- nothing is written.
 abbrev pub where_room : {A : Type 0} → ℕ → List ℕ → A → A → A
 where_room room d short a = cond (ltb (length (entries_of d)) room) a short
 
--- "input 1 in full, input 2 in full, then 7", with so many numbers in the lent table
+-- [R25] input 1, then input 2, then 7, with so many numbers in the lent table
 unfoldable pub holding_under : Background → ℕ → List ℕ → List ℕ → Holding
 holding_under b room c d =
     unless_refused Err (reading_of Description 1 c) (unless_refused Err (reading_of Description 2 d)
     (where_room room c (refused Room 0 0) (Ok (holding_by (length (slots_of b c)) (failing_in b c d)))))
 
--- "11, input 0, before any other check": the same under a list of pairs
+-- [R25] 11 before all else: the same under a list of pairs
 unfoldable pub holding_of : List ℕ → ℕ → List ℕ → List ℕ → Holding
 holding_of P room c d = unless_refused Err (pairs_reading P) (holding_under (under P) room c d)
 
--- The paper's numbers for each case: whether all hold, and neither where an input is refused; the number of the first that fails; the
--- number returned, the input and the place. 0 where a case has none.
+-- [K6] The numbers of each case: whether all hold, and neither where an input is refused; the number of the first
+-- that fails; the number returned, the input and the place. 0 where a case has none.
 pub record HoldingReturned : Type 0 where
   pub all : math.Option Bool
   pub entry : ℕ

@@ -4,5 +4,5 @@ pub mod Holding
 pub mod Catalogue
 -- Which services of a list are contained in which: a table of bytes, and the refusals in their order.
 pub mod Containment
--- Mirrors of the code: the contracts of its functions cite these, and no promise to the customer does.
+-- Mirrors of the code: the contracts of its functions cite these, and no promise does.
 pub mod code

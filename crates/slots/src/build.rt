@@ -19,8 +19,8 @@ fn bounds_times(kind: u8) -> u64
     }
 }
 
-// What stands in the bounds of an entry of this kind beside its number.
-// As in the paper's table of kinds, each kind has an arm of its own, though some say the same.
+// What stands in the bounds of an entry of this kind beside its number. As in the table of kinds [E3], each kind has
+// an arm of its own, though some say the same.
 #[tactic(auto, unfolding(crate::specs::code::Tables::bounds_base))]
 fn bounds_base(kind: u8) -> u64
     ensures { (result ≡ bounds_base kind) × (result ≤ 196608) }

@@ -38,7 +38,7 @@ const FEW: u64 = 8;
 // Nothing is asked.
 const ALWAYS: u64 = 16;
 
-// On which of these each kind rests. There are no other kinds than 1 to 6, and kind 6 is never supported.
+// [C4] On which of these each kind rests. There are no other kinds than 1 to 6, and kind 6 is never supported.
 #[tactic(auto, unfolding(crate::specs::code::States::needed))]
 fn needed(kind: u8) -> u64
     ensures { result ≡ needed kind }
@@ -76,7 +76,7 @@ fn supported(kind: u8, number: u16, x: u64) -> bool
     needed(kind) & given(number, x) != 0
 }
 
-// Whether every record has at most so many of a link: of one that leads to one item only, at most 1 or more.
+// [S3] Whether every record has at most so many of a link: of one that leads to one item only, at most 1 or more.
 fn always(link: Link, number: u16) -> bool
     ensures { result ≡ at_most number (standing.cap link.0) }
 {

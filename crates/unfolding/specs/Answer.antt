@@ -9,13 +9,13 @@ use Rattle.names.specs.NamedReading.{plain_of, unfolding_of}
 use Rattle.blocks.specs.declared.Refusal.{Refusal}
 use Rattle.blocks.specs.declared.Cause.TheVariants.{Room}
 
--- bytes written from the start of an output; "later bytes unchanged"
+-- bytes written from the start of an output; later bytes stay [D12]
 abbrev pub over : List ℕ → List ℕ → List ℕ
 over bytes out = bytes ++ drop (length bytes) out
 
 -- ---- one description
 
--- 7 exactly where the output is shorter than what would be written
+-- [D12] 7 exactly where the output is shorter than what would be written
 abbrev pub short_by : List ℕ → Reading → Reading
 short_by out (Err e) = Err e
 short_by out (Ok n) = cond (ltb (length out) (512 * blocks_for plain n)) (refused Room 0 0) (Ok n)

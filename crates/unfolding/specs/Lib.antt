@@ -1,4 +1,4 @@
 -- What the calls that unfold answer, and the bytes that they leave.
 pub mod Answer
--- Mirrors of the code: the contracts of its functions cite these, and no promise to the customer does.
+-- Mirrors of the code: the contracts of its functions cite these, and no promise does.
 pub mod code

@@ -1,6 +1,6 @@
-// Reads vectors from standard input, at most 1,500, makes the call of each, and prints a line for each: the vector's number, the call,
-// the answer, and for a call with an output a digest of all the output's bytes. The vectors, and the lines to be printed, are made by
-// the version of other hands (rust/reference), which `make vectors` runs.
+// Reads vectors from standard input, at most 1,500, makes the call of each, and prints a line for each: the vector's
+// number, the call, the answer, and for a call with an output a digest of all the output's bytes [K8]. The vectors,
+// and the lines to be printed, are made by the version of other hands (rust/reference), which `make vectors` runs.
 //
 // A vector is a header of eight words, low byte first, and then the bytes of its list of pairs, its dictionary and its two inputs. The words:
 // the call (1 read a description, 2 read a specimen, 3 fit, 4 normal form, 5 compare, 6 unfold, 7 catalogue), the lengths of these four, the

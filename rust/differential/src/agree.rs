@@ -1,9 +1,10 @@
 //! The calls on both sides, compared.
 //!
-//! Each function here makes one call of the proved library and of the reference on the same bytes. It gives the answer if both
-//! agree and all else that the paper says of the answer is so, and otherwise the difference. Those that are made under a list are
-//! the plain calls where the list and the dictionary are empty: then these are made too, and have to give the same. Those that are
-//! made with a dictionary are made again with none, on the unfolded descriptions, and have to give the same.
+//! Each function here makes one call of the proved library and of the reference on the same bytes. It gives the
+//! answer if both agree and all else that the specification says of the answer is so, and otherwise the difference.
+//! Those that are made under a list are the plain calls where the list and the dictionary are empty: then these are
+//! made too, and have to give the same. Those that are made with a dictionary are made again with none, on the
+//! unfolded descriptions, and have to give the same.
 
 mod catalogue;
 
@@ -36,7 +37,7 @@ pub enum Answer {
     NotContained(usize, usize),
 }
 
-/// Where the two do not agree, or where an answer is not what the paper says of it.
+/// Where the two do not agree, or where an answer is not what the specification says of it.
 #[derive(Clone, Debug)]
 pub struct Difference {
     /// The call and what is wrong.

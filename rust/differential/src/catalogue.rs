@@ -9,7 +9,7 @@ use crate::{derived, draw, BLOCK};
 /// The most services of a list.
 pub const MOST_SERVICES: usize = 64;
 
-/// The bytes of each service: "the first block, and each later one numbered 1, begins a service". A part of a block at the end belongs
+/// The bytes of each service: each block numbered 1 begins a description (L1). A part of a block at the end belongs
 /// to the last.
 pub fn cut(list: &[u8]) -> Vec<&[u8]> {
     let blocks = list.chunks(BLOCK);

@@ -1,11 +1,12 @@
 //! The proved library against the reference, which is a plain version by other hands.
 //!
-//! Drawn descriptions and specimens are handed to both. Answers, places and every byte of the outputs have to be the same. What
-//! the paper says of an answer is looked at as well, without the reference: a specimen has to show its 'not contained', a normal
-//! form has to be its own normal form, two descriptions have to have one normal form exactly if each is contained in the other, and
-//! 'contained' has to be true in small records. Records and specimens keep the rule that links from 32,768 up never lead to two items,
-//! and the list of properties that exclude each other which a call is given. A call with a dictionary has to give what the call
-//! without one gives for the unfolded descriptions, and the catalogue what single comparisons give.
+//! Drawn descriptions and specimens are handed to both. Answers, places and every byte of the outputs have to be the
+//! same. What the specification says of an answer is looked at as well, without the reference: a specimen has to show
+//! its 'not contained', a normal form has to be its own normal form, two descriptions have to have one normal form
+//! exactly if each is contained in the other, and 'contained' has to be true in small records. Records and specimens
+//! keep the rule that links from 32,768 up never lead to two items, and the list of properties that exclude each
+//! other which a call is given. A call with a dictionary has to give what the call without one gives for the unfolded
+//! descriptions, and the catalogue what single comparisons give.
 //!
 //! | Module | Subject |
 //! |---|---|
@@ -22,7 +23,7 @@
 //! | [`small`] | small records, to look for an item by trying all |
 //! | [`rounds`] | rounds of cases, and how often each answer came |
 //! | [`vectors`] | calls with their bytes, and the line that the reference gives for each |
-//! | [`named`] | vectors of the paper's cases, of the requests' statements and of the report's examples |
+//! | [`named`] | vectors of the cases that are proved, of each clause, and of the literature's examples |
 //! | [`drawn`] | drawn vectors, so many of each sort of answer |
 
 #![forbid(unsafe_code)]

@@ -177,7 +177,7 @@ fn longer_inputs() {
     assert_eq!(same(&program, &input), "refused 1 input 1 place 0\n");
 }
 
-/// The comparisons of the vectors, which the paper's cases are among.
+/// The comparisons of the vectors, which the proved cases are among.
 #[test]
 fn the_vectors() {
     let Some(program) = program() else { return };

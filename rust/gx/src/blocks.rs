@@ -142,7 +142,8 @@ pub fn frame(bytes: &[u8], block: usize) -> Option<Frame> {
     })
 }
 
-/// The block of an entry, and where its bytes begin in that block; both counted as in the document, blocks from 1, bytes from 0.
+/// The block of an entry, and where its bytes begin in that block; both counted as in the format, blocks from 1,
+/// bytes from 0.
 pub fn place_of(entry: usize) -> (usize, usize) {
     let at = entry.saturating_sub(1);
     (

@@ -11,8 +11,8 @@ pub(crate) struct Background {
 }
 
 impl Background {
-    /// Reads the list of excluding pairs, "before any other check", and then
-    /// the dictionary, "checked before the other inputs".
+    /// Reads the list of excluding pairs, before all else (R25), and then the
+    /// dictionary, the dictionary before the inputs (R25).
     pub(crate) fn read(pairs: &[u8], dict: &[u8]) -> Result<Background, Refusal> {
         let pairs = Pairs::read(pairs)?;
         let dictionary = Dictionary::read(dict)?;

@@ -2,14 +2,14 @@
 
 use crate::refusal::{Refusal, CHECK, FRAME, LENGTH};
 
-/// "Input comes in blocks of 512 bytes".
+/// Blocks of 512 bytes (B2).
 pub(crate) const BLOCK_BYTES: usize = 512;
 const NUMBER_AT: usize = 0;
 const USED_AT: usize = 2;
 const ENTRIES_AT: usize = 4;
-/// "Bytes 508-509 now hold a second sum over bytes 0-507".
+/// Where the second check stands (B6).
 const SECOND_AT: usize = 508;
-/// "Bytes 510-511: the check."
+/// Where the first check stands (B7).
 const CHECK_AT: usize = 510;
 
 /// A form of the entries in a block. Frame and checks are the same in each.
@@ -19,7 +19,7 @@ pub(crate) struct Form {
     block_entries: usize,
 }
 
-/// "Bytes 4-507: 63 entries of 8 bytes."
+/// 63 entries of 8 bytes (B2).
 pub(crate) const OWNING: Form = Form {
     entry_bytes: 8,
     block_entries: 63,
@@ -30,15 +30,14 @@ pub(crate) const WALKING: Form = Form {
     block_entries: 84,
 };
 
-/// "Entry: kind (1 byte), zero (1 byte), owner, name, number (2 bytes each)."
+/// Kind, a zero byte, owner, name, number (E1).
 #[derive(Clone, Copy, Debug, Default, PartialEq, Eq)]
 pub struct Entry {
     /// The kind, 1 to 9 in accepted inputs.
     pub kind: u8,
     /// The byte that is zero in accepted inputs.
     pub zero: u8,
-    /// "Owner 0 is the top; otherwise it is an earlier entry". In a delivered
-    /// record an item.
+    /// 0 for the top, or an earlier entry (E7). In a delivered record an item.
     pub owner: u16,
     /// The property or link, or 0 for kind 6; for kind 9 the number of a
     /// description in the dictionary.
@@ -74,20 +73,18 @@ pub(crate) fn byte(bytes: &[u8], at: usize) -> u8 {
     bytes.get(at).copied().unwrap_or(0)
 }
 
-/// "numbers low byte first"
+/// A word, low byte first (B1).
 pub(crate) fn word(bytes: &[u8], at: usize) -> u16 {
     u16::from_le_bytes([byte(bytes, at), byte(bytes, at.saturating_add(1))])
 }
 
-/// "The check is the sum of the 255 words of two bytes in bytes 0-509, and
-/// this sum wraps at 65,536." The second sum "is part of the first check's
-/// 510 bytes".
+/// The sum of the 255 words before it (B7). The second sum is one of the
+/// words of the first (B7).
 fn sum_of_words(block: &[u8]) -> u16 {
     words_before(block, CHECK_AT).fold(0, u16::wrapping_add)
 }
 
-/// "a second sum over bytes 0-507: word number times word, words counted from
-/// 1, modulo 65,536"
+/// Each word times its position, added (B6).
 fn second_sum(block: &[u8]) -> u16 {
     (1..)
         .zip(words_before(block, SECOND_AT))
@@ -135,8 +132,7 @@ fn used_rows(block: &[u8], form: Form) -> impl Iterator<Item = &[u8]> {
 
 /// The entries as blocks.
 ///
-/// "Each block but the last uses 63 entries; the last uses 1 to 63, or 0 if
-/// it is the only block."
+/// All blocks but the last are full, and only a sole block may be empty (B4).
 pub fn encode(entries: &[Entry]) -> Vec<u8> {
     let rows: Vec<Vec<u8>> = entries.iter().map(|entry| entry.to_bytes()).collect();
     in_blocks(&rows, OWNING)
@@ -169,7 +165,7 @@ fn one_block(number: u16, rows: &[Vec<u8>]) -> Vec<u8> {
     for row in rows {
         block.extend(row);
     }
-    // "Unused entry bytes are zero."
+    // Bytes of unused entries are zero (B5).
     block.resize(SECOND_AT, 0);
     let second = second_sum(&block);
     block.extend(second.to_le_bytes());
@@ -197,7 +193,7 @@ pub(crate) fn write_blocks(blocks: &[u8], out: &mut [u8]) {
     }
 }
 
-/// Refusal 1: "input length 0, no multiple of 512, or over the limit".
+/// Refusal 1: the length is 0, no multiple of 512, or too much (R1).
 pub(crate) fn check_length(bytes: &[u8], most_blocks: usize, input: u16) -> Result<(), Refusal> {
     let blocks = bytes.chunks_exact(BLOCK_BYTES);
     let whole = blocks.remainder().is_empty();
@@ -207,8 +203,7 @@ pub(crate) fn check_length(bytes: &[u8], most_blocks: usize, input: u16) -> Resu
     Ok(())
 }
 
-/// Refusals 2 and 3: "the lowest block that breaks 2 or 3 decides, 2 before
-/// 3".
+/// Refusals 2 and 3: the lowest block decides, 2 before 3 (R24).
 pub(crate) fn check_blocks(bytes: &[u8], form: Form, input: u16) -> Result<(), Refusal> {
     let total = bytes.len() / BLOCK_BYTES;
     for (index, block) in bytes.chunks_exact(BLOCK_BYTES).enumerate() {
@@ -223,14 +218,14 @@ pub(crate) fn check_blocks(bytes: &[u8], form: Form, input: u16) -> Result<(), R
     Ok(())
 }
 
-/// Both sums: "a wrong second sum is refused as 2, no longer as 3".
+/// Both sums: the second check is 2 as the first is (R2).
 fn checks_are_right(block: &[u8]) -> bool {
     word(block, CHECK_AT) == sum_of_words(block) && word(block, SECOND_AT) == second_sum(block)
 }
 
 /// Number, used count and the bytes due to be zero.
 fn frame_is_right(block: &[u8], position: usize, total: usize, form: Form) -> bool {
-    // "Bytes 0-1: block number, from 1 upward by 1."
+    // The number of a block is its position (B3).
     let number_right = usize::from(stored_number(block)) == position;
     let used = usize::from(word(block, USED_AT));
     let unused_at = ENTRIES_AT.saturating_add(used.saturating_mul(form.entry_bytes));
@@ -239,8 +234,7 @@ fn frame_is_right(block: &[u8], position: usize, total: usize, form: Form) -> bo
         && zeros_are_right(block, unused_at)
 }
 
-/// "Each block but the last uses 63 entries; the last uses 1 to 63, or 0 if
-/// it is the only block."
+/// All blocks but the last are full, and only a sole block may be empty (B4).
 fn used_is_right(used: usize, position: usize, total: usize, most: usize) -> bool {
     if position < total {
         return used == most;
@@ -249,7 +243,7 @@ fn used_is_right(used: usize, position: usize, total: usize, most: usize) -> boo
     (fewest..=most).contains(&used)
 }
 
-/// "Unused entry bytes are zero."
+/// Bytes of unused entries are zero (B5).
 fn zeros_are_right(block: &[u8], unused_at: usize) -> bool {
     let unused = block.get(unused_at..SECOND_AT).unwrap_or(&[]);
     unused.iter().all(|&value| value == 0)

@@ -10,20 +10,17 @@ use crate::tree::top_place;
 
 /// The input number of the supplier's description.
 const SUPPLIER: u16 = 1;
-/// The input number of the list of services as a whole: "both at input 2, place
-/// 0".
+/// The input number of the list of services as a whole: at input 2, place 0
+/// (L6).
 const LIST: u16 = 2;
 
 /// Compares one description with each of a list of services, fills one byte for
 /// each service, and answers the number of bytes filled. Later bytes stay.
 ///
-/// "One call takes the description and a list of 1 to 64 service descriptions
-/// laid end to end; the first block, and each later one numbered 1, begins a
-/// service. It fills one byte for each: 1 contained, 0 not. Each byte equals
-/// the single comparison."
+/// A byte for each service, as the single comparison answers (L3) (L4).
 ///
-/// "with 7 last for fewer answer bytes than services": no specimen is written,
-/// so no other length counts.
+/// 7 last, for fewer bytes than services (L7): no specimen is written, so no
+/// other length counts.
 pub fn catalogue(
     pairs: &[u8],
     dict: &[u8],
@@ -39,10 +36,10 @@ pub fn catalogue(
     let Some(answers) = out.get_mut(..services.len()) else {
         return Err(Refusal::output_too_short());
     };
-    // "N is C's normal form."
+    // The normal form of C (C2).
     let n = normal_place(top_place(&c_entries), &pairs);
     for (answer, service) in answers.iter_mut().zip(&services) {
-        // "All hold: 'contained'".
+        // Every entry holds: contained (C5).
         let contained = first_that_fails(&n, service, &pairs).is_none();
         *answer = u8::from(contained);
     }
@@ -51,10 +48,9 @@ pub fn catalogue(
 
 /// The services of an accepted list, each as it is read by itself.
 ///
-/// 1 "for a list of length 0 or no multiple of 512", then 8, both "before the
-/// services' own" checks. Then each service in full, 14 included, before the
-/// next is looked at: "Inside the list the input number is 1 plus the service's
-/// position."
+/// 1 for a list of length 0 or no multiple of 512 (L6), then 8, both before the
+/// services' own (L6) checks. Then each service in full, 14 included, before
+/// the next is looked at: the n-th service is input 1 + n (L5).
 pub(crate) fn read_services(
     list: &[u8],
     read: impl Fn(&[u8], u16) -> Result<Vec<Entry>, Refusal>,

@@ -13,11 +13,9 @@ use crate::tree::{top_place, Fact, Link, Place, Property};
 /// The answer of the comparison.
 #[derive(Clone, Copy, Debug, PartialEq, Eq)]
 pub enum Comparison {
-    /// "All hold: 'contained', output unchanged."
+    /// Every entry holds (C5).
     Contained,
-    /// "Otherwise 'not contained', the number of the first e that fails, the
-    /// number of specimen entries, and the specimen in blocks from the start,
-    /// later bytes unchanged."
+    /// An entry fails: its number, and how many entries the specimen has (C6).
     NotContained {
         /// The number of the first entry of D that fails.
         entry: usize,
@@ -34,19 +32,17 @@ pub fn compare(c: &[u8], d: &[u8], out: &mut [u8]) -> Result<Comparison, Refusal
 /// Compares C with D, under a list of excluding pairs and with a dictionary
 /// for both.
 ///
-/// "Input 1 is C, input 2 is D, the output is at least as long as both."
-/// The output is as long as the two together: "Entries never exceed those of
-/// C and D together."
+/// Input 1 is C, input 2 is D, the output is as long as both together (C1).
+/// The output is as long as the two together: no more entries than C and D
+/// together (C13).
 ///
-/// "What a yes and a no promise now ranges over every list that 11 doesn't
-/// refuse and over records that keep it, and a specimen is judged under the
-/// same list." The specimen keeps it: no place of N has both of a pair, and
-/// the property added for a failing lack has no partner there, or the lack
-/// would be supported.
+/// Answers are about the records that keep the list, and the specimen keeps
+/// it (S12) (S13). The specimen keeps it: no place of N has both of a pair,
+/// and the property added for a failing lack has no partner there, or the
+/// lack would be supported.
 ///
-/// "All answers and written bytes for named descriptions, entry numbers
-/// included, equal those for the unfolded ones, by which the output [...] are
-/// measured too".
+/// Answers and written bytes are those for the unfolded descriptions, by
+/// which the output is measured (D8).
 pub fn compare_with(
     pairs: &[u8],
     dict: &[u8],
@@ -60,7 +56,7 @@ pub fn compare_with(
     if out.len() < length_in_blocks(&c_entries).saturating_add(length_in_blocks(&d_entries)) {
         return Err(Refusal::output_too_short());
     }
-    // "N is C's normal form."
+    // The normal form of C (C2).
     let n = normal_place(top_place(&c_entries), &pairs);
     let Some((number, e)) = first_that_fails(&n, &d_entries, &pairs) else {
         return Ok(Comparison::Contained);
@@ -85,7 +81,7 @@ pub(crate) fn first_that_fails(
         .map(|(number, e)| (number, *e))
 }
 
-/// "An entry e of D stands at the place reached by its owners' links, W."
+/// An entry stands at the links of its owners (C2).
 fn way(entries: &[Entry], e: &Entry) -> Vec<Link> {
     let mut links = Vec::new();
     let mut owner = owner_of(entries, e);
@@ -102,13 +98,12 @@ fn owner_of<'a>(entries: &'a [Entry], e: &Entry) -> Option<&'a Entry> {
     entries.get(usize::from(e.owner).checked_sub(1)?)
 }
 
-/// "It holds if N is kind 6; or if N has at most 0 of the next link at a
-/// place passed on W; or if N's place W (empty if N has none) supports it."
+/// When an entry holds (C3).
 fn holds(n: &Place, w: &[Link], e: &Entry, pairs: &Pairs) -> bool {
     n.facts.contains(&Fact::Nothing) || passes_at_most_0(n, w) || supports(place_at(n, w), e, pairs)
 }
 
-/// "if N has at most 0 of the next link at a place passed on W"
+/// At most 0 of the next link on the way (C3).
 fn passes_at_most_0(n: &Place, w: &[Link]) -> bool {
     let mut passed = Some(n);
     for &next in w {
@@ -125,11 +120,9 @@ fn place_at<'a>(n: &'a Place, w: &[Link]) -> Option<&'a Place> {
     w.iter().try_fold(n, |place, &link| place.below(link))
 }
 
-/// "Kinds 1 and 2 need the same entry; kind 3 needs n = 0 or at least m with
-/// m ≥ n; kind 4 needs at most m with m ≤ n; kind 5 always holds; kind 6
-/// never does." Of a link that never leads to two items, "at most 1 or more
-/// [...] holds in every comparison". A lack that a pair implies is not listed
-/// in N, "yet it supports a lack in the comparison".
+/// What supports an entry, kind by kind (C4). Of a link that never leads to
+/// two items, at most 1 or more always holds (S3). A lack that a pair implies
+/// is not listed in N, an implied lack is supported (S10).
 fn supports(place: Option<&Place>, e: &Entry, pairs: &Pairs) -> bool {
     let facts = place.map_or(&[][..], |place| &place.facts);
     let link = Link(e.name);
@@ -153,7 +146,7 @@ fn supports(place: Option<&Place>, e: &Entry, pairs: &Pairs) -> bool {
     }
 }
 
-/// "a place with one counts as lacking the other"
+/// One property of a pair lacks the other (S10).
 fn lacks(facts: &[Fact], property: Property, pairs: &Pairs) -> bool {
     let mut partners: Vec<Property> = pairs.partners(property).collect();
     partners.sort();
@@ -185,7 +178,7 @@ fn at_most(fact: &Fact, link: Link) -> Option<u16> {
 /// `n` is N's place there, if N has one; `ahead` is what is still to go of W
 /// if the place is passed on W or is W, and nothing if it is off W.
 ///
-/// "A count above 0 gives a group, and its place is filled likewise."
+/// A count above 0 is a group, filled in the same way (C10).
 fn filled(n: Option<&Place>, ahead: Option<&[Link]>, e: &Entry) -> Vec<Row> {
     let properties = properties_at(n, ahead, e).into_iter().map(has_row);
     let groups = counts_at(n, ahead, e)
@@ -207,7 +200,7 @@ fn has_row(property: Property) -> Row {
     }
 }
 
-/// The stored number is "count - 1".
+/// The stored number is one less than its items (E3).
 fn group_row(link: Link, count: u32, owned: Vec<Row>) -> Row {
     let number = u16::try_from(count.saturating_sub(1)).unwrap_or(u16::MAX);
     Row {
@@ -224,8 +217,7 @@ fn ahead_by(ahead: Option<&[Link]>, link: Link) -> Option<&[Link]> {
     (next == link).then_some(rest)
 }
 
-/// "Properties are those N lists with kind 1 there, and e's at W if e is kind
-/// 2."
+/// The properties that N has there, and the one to be lacked (C11).
 fn properties_at(n: Option<&Place>, ahead: Option<&[Link]>, e: &Entry) -> BTreeSet<Property> {
     let mut properties = BTreeSet::new();
     for fact in facts_of(n) {
@@ -239,9 +231,8 @@ fn properties_at(n: Option<&Place>, ahead: Option<&[Link]>, e: &Entry) -> BTreeS
     properties
 }
 
-/// "At place p, the count for link R is N's at least there (0 if none); at
-/// least 1 if p followed by R lies on W or is W; at least n + 1 if p is W and
-/// e is at most n of R."
+/// The largest of what N asks for, 1 on the way, and one more than the at
+/// most that is to fail (C10).
 ///
 /// By a link that never leads to two items the count is at most 1: N has no
 /// at least 2 of it, and of its at most only at most 0 can fail.

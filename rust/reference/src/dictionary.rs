@@ -6,8 +6,8 @@ use crate::reading::{read, Sort, MOST_DEPTH, MOST_ENTRIES};
 use crate::refusal::{Refusal, UNFOLDED};
 use crate::unfolding::{deepest, unfolded, unfolded_size};
 
-/// "checked before the other inputs, as input 100, its n-th description as
-/// 100 + n"
+/// Input 100, and 100 + n for the n-th description, before the inputs (D2)
+/// (R25).
 const DICTIONARY: u16 = 100;
 
 /// The descriptions of an accepted dictionary, each unfolded.
@@ -15,11 +15,11 @@ const DICTIONARY: u16 = 100;
 pub(crate) struct Dictionary(Vec<Vec<Entry>>);
 
 impl Dictionary {
-    /// "A dictionary is a list like P1's, or of length 0 with no descriptions".
+    /// A list of descriptions, or of length 0 (D1).
     ///
     /// Each description is read in full, 14 included, before the next is looked
     /// at. It is read with the dictionary made so far, that is with the ones
-    /// before it: "A dictionary description may name only earlier ones."
+    /// before it: names go to earlier descriptions only (D4).
     pub(crate) fn read(bytes: &[u8]) -> Result<Dictionary, Refusal> {
         let mut earlier = Dictionary::default();
         for (input, description) in (DICTIONARY.saturating_add(1)..).zip(cut(bytes, DICTIONARY)?) {
@@ -32,9 +32,7 @@ impl Dictionary {
     /// The entries of an accepted description that may name the descriptions of
     /// this dictionary, unfolded; or its refusal.
     ///
-    /// "14: a description, in the dictionary or not, of more than 1,008 entries
-    /// or depth over 32 once unfolded; place 0, after all other checks of that
-    /// input."
+    /// 14, too large once unfolded, after the input's other checks (R14) (R24).
     pub(crate) fn read_description(&self, bytes: &[u8], input: u16) -> Result<Vec<Entry>, Refusal> {
         let Dictionary(named) = self;
         let entries = read(bytes, Sort::Naming(named.len()), input)?;

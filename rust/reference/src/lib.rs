@@ -1,12 +1,8 @@
 //! Descriptions, what fits them, and when one holds another.
 //!
-//! A plain rendering of the paper "Sample descriptions, what fits them, and
-//! when one holds another". Every call first reads its inputs in full, then
-//! works on trees of places, then writes its answer as blocks. Comments in
-//! quotation marks are sentences of that paper, or of the requests "A second
-//! check in each block", "Links that lead to one item only", "Properties that
-//! exclude each other", "Named descriptions" and "All services in one call",
-//! which is P1 in them, that came after it.
+//! A plain rendering of the rules. Every call first reads its inputs in full,
+//! then works on trees of places, then writes its answer as blocks. Comments
+//! cite the clauses of docs/SPECIFICATION.md, as in (N4), where it has them.
 //!
 //! [`fit_with`], [`normal_with`], [`compare_with`] and [`catalogue`] take a list
 //! of excluding pairs and a dictionary; [`fit`], [`normal_form`] and [`compare`]

@@ -3,15 +3,15 @@
 use crate::blocks::{stored_number, BLOCK_BYTES};
 use crate::refusal::{Refusal, LENGTH, TOO_MANY};
 
-/// "a list of 1 to 64 service descriptions laid end to end", and "A dictionary
-/// is a list like P1's"
+/// 1 to 64 services laid end to end (L3), and a list of descriptions, or of
+/// length 0 (D1)
 const MOST_DESCRIPTIONS: usize = 64;
 
 /// The bytes of each description in a list; a list of length 0 has none.
 ///
-/// Or 1 for a list of a "length [...] no multiple of 512", then 8 for "more
-/// than 64"; both at place 0 of this input. Both are about the list and come
-/// before all checks of the descriptions in it.
+/// Or 1 for a list of a length that is no multiple of 512 (L6), then 8 for
+/// more than 64 (R8); both at place 0 of this input. Both are about the list
+/// and come before all checks of the descriptions in it.
 pub(crate) fn cut(list: &[u8], input: u16) -> Result<Vec<&[u8]>, Refusal> {
     if !list.chunks_exact(BLOCK_BYTES).remainder().is_empty() {
         return Err(Refusal::at(LENGTH, input, 0));
@@ -29,8 +29,8 @@ pub(crate) fn cut(list: &[u8], input: u16) -> Result<Vec<&[u8]>, Refusal> {
         .collect())
 }
 
-/// Where the descriptions of a list of whole blocks start: "the first block,
-/// and each later one numbered 1, begins" one.
+/// Where the descriptions of a list of whole blocks start: each block
+/// numbered 1 begins (L1) one.
 ///
 /// The stored number alone decides, whatever else is right or wrong in the
 /// block. The first block begins one whatever its number is.

@@ -16,16 +16,15 @@ pub fn normal_form(description: &[u8], out: &mut [u8]) -> Result<usize, Refusal>
 /// Writes the normal form of a description in blocks, under a list of
 /// excluding pairs and with a dictionary, and answers its number of entries.
 ///
-/// "One input; the output is at least as long." "Written in blocks from the
-/// start of the output, entries ascend by owner, then kind, then name; later
-/// bytes stay. The answer is the number of entries."
+/// One input, and an output as long (N14). written in blocks, ascending;
+/// later bytes stay; the answer is the number of entries (N15).
 ///
-/// "A place with both is impossible; a place with one counts as lacking the
-/// other, so that lack is dropped from the normal form".
+/// Both properties of a pair are impossible, and the lack that one implies
+/// goes (S9) (S10).
 ///
-/// "All answers and written bytes for named descriptions [...] equal those for
-/// the unfolded ones, by which the output [...] are measured too". A plain
-/// description is as long unfolded as it was sent.
+/// Answers and written bytes are those for the unfolded descriptions, by which
+/// the output is measured (D8). A plain description is as long unfolded as it
+/// was sent.
 pub fn normal_with(
     pairs: &[u8],
     dict: &[u8],

@@ -1,7 +1,6 @@
 //! The notation of the desk examples.
 //!
-//! "Written kind, name, number (zeros at the end left off), owned entries in
-//! brackets, numbered as written."
+//! Kind, name and number with commas, what an entry owns in brackets (E8).
 
 use crate::{encode, Entry};
 

@@ -13,8 +13,7 @@ pub(crate) struct Row {
     pub(crate) owned: Vec<Row>,
 }
 
-/// "Written in blocks from the start of the output, entries ascend by owner,
-/// then kind, then name".
+/// Written in blocks, ascending (N15) (E11).
 ///
 /// The rows of the top come first; then, owner by owner in the order of the
 /// numbers just given, the rows each of them owns.

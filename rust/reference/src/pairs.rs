@@ -6,7 +6,7 @@ use crate::blocks::{word, Entry};
 use crate::refusal::{Refusal, BOTH_OF_A_PAIR, PAIRS};
 use crate::tree::Property;
 
-/// "up to 64 pairs of excluding properties, four bytes a pair, low byte first"
+/// Up to 64 pairs of four bytes (S6).
 const MOST_PAIRS: usize = 64;
 const PAIR_BYTES: usize = 4;
 
@@ -18,9 +18,8 @@ const PAIR_BYTES: usize = 4;
 pub(crate) struct Pairs(Vec<(Property, Property)>);
 
 impl Pairs {
-    /// The pairs in these bytes, or 11: "length no multiple of 4 or over 64
-    /// pairs, place 0; else the lowest pair with 0 or two equal numbers, place
-    /// that pair".
+    /// The pairs in these bytes, or 11: the length, at place 0, else the lowest
+    /// wrong pair, at its place (R11).
     pub(crate) fn read(bytes: &[u8]) -> Result<Pairs, Refusal> {
         let stored = bytes.chunks_exact(PAIR_BYTES);
         if !stored.remainder().is_empty() || stored.len() > MOST_PAIRS {
@@ -48,9 +47,9 @@ impl Pairs {
         })
     }
 
-    /// Refusal 12 of an input that is right otherwise: "a specimen or delivered
-    /// record with an item that has both of a pair, place the lowest entry that
-    /// completes one".
+    /// Refusal 12 of an input that is right otherwise: an item has both
+    /// properties of a pair; the place is the lowest entry that completes one
+    /// (R12).
     ///
     /// All items of one owner have the same properties, and each owner has an
     /// item. So an entry completes a pair if an earlier one of its owner gives
@@ -74,7 +73,7 @@ impl Pairs {
     }
 }
 
-/// Whether the pair is not one "with 0 or two equal numbers".
+/// Whether the pair is not one with a 0, or one property twice (R11).
 fn names_two(&(one, other): &(Property, Property)) -> bool {
     one != Property(0) && other != Property(0) && one != other
 }

@@ -4,7 +4,7 @@ use crate::blocks::{decode, stored_number, Entry, BLOCK_BYTES};
 use crate::compare::{compare, Comparison};
 use crate::refusal::Refusal;
 
-/// "The program reads at most 16,385 bytes of standard input".
+/// At most 16,385 bytes of standard input (Q1).
 const MOST_BYTES: usize = 16_385;
 
 /// What the program prints for these bytes of standard input. Each line ends
@@ -24,8 +24,8 @@ pub fn run_program(input: &[u8]) -> String {
     }
 }
 
-/// "C runs up to the first later whole block with number 1, D is the rest;
-/// with no such block C is all of it and D has length 0."
+/// C up to the first later block numbered 1, then D; without one, C is all
+/// (Q2).
 fn end_of_c(input: &[u8]) -> usize {
     let mut blocks = input.chunks_exact(BLOCK_BYTES).enumerate().skip(1);
     match blocks.find(|(_, block)| stored_number(block) == 1) {
@@ -34,7 +34,7 @@ fn end_of_c(input: &[u8]) -> usize {
     }
 }
 
-/// "`refused N input I place P`"
+/// The words of a refusal (Q3).
 fn refused(refusal: &Refusal) -> String {
     let Refusal {
         number,
@@ -44,7 +44,7 @@ fn refused(refusal: &Refusal) -> String {
     format!("refused {number} input {input} place {place}\n")
 }
 
-/// "`not contained E` and one line for each specimen entry"
+/// Not contained, then a line for each entry of the specimen (Q3).
 fn not_contained(entry: usize, specimen: &[Entry]) -> String {
     let mut text = format!("not contained {entry}\n");
     for (number, entry) in (1..).zip(specimen) {
@@ -53,8 +53,8 @@ fn not_contained(entry: usize, specimen: &[Entry]) -> String {
     text
 }
 
-/// "`has` or `group` with its entry number"; "`count` is the number of items,
-/// one more than the stored number; all fields are in decimal."
+/// `has` or `group` with its entry number (Q3); `count` is one more than what
+/// is stored; fields are decimal (Q4).
 fn specimen_line(number: usize, entry: &Entry) -> String {
     let Entry { owner, name, .. } = entry;
     if entry.kind == 1 {

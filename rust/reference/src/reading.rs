@@ -5,11 +5,10 @@ use crate::refusal::{Refusal, DEPTH, ENTRY, NAME, OWNER, PROFILE, SECOND_ITEM};
 use crate::sheet::within_profile;
 use crate::tree::Link;
 
-/// "An entry's depth is the number of entries in its chain of owners, at
-/// most 32".
+/// At most 32 owners above an entry (E9).
 pub(crate) const MOST_DEPTH: usize = 32;
 
-/// "A description has 1 to 16 blocks (1,008 entries)".
+/// At most 16 blocks (B8).
 pub(crate) const MOST_ENTRIES: usize = 1008;
 
 /// The most blocks of a description.
@@ -32,8 +31,7 @@ pub(crate) enum Sort {
 }
 
 impl Sort {
-    /// "A description has 1 to 16 blocks (1,008 entries), a specimen 1 to 32
-    /// (2,016)."
+    /// At most 16 blocks, of a specimen 32 (B8).
     fn most_blocks(self) -> usize {
         match self {
             Sort::Description | Sort::Naming(_) | Sort::Sheet => MOST_DESCRIPTION_BLOCKS,
@@ -41,8 +39,7 @@ impl Sort {
         }
     }
 
-    /// "otherwise it is an earlier entry of kind 5 (description) or 7
-    /// (specimen)"
+    /// An 'every' owns in a description, a group in a specimen (E7).
     fn owner_kind(self) -> u8 {
         match self {
             Sort::Description | Sort::Naming(_) | Sort::Sheet => 5,
@@ -50,8 +47,8 @@ impl Sort {
         }
     }
 
-    /// "Descriptions use 1-6, specimens 1 and 7." Where there is a dictionary,
-    /// descriptions use "kind 9" too.
+    /// Kinds 1 to 6 in descriptions, 1 and 7 in specimens (E4). Where there is a
+    /// dictionary, descriptions use kind 9 (E4) too.
     fn uses(self, kind: u8) -> bool {
         match self {
             Sort::Description | Sort::Sheet => (1..=6).contains(&kind),
@@ -60,8 +57,8 @@ impl Sort {
         }
     }
 
-    /// Whether a named entry may have this name: it is not "a name of 0, above
-    /// the dictionary's count or not earlier".
+    /// Whether a named entry may have this name: it is not a name that may not be
+    /// given (R13).
     fn knows(self, name: u16) -> bool {
         match self {
             Sort::Naming(most) => (1..=most).contains(&usize::from(name)),
@@ -83,9 +80,8 @@ pub fn read_specimen(bytes: &[u8]) -> Result<usize, Refusal> {
 
 /// The entries of an accepted input, or its refusal.
 ///
-/// "In one input: 1; then the lowest block that breaks 2 or 3 decides, 2
-/// before 3; then the lowest entry that breaks 4, 5 or 6, in that order."
-/// Requests add 9, "after 6 at the same entry", and 13, "at its entry after 4".
+/// The length, then the lowest block, then the lowest entry (R24). 13 comes
+/// after 4 at its entry, and 9 after 6.
 pub(crate) fn read(bytes: &[u8], sort: Sort, input: u16) -> Result<Vec<Entry>, Refusal> {
     check_length(bytes, sort.most_blocks(), input)?;
     check_blocks(bytes, OWNING, input)?;
@@ -94,7 +90,7 @@ pub(crate) fn read(bytes: &[u8], sort: Sort, input: u16) -> Result<Vec<Entry>, R
     Ok(entries)
 }
 
-/// "the lowest entry that breaks 4, 5 or 6, in that order", or 13 after 4, or 9
+/// The lowest entry decides, 4 before 5 before 6 (R24), or 13 after 4, or 9
 /// after them
 pub(crate) fn check_entries(entries: &[Entry], sort: Sort, input: u16) -> Result<(), Refusal> {
     let mut earlier: Vec<(Entry, usize)> = Vec::new();
@@ -113,8 +109,8 @@ pub(crate) fn check_entries(entries: &[Entry], sort: Sort, input: u16) -> Result
     Ok(())
 }
 
-/// "a specimen group that brings its owner above one item by such a link";
-/// the entry is the last of those so far.
+/// A group that brings its owner a second item by a single link (R9); the
+/// entry is the last of those so far.
 ///
 /// All items of the owner are linked to the same items of its groups, so one
 /// item of the owner has as many as the groups have together.
@@ -123,7 +119,7 @@ fn brings_a_second_item(entry: &Entry, so_far: &[(Entry, usize)]) -> bool {
     entry.kind == 7 && link.is_single() && items_by(entry.owner, link, so_far) > 1
 }
 
-/// "Groups of one owner and link add up."
+/// Groups of one owner and link add up (F9).
 fn items_by(owner: u16, link: Link, so_far: &[(Entry, usize)]) -> u64 {
     so_far
         .iter()
@@ -142,7 +138,7 @@ fn depth(entry: &Entry, earlier: &[(Entry, usize)], sort: Sort) -> Result<usize,
         return Err(NAME);
     }
     let depth = match owner_of(entry, earlier) {
-        // "owner 0 gives depth 0"
+        // Owner 0 gives depth 0 (E9).
         Owner::Top => 0,
         Owner::Entry(owner, depth) if owner.kind == sort.owner_kind() => depth.saturating_add(1),
         _ => return Err(OWNER),
@@ -160,7 +156,7 @@ enum Owner {
     NotEarlier,
 }
 
-/// "Owner 0 is the top; otherwise it is an earlier entry".
+/// 0 for the top, or an earlier entry (E7).
 fn owner_of(entry: &Entry, earlier: &[(Entry, usize)]) -> Owner {
     let Some(index) = usize::from(entry.owner).checked_sub(1) else {
         return Owner::Top;
@@ -177,8 +173,8 @@ pub(crate) fn is_of_a_description(entry: &Entry) -> bool {
     Sort::Description.uses(entry.kind) && within_table(entry)
 }
 
-/// The columns Name and Number of the table of kinds; of "entry kind 9 with
-/// name n and number 0" the name is left to 13.
+/// The columns Name and Number of the table of kinds; of a named entry has
+/// any name and number 0 (D3) (E5) the name is left to 13.
 fn within_table(entry: &Entry) -> bool {
     match entry.kind {
         1 | 2 | 5 => entry.name != 0 && entry.number == 0,

@@ -1,5 +1,5 @@
-//! Finite records and fitting, straight from the section "Records and
-//! fitting". Records here may be of any size and shape.
+//! Finite records and fitting (F1 to F5). Records here may be of any size and
+//! shape.
 
 use std::collections::{BTreeMap, BTreeSet};
 
@@ -7,12 +7,11 @@ use crate::blocks::{word, Entry};
 use crate::reading::MOST_DEPTH;
 use crate::tree::{Link, Property};
 
-/// "A finite record is a finite set of items, for each property the set of
-/// items that have it, for each link a set of ordered pairs."
+/// Finitely many items, and which have which properties and links (F1).
 ///
-/// Any such sets can be put in here, also those that break a request's rule on
-/// links that never lead to two items or on properties that exclude each other;
-/// `keeps_the_rule` and `keeps_the_list` tell.
+/// Any such sets can be put in here, also those that break the rule on single
+/// links or a list of excluding pairs; `keeps_the_rule` and `keeps_the_list`
+/// tell.
 ///
 /// The items are the numbers from 0 up to but not including `items`.
 #[derive(Clone, Debug, Default, PartialEq, Eq)]
@@ -57,8 +56,8 @@ impl Record {
             .is_some_and(|items| items.contains(&item))
     }
 
-    /// "A finite record now keeps this rule": no item is linked to two items
-    /// by a link that never leads to two.
+    /// The rule on single links (S1): no item is linked to two items by a link
+    /// that never leads to two.
     pub fn keeps_the_rule(&self) -> bool {
         self.links
             .keys()
@@ -66,8 +65,8 @@ impl Record {
             .all(|&link| (0..self.items).all(|item| self.linked(item, link).count() <= 1))
     }
 
-    /// "records must keep it": no item has both properties of a pair in this
-    /// list, "four bytes a pair, low byte first".
+    /// Records keep the list (S8): no item has both properties of a pair in this
+    /// list, four bytes a pair (S6).
     pub fn keeps_the_list(&self, pairs: &[u8]) -> bool {
         pairs.chunks_exact(4).all(|pair| {
             let (one, other) = (Property(word(pair, 0)), Property(word(pair, 2)));
@@ -88,7 +87,7 @@ impl Record {
 /// Whether the item fits the place of this owner in the description that has
 /// these entries.
 ///
-/// "An item fits a place of a description if it meets each entry there".
+/// An item fits a place where it meets each entry of it (F5).
 ///
 /// The entries are those of an accepted description. Entries whose owner is
 /// not earlier, and entries deeper than 32 below the given owner, are not
@@ -101,10 +100,10 @@ pub fn fits(record: &Record, item: usize, entries: &[Entry], owner: u16) -> bool
 /// As `fits`, where the description may name those of this dictionary. Nothing
 /// is unfolded here.
 ///
-/// "entry kind 9 with name n and number 0 stands for its n-th description": an
-/// item meets it exactly if it fits the n-th description. No item meets an
-/// entry with a name that the dictionary doesn't have, or that stands in the
-/// dictionary and is "not earlier".
+/// A named entry stands for the description of its name (D3): an item meets it
+/// exactly if it fits the n-th description. No item meets an entry with a name
+/// that the dictionary doesn't have, or that stands in the dictionary and is
+/// not earlier (R13).
 pub fn fits_named(
     record: &Record,
     item: usize,
@@ -123,8 +122,8 @@ pub fn fits_named(
 
 /// For each description of the dictionary the set of items that fit it.
 ///
-/// "A dictionary description may name only earlier ones", so the sets of those
-/// before it are all that is needed.
+/// Names go to earlier descriptions only (D4), so the sets of those before it
+/// are all that is needed.
 fn fitting_items(record: &Record, dictionary: &[Vec<Entry>]) -> Vec<BTreeSet<usize>> {
     let mut named: Vec<BTreeSet<usize>> = Vec::new();
     for entries in dictionary {
@@ -171,15 +170,14 @@ impl Question<'_> {
     fn meets(&self, item: usize, number: u16, entry: &Entry, depths: usize) -> bool {
         let property = Property(entry.name);
         let link = Link(entry.name);
-        // "At least and at most count different items linked to."
+        // Different items are counted (F3).
         let count = || self.record.linked(item, link).count();
         match entry.kind {
             1 => self.record.has(item, property),
             2 => !self.record.has(item, property),
             3 => count() >= usize::from(entry.number),
             4 => count() <= usize::from(entry.number),
-            // "it meets an 'every' entry if each item linked by that link fits
-            // the place this entry owns"
+            // An 'every' is met where each linked item fits the place below (F4).
             5 => self
                 .record
                 .linked(item, link)
@@ -200,10 +198,7 @@ impl Question<'_> {
 
 /// The record of an accepted specimen, item by item; the top item is item 0.
 ///
-/// "A specimen is a record: one top item, and for each group that many
-/// different items. Each item of the owner is linked to each item of the
-/// group. An item has the properties owned by its group (top: owner 0) and no
-/// others."
+/// The items of a specimen, their links and properties (F6) (F7) (F8).
 ///
 /// The record has one pair for each two linked items, so this is for
 /// specimens with small counts. Entries whose owner is not earlier or not a

@@ -2,15 +2,14 @@
 
 /// What a refused call returns.
 ///
-/// "A place counts blocks or entries of that input from 1 by position, not
-/// by a stored number. A refusal also returns the input (1 or 2; 0 for
-/// number 7)." Later requests add input 0 for number 11, which counts pairs;
-/// for a dictionary input 100, "its n-th description as 100 + n"; and for a
-/// service in a list "1 plus the service's position".
+/// Places count by position, and inputs as the call lists them (R22) (R23).
+/// Input 0 is the list's, for number 11, which counts pairs; for a dictionary
+/// input 100, the n-th description is input 100 + n (D2); and for a service
+/// in a list 1 + n for a service (L5).
 #[derive(Clone, Copy, Debug, PartialEq, Eq)]
 pub struct Refusal {
-    /// The number in the first column of the table of refusals, 1 to 7, or a
-    /// number that a request adds, 8 to 19.
+    /// The number in the table of refusals, 1 to 19 (R1 to R14, and those of
+    /// calls to come).
     pub number: u8,
     /// The input that is refused: 1 or 2; 0 for numbers 7 and 11; 2 for a list
     /// of services and 2 to 65 for the services in it; 100 for the dictionary
@@ -22,37 +21,36 @@ pub struct Refusal {
     pub place: u32,
 }
 
-/// "input length 0, no multiple of 512, or over the limit"
+/// The length is 0, no multiple of 512, or too much (R1).
 pub(crate) const LENGTH: u8 = 1;
-/// "a check is wrong", the first or the second
+/// A check is not its sum (R2), the first or the second
 pub(crate) const CHECK: u8 = 2;
-/// "block number, used count or a byte due to be zero in frame or unused
-/// entries is wrong"; the frame's own such bytes became the second check
+/// The frame is wrong (R3); the frame's own such bytes became the second
+/// check
 pub(crate) const FRAME: u8 = 3;
-/// "kind not allowed, byte 1 not zero, or name or number outside the table"
+/// Kind, byte 1, name or number is not in the table (R4).
 pub(crate) const ENTRY: u8 = 4;
-/// "owner not earlier or not of kind 5 (7)"
+/// The owner is not earlier, or may not own (R5).
 pub(crate) const OWNER: u8 = 5;
-/// "depth over 32"
+/// Depth above 32 (R6).
 pub(crate) const DEPTH: u8 = 6;
-/// "output too short"
+/// The output is too short (R7).
 pub(crate) const OUTPUT: u8 = 7;
-/// "more than 64 services", and likewise of a dictionary, "a list like P1's"
+/// More than 64 services (R8), and likewise of a dictionary, a list of
+/// descriptions (D1)
 pub(crate) const TOO_MANY: u8 = 8;
-/// "a specimen group that brings its owner above one item by such a link"
+/// A group that brings its owner a second item by a single link (R9).
 pub(crate) const SECOND_ITEM: u8 = 9;
 /// The total of a delivered record is 0 or above 256, or an entry of it names
 /// an item 0 or above the total.
 pub(crate) const ITEM: u8 = 10;
-/// "length no multiple of 4 or over 64 pairs [...] pair with 0 or two equal
-/// numbers"
+/// The length, or a wrong pair (R11).
 pub(crate) const PAIRS: u8 = 11;
-/// "a specimen or delivered record with an item that has both of a pair"
+/// An item has both properties of a pair (R12).
 pub(crate) const BOTH_OF_A_PAIR: u8 = 12;
-/// "a name of 0, above the dictionary's count or not earlier"
+/// A name that may not be given (R13).
 pub(crate) const NAME: u8 = 13;
-/// "a description, in the dictionary or not, of more than 1,008 entries or
-/// depth over 32 once unfolded"
+/// Too large once unfolded (R14).
 pub(crate) const UNFOLDED: u8 = 14;
 /// An entry of the stored form with a depth that no owner gives it.
 pub(crate) const WALK: u8 = 15;
@@ -76,7 +74,7 @@ impl Refusal {
         }
     }
 
-    /// "output too short": input 0, place 0.
+    /// The output is too short (R7): input 0, place 0.
     pub(crate) fn output_too_short() -> Refusal {
         Refusal::at(OUTPUT, 0, 0)
     }

@@ -12,12 +12,12 @@ mod tests;
 /// A rule at one place; it says whether it changed anything.
 type Rule = fn(&mut Place, &Pairs) -> bool;
 
-/// The rules of the requests, which have no number in the paper.
+/// The rules that come with what records keep: N12 and N11.
 const SINGLE_LINKS: u8 = 10;
 const EXCLUDING_PAIRS: u8 = 11;
 
-/// The rules that apply at any place; the number is the one in the paper, 0
-/// for "Equal entries of one place become one."
+/// The rules that apply at any place, by their numbers; 0 for N10, equal
+/// entries.
 const RULES: [(u8, Rule); 11] = [
     (1, |place, _| merge_every(place)),
     (2, remove_contradictions),
@@ -56,7 +56,7 @@ fn apply_everywhere(place: &mut Place, rule: Rule, pairs: &Pairs) -> bool {
     changed
 }
 
-/// "(1) 'every' entries of one owner and link merge"
+/// 'every' entries of one owner and link merge (N1).
 fn merge_every(place: &mut Place) -> bool {
     let before = place.every.len();
     let mut merged: BTreeMap<Link, Place> = BTreeMap::new();
@@ -72,13 +72,13 @@ fn merge_every(place: &mut Place) -> bool {
     place.every.len() != before
 }
 
-/// "(2) a place with has and lacks of one property, or kind 6, goes with all
-/// below it, and its owner's place gains at most 0 of that link"
+/// An impossible place goes with all below, and its owner's place gains at
+/// most 0 of the link (N2).
 fn remove_contradictions(place: &mut Place, pairs: &Pairs) -> bool {
     remove_every_where(place, |below| contradicts(below, pairs))
 }
 
-/// "(3) likewise where at least n and at most m of one link have m < n"
+/// A place that asks for more than it allows goes likewise (N3).
 fn remove_overcounts(place: &mut Place) -> bool {
     remove_every_where(place, overcounts)
 }
@@ -95,8 +95,8 @@ fn remove_every_where(place: &mut Place, impossible: impl Fn(&Place) -> bool) ->
     !gone.is_empty()
 }
 
-/// "a place with has and lacks of one property, or kind 6"; and of an
-/// excluding pair "A place with both is impossible"
+/// Has and lacks of one property, or nothing fits (N2); and of an excluding
+/// pair both properties of a pair (S9)
 fn contradicts(place: &Place, pairs: &Pairs) -> bool {
     let had = properties_had(place);
     place.facts.iter().any(|fact| match *fact {
@@ -119,15 +119,14 @@ fn properties_had(place: &Place) -> BTreeSet<Property> {
         .collect()
 }
 
-/// Whether one of the properties had excludes this one: "a place with one
-/// counts as lacking the other".
+/// Whether one of the properties had excludes this one: one property of a
+/// pair lacks the other (S10).
 fn has_a_partner(had: &BTreeSet<Property>, property: Property, pairs: &Pairs) -> bool {
     pairs.partners(property).any(|other| had.contains(&other))
 }
 
-/// "where at least n and at most m of one link have m < n"; and where at
-/// least n asks for more than the link can lead to: "at least 2 of such a
-/// link makes its place impossible"
+/// More is asked than allowed (N3); and where at least n asks for more than
+/// the link can lead to: at least 2 of a single link (S2)
 fn overcounts(place: &Place) -> bool {
     let smallest = smallest_at_most(place);
     place.facts.iter().any(|fact| match fact {
@@ -162,7 +161,7 @@ pub(crate) fn largest_at_least(place: &Place) -> BTreeMap<Link, u16> {
     largest
 }
 
-/// "(4) at most 0 removes the 'every' of that link"
+/// At most 0 removes the 'every' of its link (N4).
 fn drop_every_of_at_most_0(place: &mut Place) -> bool {
     let before = place.every.len();
     let smallest = smallest_at_most(place);
@@ -172,8 +171,7 @@ fn drop_every_of_at_most_0(place: &mut Place) -> bool {
     place.every.len() != before
 }
 
-/// "(5) a top that is impossible as in 2 or 3 becomes one entry of kind 6,
-/// and the rule doesn't apply to that entry alone"
+/// An impossible top becomes one entry of kind 6, which stays (N5).
 fn replace_impossible_top(top: &mut Place, pairs: &Pairs) -> bool {
     let alone = top.every.is_empty() && top.facts == [Fact::Nothing];
     if alone || !(contradicts(top, pairs) || overcounts(top)) {
@@ -186,7 +184,7 @@ fn replace_impossible_top(top: &mut Place, pairs: &Pairs) -> bool {
     true
 }
 
-/// "(6) of several at most of one link the smallest stays"
+/// The smallest at most stays (N6).
 fn keep_smallest_at_most(place: &mut Place) -> bool {
     let before = place.facts.len();
     let smallest = smallest_at_most(place);
@@ -196,7 +194,7 @@ fn keep_smallest_at_most(place: &mut Place) -> bool {
     place.facts.len() != before
 }
 
-/// "(7) of several at least the largest"
+/// The largest at least stays (N7).
 fn keep_largest_at_least(place: &mut Place) -> bool {
     let before = place.facts.len();
     let largest = largest_at_least(place);
@@ -208,7 +206,7 @@ fn keep_largest_at_least(place: &mut Place) -> bool {
     place.facts.len() != before
 }
 
-/// "(8) at least 0 goes"
+/// At least 0 goes (N8).
 fn drop_at_least_0(place: &mut Place) -> bool {
     let before = place.facts.len();
     place
@@ -217,7 +215,7 @@ fn drop_at_least_0(place: &mut Place) -> bool {
     place.facts.len() != before
 }
 
-/// "at most 1 or more is always met: it is dropped from a normal form"
+/// At most 1 or more of a single link goes (S3) (N12).
 fn drop_at_most_always_met(place: &mut Place) -> bool {
     let before = place.facts.len();
     place
@@ -226,8 +224,7 @@ fn drop_at_most_always_met(place: &mut Place) -> bool {
     place.facts.len() != before
 }
 
-/// "a place with one counts as lacking the other, so that lack is dropped from
-/// the normal form"
+/// An implied lack goes (N11).
 fn drop_implied_lacks(place: &mut Place, pairs: &Pairs) -> bool {
     let before = place.facts.len();
     let had = properties_had(place);
@@ -238,14 +235,14 @@ fn drop_implied_lacks(place: &mut Place, pairs: &Pairs) -> bool {
     place.facts.len() != before
 }
 
-/// "(9) an 'every' that owns nothing goes"
+/// An 'every' that owns nothing goes (N9).
 fn drop_empty_every(place: &mut Place) -> bool {
     let before = place.every.len();
     place.every.retain(|every| !every.place.is_empty());
     place.every.len() != before
 }
 
-/// "Equal entries of one place become one."
+/// Equal entries become one (N10).
 fn join_equal(place: &mut Place) -> bool {
     let before = place.facts.len();
     let mut seen = BTreeSet::new();

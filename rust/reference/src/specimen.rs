@@ -8,14 +8,13 @@ use crate::tree::{top_place, Every, Fact, Link, Place, Property};
 
 /// What all items of one group, or the top item, have alike.
 ///
-/// "An item has the properties owned by its group (top: owner 0) and no
-/// others."
+/// The properties that its group owns, and no others (F8).
 struct Items {
     properties: Vec<Property>,
     groups: Vec<Group>,
 }
 
-/// "group of items by link"
+/// A group (E3).
 struct Group {
     link: Link,
     /// One more than the stored number.
@@ -28,8 +27,8 @@ impl Items {
         self.properties.contains(&property)
     }
 
-    /// "At least and at most count different items linked to." "Groups of one
-    /// owner and link add up."
+    /// Different items are counted (F3). groups of one owner and link add up
+    /// (F9).
     fn linked(&self, link: Link) -> u64 {
         self.groups_by(link).map(|group| group.count).sum()
     }
@@ -48,16 +47,15 @@ pub fn fit(specimen: &[u8], description: &[u8]) -> Result<bool, Refusal> {
 /// The fit answer for the top item, under a list of excluding pairs and with a
 /// dictionary for the description.
 ///
-/// "The fit answer takes a specimen (input 1) and a description (input 2)
-/// and says yes or no for the top item. It has no output buffer."
+/// A specimen, then a description: yes or no for the top item, and no output
+/// (F10).
 ///
-/// "[...] the fit calls [...] take a list of up to 64 pairs of excluding
-/// properties, four bytes a pair, low byte first, and records must keep it."
-/// What fits is as it was; a specimen that doesn't keep the list is refused as
-/// 12, "after that input's other checks".
+/// Takes a list of pairs, which the specimen's record keeps (S14) (S8). What
+/// fits is as it was; a specimen that doesn't keep the list is refused as 12,
+/// after the specimen's other checks (S13).
 ///
-/// "All answers [...] for named descriptions [...] equal those for the unfolded
-/// ones". Kind 9 has no meaning in a specimen.
+/// All answers are those for the unfolded descriptions (D8). Kind 9 has no
+/// meaning in a specimen.
 pub fn fit_with(
     pairs: &[u8],
     dict: &[u8],
@@ -95,7 +93,7 @@ fn items_of(entries: &[Entry], owner: usize) -> Items {
     items
 }
 
-/// "An item fits a place of a description if it meets each entry there".
+/// An item fits a place where it meets each entry of it (F5).
 fn fits_place(items: &Items, place: &Place) -> bool {
     place.facts.iter().all(|fact| meets_fact(items, fact))
         && place.every.iter().all(|every| meets_every(items, every))
@@ -111,8 +109,7 @@ fn meets_fact(items: &Items, fact: &Fact) -> bool {
     }
 }
 
-/// "it meets an 'every' entry if each item linked by that link fits the place
-/// this entry owns"
+/// An 'every' is met where each linked item fits the place below (F4).
 ///
 /// All items of a group are alike, so one of them stands for all.
 fn meets_every(items: &Items, every: &Every) -> bool {

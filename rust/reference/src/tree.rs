@@ -2,8 +2,7 @@
 
 use crate::blocks::Entry;
 
-/// A property. "Property 7 and link 7 have nothing to do with each other,
-/// and the software never takes one for the other."
+/// A property. Properties and links are numbered apart (E6).
 #[derive(Clone, Copy, Debug, PartialEq, Eq, PartialOrd, Ord)]
 pub struct Property(pub u16);
 
@@ -11,11 +10,11 @@ pub struct Property(pub u16);
 #[derive(Clone, Copy, Debug, PartialEq, Eq, PartialOrd, Ord)]
 pub struct Link(pub u16);
 
-/// "Link numbers from 32,768 up are such links."
+/// Links from 32,768 up are single (S1).
 const FIRST_SINGLE: u16 = 32_768;
 
 impl Link {
-    /// Whether the link is one of those that "never lead to two items".
+    /// Whether the link is one of those that lead to one item at most (S1).
     pub fn is_single(self) -> bool {
         self.0 >= FIRST_SINGLE
     }
@@ -26,7 +25,7 @@ impl Link {
         self.is_single().then_some(1)
     }
 
-    /// Whether at most n of this link "is always met".
+    /// Whether at most n of this link is always met (S3).
     pub(crate) fn always_has_at_most(self, n: u16) -> bool {
         self.cap().is_some_and(|cap| cap <= n)
     }
@@ -35,26 +34,26 @@ impl Link {
 /// An entry of kind 1, 2, 3, 4 or 6.
 #[derive(Clone, Copy, Debug, PartialEq, Eq)]
 pub(crate) enum Fact {
-    /// Kind 1: "has property".
+    /// Kind 1: has (E3).
     Has(Property),
-    /// Kind 2: "lacks property".
+    /// Kind 2: lacks (E3).
     Lacks(Property),
-    /// Kind 3: "at least n by link".
+    /// Kind 3: at least n (E3).
     AtLeast(Link, u16),
-    /// Kind 4: "at most n by link".
+    /// Kind 4: at most n (E3).
     AtMost(Link, u16),
-    /// Kind 6: "nothing fits".
+    /// Kind 6: nothing fits (E3).
     Nothing,
 }
 
-/// An entry of kind 5: "every item by link fits what this entry owns".
+/// An entry of kind 5: every item by the link fits what the entry owns (E3).
 #[derive(Clone, Debug, PartialEq, Eq)]
 pub(crate) struct Every {
     pub(crate) link: Link,
     pub(crate) place: Place,
 }
 
-/// "The entries of one owner form a place."
+/// The entries of one owner are a place (E8).
 #[derive(Clone, Debug, Default, PartialEq, Eq)]
 pub(crate) struct Place {
     pub(crate) facts: Vec<Fact>,

@@ -7,12 +7,10 @@ use crate::refusal::Refusal;
 /// Writes the description unfolded, in blocks, and answers its number of
 /// entries. It is input 1.
 ///
-/// "Unfolding writes a plain description of the same meaning: each named entry
-/// replaced by the contents, taken over in their order."
+/// The contents of a name stand where it stood, in their order (D6) (D7).
 ///
-/// "A new call that writes blocks answers the number of entries", and one "for
-/// which no output length is named gives 7 exactly when the output is shorter
-/// than what the call would write; bytes after what it writes stay."
+/// The answer is the number of entries (D12), and one 7 exactly where the
+/// output is shorter than what is written; later bytes stay (D12).
 pub fn unfold(dict: &[u8], description: &[u8], out: &mut [u8]) -> Result<usize, Refusal> {
     let dictionary = Dictionary::read(dict)?;
     let plain = dictionary.read_description(description, 1)?;
@@ -36,7 +34,7 @@ pub(crate) fn unfolded_size(entries: &[Entry], dictionary: &[Vec<Entry>]) -> usi
         .fold(0, usize::saturating_add)
 }
 
-/// "each named entry replaced by the contents, taken over in their order"
+/// The contents of a name stand where it stood, in their order (D6).
 ///
 /// The dictionary's descriptions are given unfolded, so the contents have no
 /// named entry and nothing is looked up twice.
@@ -59,9 +57,9 @@ pub(crate) fn unfolded(entries: &[Entry], dictionary: &[Vec<Entry>]) -> Vec<Entr
     plain
 }
 
-/// An entry of the contents, "put in at that place": what was at the top is now
-/// owned by the owner of the named entry; other owners are counted on from the
-/// entries before.
+/// An entry of the contents, put in at the place of the entry (D3): what was at
+/// the top is now owned by the owner of the named entry; other owners are
+/// counted on from the entries before.
 fn put_in(entry: &Entry, owner: usize, before: usize) -> Entry {
     match usize::from(entry.owner) {
         0 => owned_by(entry, owner),
@@ -77,8 +75,8 @@ fn owned_by(entry: &Entry, owner: usize) -> Entry {
     }
 }
 
-/// "entry kind 9 with name n and number 0 stands for its n-th description": the
-/// entries of that, or nothing for an entry of another kind.
+/// A named entry stands for the description of its name (D3): the entries of
+/// that, or nothing for an entry of another kind.
 fn contents<'a>(entry: &Entry, dictionary: &'a [Vec<Entry>]) -> Option<&'a Vec<Entry>> {
     if entry.kind != 9 {
         return None;
@@ -90,7 +88,7 @@ fn contents<'a>(entry: &Entry, dictionary: &'a [Vec<Entry>]) -> Option<&'a Vec<E
 pub(crate) fn deepest(plain: &[Entry]) -> usize {
     let mut depths: Vec<usize> = Vec::new();
     for entry in plain {
-        // "owner 0 gives depth 0"
+        // Owner 0 gives depth 0 (E9).
         let depth = match usize::from(entry.owner).checked_sub(1) {
             Some(index) => depths.get(index).map_or(0, |depth| depth.saturating_add(1)),
             None => 0,

@@ -34,7 +34,7 @@ pub reading-cases : {A X : Type 0} (r : Result A Refusal) → ((k : Cause) (i p 
 reading-cases (Err e) f g = f e.cause e.input e.place refl
 reading-cases (Ok n) f g = g n refl
 
--- "input 1 in full, input 2 in full"
+-- [R25] input 1, then input 2
 pub readings-cases : {A B X : Type 0} (r : Result A Refusal) (q : Result B Refusal) → ((k : Cause) (i p : ℕ) → r ≡ refused k i p → X)
     → ((n : A) (k : Cause) (i p : ℕ) → r ≡ Ok n → q ≡ refused k i p → X) → ((n : A) (m : B) → r ≡ Ok n → q ≡ Ok m → X) → X
 readings-cases r q f g h = reading-cases r f (λ n e. reading-cases q (λ k i p e'. g n k i p e e') (λ m e'. h n m e e'))

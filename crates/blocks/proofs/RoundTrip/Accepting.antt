@@ -1,5 +1,5 @@
--- What reading means: a refusal is the first fault in the paper's order, an accepted input is the encoding of its entries, and every
--- legal list that keeps the schema's further lines is accepted once encoded.
+-- What reading means: a refusal is the first fault in its order, an accepted input is the encoding of its entries,
+-- and every legal list that keeps the schema's further lines is accepted once encoded.
 -- Assumes nothing.
 use Rattle.std.proofs.Common.{◌≡◌, ℕ, suc, ◌+◌, ◌*◌, ◌/◌, ◌%◌, ◌<◌, ◌≤◌, false, eqb, List, [], ◌∷◌, ◌++◌, map, length, take, drop, Ok, sym, refl, ap, ◌∙◌, arith, take_all}
 use lib.ListN.{length-map}
@@ -52,7 +52,7 @@ module _ (σ : Schema) (i : ℕ) (s : List ℕ) where
   none-of-accepted {n} e =
       let r = accepted-finding i (total_in plain s) (first (faults σ s)) e in (clean-none (faults σ s) r.1, r.0 ∙ sym (length-entries s))
 
-  -- ---- the paper's numbers for each of the two
+  -- ---- the numbers of each of the two cases [K6]
 
   pub returned-refusal : {k : Cause} {p : ℕ} → FirstOf (faults σ s) k p
       → returned (reading_of σ i s) ≡ record { number = number_of k; input = i; place = p; entries = 0 }

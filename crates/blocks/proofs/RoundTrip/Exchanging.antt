@@ -1,6 +1,6 @@
--- Two used entries p entries apart in one block of an accepted input exchanged: refused as 2 exactly when their distance in words times the
--- difference of their word sums is no multiple of 65,536, and otherwise by none of 1 to 3. In any frame; and for entries of 8 bytes as reading
--- answers it, where the multiple is of 16,384.
+-- [B11] Two used entries p entries apart in one block of an accepted input exchanged: refused as 2 exactly when their
+-- distance in words times the difference of their word sums is no multiple of 65,536, and otherwise by none of 1 to
+-- 3. In any frame; and for entries of 8 bytes as reading answers it, where the multiple is of 16,384.
 -- Assumes nothing.
 use Rattle.std.proofs.Common.{◌≡◌, ℕ, suc, ◌+◌, ◌*◌, ◌/◌, ◌%◌, ◌<◌, ◌≤◌, false, ◌≢◌, ◌↔◌, List, Ok, length, refl, ap, ◌∙◌, arith}
 use Rattle.base.proofs.Multiples.{four-words}

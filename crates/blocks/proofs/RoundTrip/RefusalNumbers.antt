@@ -111,7 +111,7 @@ module _ (σ : Schema) (i : ℕ) (s : List ℕ) {k : Cause} {j p : ℕ} (e : rea
       number-first P {fs = front} (omega arith, numbers-blocks P (omega arith) (omega arith) s n 0 n)
       (found_first front k p (sym alike ∙ first_found (faults σ s) k p (first-of-refused σ i s e).1))
 
--- "A description is accepted when none of 1 to 6 applies to it"
+-- [R26] accepted where none of 1 to 6 refuses
 pub description-number : (i : ℕ) (s : List ℕ) {k : Cause} {j p : ℕ} → reading_of Description i s ≡ refused k j p → number_of k ≤ 6
 description-number i s e = number_by Description i s e (λ k. number_of k ≤ 6) (λ n h. omega arith) (λ n h. h.1)
 

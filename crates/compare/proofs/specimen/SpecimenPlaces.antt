@@ -82,7 +82,7 @@ module _ {t : List ℕ} (s : Stood t) where
   pub slot-within : (v : ℕ) (b : Bool) (n : ℕ) → slot_by t v b n ≤ used_in t
   slot-within v b n = omega (arith, slot_small (all_slots t) v b n, slots-many t 1 (used_in t))
 
-  -- "N's at least there (0 if none)"
+  -- [C10] N's at least, or 0
   pub least-in : (v l : ℕ) → or_zero (find least l (place_in t v)) ≡ least_in t (slot_by t v true l)
   least-in v l =
       let lo : ℕ = least_in t (slot_by t v true l) in

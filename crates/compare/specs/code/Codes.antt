@@ -50,7 +50,7 @@ tree_by t links m e c = witness (place_in t (c % 1024)) (target_by links m e c)
 abbrev pub properties_by : List ℕ → List ℕ → ℕ → Entry → ℕ → List ℕ
 properties_by t links m e c = names has (place_in t (c % 1024)) (target_properties (target_by links m e c))
 
--- its groups: "the count for link R is N's at least there (0 if none)", or what the target asks for, if that is more
+-- its groups: [C10] the count is N's at least, or what the target asks for, if that is more
 abbrev pub count_by : List ℕ → List ℕ → ℕ → Entry → ℕ → ℕ → ℕ
 count_by t links m e c l = max (least_in t (slot_by t (c % 1024) true l)) (want (target_by links m e c) l)
 

@@ -1,5 +1,5 @@
--- Fitting by groups and by entry numbers, as the code goes. No public promise names these: proofs/ shows that they give Table 1's
--- answer in the record of items.
+-- Fitting by groups and by entry numbers, as the code goes. No public promise names these: proofs/ shows that they
+-- give the answer in the record of items.
 -- Assumes nothing.
 use Rattle.std.specs.Prelude.{Bool, false, not, true, cond, ◌&&◌, ◌||◌, List, ◌≡◌, ◌≢◌, ℕ, zero, suc, ◌-◌, ◌≤◌, leb, eqb, length}
 use Rattle.base.specs.Chain.{OnChain}
@@ -25,7 +25,7 @@ is_group s l k = eqb (nth s k).kind 7 && eqb (nth s k).name l
 unfoldable pub has_property : List Entry → ℕ → ℕ → Bool
 has_property s g p = not (all_owned (λ k. not (gives_property s p k)) s g (length s))
 
--- the items that an item of group g is linked to by l: "Groups of one owner and link add up"
+-- the items that an item of group g is linked to by l: [F9] groups of one owner and link add up
 abbrev pub total_by : List Entry → ℕ → ℕ → ℕ
 total_by s g l = items_up_to s g l (length s)
 

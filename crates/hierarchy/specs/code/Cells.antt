@@ -1,4 +1,4 @@
--- The cells of a table of bytes whose rows are 64 apart, and what is read off them. No promise to the customer names these.
+-- The cells of a table of bytes whose rows are 64 apart, and what is read off them. No promise names these.
 -- Assumes nothing.
 use Rattle.std.specs.Prelude.{◌≡◌, ℕ, ◌+◌, ◌*◌, ◌<◌, Bool, ◌&&◌, eqb, false, not, get_or, List, ◌++◌}
 use Rattle.base.proofs.Lists.{listed}

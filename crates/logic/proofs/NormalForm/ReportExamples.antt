@@ -11,12 +11,12 @@ use Rattle.logic.specs.Normal.{add, bottom, excluded, fill, find, insert, is_bot
 use Rattle.logic.specs.Place.{atom, has, lacks, least, most, nothing}
 use Rattle.logic.specs.Tree.{end, leaf, node}
 
--- "C: 5,1 [5,2 [6]; 3,2,1]. Normal form: 4,1,0."
+-- [C16] an impossible place two links down
 gone-below : nf standing (node 1 (node 2 (leaf (atom nothing 0 0) end) (leaf (atom least 2 1) end)) end) ≡ leaf (atom most 1 0) end
 unfolding nf add within fill insert put put_every remove remove_every remove_lacks find sub excluded is_bottom
 gone-below = refl
 
--- "C: 3,1,3; 4,1,2. Normal form: 6."
+-- [C16] more is asked than allowed
 too_many : nf standing (leaf (atom least 1 3) (leaf (atom most 1 2) end)) ≡ bottom
 unfolding nf add insert put remove find is_bottom
 too_many = refl
@@ -37,12 +37,12 @@ merged = refl
 abbrev strict : Background
 strict = record { cap = λ l. cond (leb 8 l) (some 1) none; excludes = λ p q. (eqb p 1 && eqb q 2) || (eqb p 2 && eqb q 1) }
 
--- "at least 2 of such a link makes its place impossible, at most 1 or more is always met: it is dropped"
+-- [S2] [S3] at least 2 of a single link is impossible, at most 1 or more goes
 capped : nf strict (node 1 (leaf (atom least 9 2) end) (leaf (atom most 9 1) (leaf (atom most 7 1) end))) ≡ leaf (atom most 1 0) (leaf (atom most 7 1) end)
 unfolding nf add within fill insert put put_every remove remove_every remove_lacks find sub excluded is_bottom
 capped = refl
 
--- "A place with both is impossible; a place with one counts as lacking the other, so that lack is dropped from the normal form"
+-- [S9] [S10] both properties of a pair are impossible, and the lack that one implies goes
 exclusive : nf strict (leaf (atom has 1 0) (leaf (atom has 2 0) end)) ≡ bottom
 unfolding nf add insert put remove remove_lacks find excluded is_bottom
 exclusive = refl
@@ -51,7 +51,7 @@ dropped : nf strict (leaf (atom has 1 0) (leaf (atom lacks 3 0) (leaf (atom lack
 unfolding nf add insert put remove remove_lacks find excluded is_bottom
 dropped = refl
 
--- "yet it supports a lack in the comparison"
+-- [S10] an implied lack is supported
 still-supported : holds strict (leaf (atom has 1 0) end) [] (atom lacks 2 0) ≡ true
 unfolding holds holds_at find excluded is_bottom
 still-supported = refl

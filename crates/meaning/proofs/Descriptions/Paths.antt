@@ -52,7 +52,7 @@ module _ (c : Record) (d : List Entry) (L : Legal Description d) (x : ℕ) where
   fits-asked : (o y : ℕ) → fits c (place_of d o) y ≡ all_owned (λ n. asked n y) d o (length d)
   fits-asked o y = here-items c (place_of d o) y ∙ place-owned d L (λ a. meets c a y) (λ l u. each_linked c l y (fits c u)) o
 
-  -- "An item fits a place of a description if it meets each entry there", and only then
+  -- [F5] an item fits a place where it meets each entry of it, and only then
   pub place-met : (o y : ℕ) → (fits c (place_of d o) y ≡ true) ↔ ((n : ℕ) → 1 ≤ n → n ≤ length d → owner_of d n ≡ o → asked n y ≡ true)
   place-met o y =
       (λ h n lo hi q. owned_at (λ m. asked m y) d o (length d) (sym (fits-asked o y) ∙ h) n lo hi q, λ f. fits-asked o y ∙ owned-of (λ m. asked m y) d o (length d) f)

@@ -49,7 +49,7 @@ deep-normal : {b : Background} (t : Place) → Normal b t → Deep row_entry t
 deep-normal t (inl e) = rw e (tt, tt)
 deep-normal t (inr h) = deep-places t (ascends h) (below h)
 
--- "entries ascend by owner, then kind, then name"
+-- [E11] entries ascend by owner, then kind, then name
 pub normal-ascends : {b : Background} → LawfulBackground b → (es : List Entry) → Sorted entry_before (normal_entries b es)
 unfolding normal_entries
 normal-ascends {b} law es = laid-ascends row_entry keyed (nf b (place_of es 0)) (deep-normal _ (nf-normal law (place_of es 0)))

@@ -72,7 +72,7 @@ module _ (s : List Entry) where
   abbrev pub group_at : ℕ → ℕ
   group_at i = group_of (get_or (all_items s) i top)
 
-  -- "Groups of one owner and link add up": the number of items that item i is linked to by l
+  -- [F9] groups of one owner and link add up: the number of items that item i is linked to by l
   pub successors-groups : (l i : ℕ) → successors (record_of s) l i ≡ linked_items s (group_at i) l
   unfolding record_of count_in linked_items
   successors-groups l i =

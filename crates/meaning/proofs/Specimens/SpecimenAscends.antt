@@ -80,7 +80,7 @@ witness-deep : (t : Place) (g : Target) → Deep row_entry (witness t g)
 unfolding witness
 witness-deep t g = build-deep (λ l g'. below t l g') t g (λ l. below-deep t l (next g l))
 
--- "Order as in the normal form."
+-- [C12] the specimen ascends
 pub specimen-ascends : (t : Place) (d : List Entry) (n : ℕ) → Sorted entry_before (specimen_for t d n)
 unfolding specimen_for specimen_entries
 specimen-ascends t d n = laid-ascends row_entry keyed (witness t (on (links_to d n) _)) (witness-deep t _)

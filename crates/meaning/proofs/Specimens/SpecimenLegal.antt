@@ -129,7 +129,7 @@ module _ (b : Background) (c d : List Entry) (n : ℕ) (Lc : Legal Description c
       witness-fields Name Number none less (nf b (place_of c 0)) (on (links_to d n) (atom_of (nth d n)))
       (nf-fields Name Number none b (place_of c 0) (place-fields Name Number c ec 0)) (target-fields Name Number d Ld (length d) (omega arith) ed n lo hi)
 
-  -- "Entries never exceed those of C and D together."
+  -- [C13] no more entries than C and D together
   pub shown-length : length (specimen_for (nf b (place_of c 0)) d n) ≤ length c + length d
   unfolding specimen_for
   shown-length = omega (arith, specimen-length shown, shown-nodes)

@@ -40,7 +40,7 @@ pub each-given-more : (k : ℕ) (es : List Entry) → Given k es → Given (suc 
 each-given-more k [] h = tt
 each-given-more k (e ∷ es) h = (given-more k e h.0, each-given-more k es h.1)
 
--- "A dictionary description may name only earlier ones": the n-th names those before it
+-- [D4] names go to earlier descriptions only: the n-th names those before it
 given-from : (k : ℕ) (raw : ℕ → List Entry) (K : List (List Entry)) → EachAfter LegalNamed k K → ((n : ℕ) → Given (n - 1) (raw n))
     → (n : ℕ) → Given (n - 1) (in_turn (λ made d. d) raw (suc k) K n)
 unfolding in_turn

@@ -1,4 +1,4 @@
--- "Unfolding writes a plain description of the same meaning".
+-- [D7] the unfolded description means the same.
 -- Assumes nothing.
 use Prim.Native.Nat.{ℕ}
 use mathlib.Core.Bool.{Bool, ◌&&◌, and_assoc, true}
@@ -54,7 +54,7 @@ contents-means c K w =
     in-turn (λ es p. (λ y. fits c (place_of es 0) y) ≡ p) (λ k d. OwnersOk d) unfolded (fits_by c)
     (λ k T D d o h. unfold-fits c T D d o h) 0 (λ n. []) (λ n x. true) K w (λ n. unfold place_of fits tree in refl)
 
--- "a plain description of the same meaning"
+-- [D7] a plain description of the same meaning
 pub unfold-means : (K : List (List Entry)) (es : List Entry) → Each (λ k d. OwnersOk d) K → OwnersOk es → SameMeaning K es
 unfolding unfolded_by fits_named
 unfold-means K es each own c x =

@@ -20,7 +20,7 @@ use Rattle.names.proofs.Meaning.JoinedTrees.{Avoids, join, move_row, moved_apart
 use Rattle.names.specs.NamedMeaning.{named_place, named_row}
 use Rattle.names.specs.Unfold.{noted, owned_by, relocate, unfold_from, unfolded}
 
--- "put in at that place": P gives the top of what each name stands for
+-- [D3] put in at the place of the entry: P gives the top of what each name stands for
 unfoldable pub graft : (ℕ → Place) → Tree Entry ℕ → Place
 graft P end = end
 graft P (leaf e r) = cond (is_named e) (join (P e.name) (graft P r)) (leaf (atom_of e) (graft P r))

@@ -6,9 +6,10 @@ use Rattle.logic.specs.Normal.{found, under}
 use Rattle.logic.specs.Place.{Atom, Kind, atom, has, lacks, least, most, nothing}
 use Rattle.logic.specs.Tree.{Row, leaf_row, node_row}
 
--- A slot: the place where it stands, whether its name is a link's (else it is a property's), its name, the number of items that
--- there are at least, and the number that there are at most, if any. Slots count from 1. The place below a link's slot has the
--- slot's number, and the top is 0. A property has its slot too: "has" is at least 1, "lacks" is at most 0.
+-- A slot: the place where it stands, whether its name is a link's (else it is a property's), its name, the number of
+-- items that there are at least, and the number that there are at most, if any. Slots count from 1. The place below a
+-- link's slot has the slot's number, and the top is 0. A property has its slot too: having it is at least 1, lacking
+-- it at most 0.
 pub data Slot : Type 0 where
   slot : ℕ → Bool → ℕ → ℕ → Option ℕ → Slot
 
@@ -126,7 +127,8 @@ slots rs = build at_top [] 1 rs
 
 -- ---- the second pass, last to first: which places are impossible, what their slots become, which are not empty
 
--- the upper bound of a link, closed where the place below it is impossible: its owner's place "gains at most 0 of that link"
+-- the upper bound of a link, closed where the place below it is impossible: its owner's place gains at most 0 of its
+-- link [N2]
 abbrev pub closed : Bool → Option ℕ → Option ℕ
 closed true hi = some 0
 closed false hi = hi
@@ -136,7 +138,7 @@ abbrev pub broken : Bool → ℕ → Option ℕ → Bool
 broken true lo hi = under lo hi
 broken false lo hi = not (eqb lo 0) && found hi
 
--- the place v is inconsistent, "impossible": nothing fits it
+-- the place v is inconsistent, [N2] impossible: nothing fits it
 unfoldable pub inconsistent : ℕ → List Slot → ℕ → Bool
 inconsistent k [] v = false
 inconsistent k (slot u b n lo hi ∷ ss) v = (eqb v u && broken b lo (closed (b && inconsistent (suc k) ss k) hi)) || inconsistent (suc k) ss v

@@ -59,7 +59,7 @@ Fills b d t bad full r t' bad' full' =
     (r ≡ slotting_under b (room_in t bad full) d) × (t' ≡ table_under b (room_in t bad full) d t) × (bad' ≡ bad_under b (room_in t bad full) d bad)
     × (full' ≡ full_under b (room_in t bad full) d full) × FilledUnder b (room_in t bad full) d t' bad' full' r
 
--- "11, input 0, before any other check": the same under a list of pairs
+-- [R25] 11 before all else: the same under a list of pairs
 unfoldable pub slotting_of : List ℕ → ℕ → List ℕ → Reading
 slotting_of P room d = unless_refused Err (pairs_reading P) (slotting_under (under P) room d)
 

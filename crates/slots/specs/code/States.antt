@@ -48,9 +48,8 @@ state_of ss d (suc steps) o = cond (eqb o 0) 0 (state_below ss (state_of ss d st
 
 -- ---- support
 
--- "Kinds 1 and 2 need the same entry; kind 3 needs n = 0 or at least m with m ≥ n; kind 4 needs at most m with m ≤ n; kind 5 always
--- holds; kind 6 never does", by a slot's bounds: kind k, name l and number n. What the background says counts too: an at most that a cap
--- says, and the lack of a property that is excluded, which x tells.
+-- [C4] what supports an entry, kind by kind, by a slot's bounds: kind k, name l and number n. What the background
+-- says counts too: an at most that a cap says, and the lack of a property that is excluded, which x tells.
 unfoldable pub supported_by : Background → Bool → ℕ → ℕ → ℕ → ℕ → Option ℕ → Bool
 supported_by b x k l n lo hi =
     cond (eqb k 1) (not (eqb lo 0))

@@ -1,4 +1,4 @@
-//! The calls on the desk examples of the paper, on refused inputs, and on a small stack.
+//! The calls on the proved cases, on refused inputs, and on a small stack.
 //!
 //! An entry is written as its kind, owner, name and number.
 

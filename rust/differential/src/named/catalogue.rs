@@ -40,7 +40,8 @@ fn of_list(list: Vec<u8>) -> Vector {
     Vector::catalogue(blocks("1,7"), list, MOST_SERVICES)
 }
 
-/// "It fills one byte for each: 1 contained, 0 not." The same service again is judged again.
+/// A byte for each service: 1 for contained, 0 for not (L3). The same service again is judged
+/// again.
 pub fn bytes() -> Vec<Vector> {
     vec![
         catalogue("", &[""]),
@@ -78,7 +79,7 @@ fn sevens(count: usize) -> Vec<Entry> {
     vec![entry(1, 0, 7, 0); count]
 }
 
-/// "the first block, and each later one numbered 1, begins a service": by both bytes of the stored number, before any check.
+/// Each block numbered 1 begins a description (L1): by both bytes of the stored number, before any check.
 pub fn begins() -> Vec<Vector> {
     let full = encode(&sevens(63));
     let after_full = |number| [&full[..], &numbered(number)].concat();
@@ -157,8 +158,7 @@ fn over() -> Vec<u8> {
     encode(&[named(0, 1); 17])
 }
 
-/// "Inside the list the input number is 1 plus the service's position": each fault first and third. Its 1 is only for more than 16
-/// blocks.
+/// The n-th service is input 1 + n (L5): each fault first and third. Its 1 is only for more than 16 blocks.
 pub fn own_checks() -> Vec<Vector> {
     let mut vectors = Vec::new();
     for fault in faults() {
@@ -224,7 +224,7 @@ pub fn order() -> Vec<Vector> {
     vectors
 }
 
-/// "7 last for fewer answer bytes than services"; later bytes stay, and long descriptions need no more.
+/// 7 last, for fewer bytes than services (L7); later bytes stay, and long descriptions need no more.
 pub fn outputs() -> Vec<Vector> {
     let mut vectors = Vec::new();
     for (services, outputs) in [

@@ -1,4 +1,4 @@
-//! Vectors of the paper's cases, of the requests' statements and of the examples that the report prints.
+//! Vectors of the cases that are proved, of each clause, and of the examples in the literature.
 
 pub mod catalogue;
 pub mod doubles;
@@ -493,8 +493,8 @@ fn counted_as_before() -> Vec<Vector> {
     ]
 }
 
-/// The starred cases in the paper's order, each normal form before what it is compared with, and after a specimen that is named
-/// what it fits.
+/// The cases that are proved (C16), each normal form before what it is compared with, and after a specimen that is
+/// named what it fits.
 pub fn desk() -> Vec<Vector> {
     vec![
         compare("", ""),
@@ -529,20 +529,20 @@ pub fn desk() -> Vec<Vector> {
     ]
 }
 
-/// C of the report's Example 7, where 'for all S > ((' is read as 'for all S.((', as its graph in Figure 2 has it.
+/// C of Molitor's running example, where 'for all S > ((' is read as 'for all S.((', as its graph has it.
 ///
 /// Here and below P is property 1 and Q property 2, R is link 1 and S link 2.
 const C_7: &str = "5,1 [1,1; 1,2; 5,2 [3,2,1; 5,2 [1,2; 2,2]]]; 5,2 [1,2]; 5,2 [3,2,3]";
-/// D of Example 7.
+/// D of Molitor's running example.
 const D_7: &str = "5,1 [1,1; 5,2 [1,2]]; 5,2 [1,2; 3,2,1]";
-/// The canonical graph of C in Figure 5, which Example 11 comes to.
+/// The canonical graph of C, which the rules come to.
 const C_11: &str = "5,1 [1,1; 1,2; 4,2,0]; 5,2 [1,2; 3,2,3]";
-/// C' of Example 15.
+/// C' of Molitor's example on at least 0.
 const C_15: &str = "5,1 [1,1]";
-/// D' of Example 15.
+/// D' of that example.
 const D_15: &str = "5,2 [3,1,0]";
 
-/// The graph of C in Figure 2 node by node, v1, v4 and v5 first: the same entries as in C, in another order.
+/// The graph of C node by node, v1, v4 and v5 first: the same entries as in C, in another order.
 fn graph_of_c() -> Vec<u8> {
     encode(&[
         entry(5, 0, 1, 0),
@@ -560,11 +560,11 @@ fn graph_of_c() -> Vec<u8> {
     ])
 }
 
-/// The report's Examples 7, 11 and 15, with the pairs that its text speaks of and these exchanged, and the examples of its
-/// Sections 5 and 6 that have no number.
+/// Molitor's examples, with the pairs that his text speaks of and these exchanged, and the examples of its Sections 5
+/// and 6 that have no number.
 pub fn report() -> Vec<Vector> {
     vec![
-        // Examples 7 and 11.
+        // The running example and its canonical graph.
         Vector::description(blocks(C_7)),
         Vector::description(graph_of_c()),
         Vector::description(blocks(D_7)),
@@ -574,22 +574,22 @@ pub fn report() -> Vec<Vector> {
         normal_form(D_7),
         compare(C_7, C_11),
         compare(C_11, C_7),
-        // After Theorem 14: C is contained in D, by the canonical graph of C.
+        // C is contained in D, by the canonical graph of C.
         compare(C_7, D_7),
         compare_bytes(graph_of_c(), blocks(D_7)),
         compare(C_11, D_7),
         compare(D_7, C_7),
-        // Example 15: C' is contained in D', and D' is fitted by all items.
+        // C' is contained in D', and D' is fitted by all items.
         compare(C_15, D_15),
         compare(D_15, C_15),
         normal_form(D_15),
         compare("", D_15),
         compare(D_15, ""),
-        // Section 5: 'for all R.(P and not P)' is 'at most 0 R', and Figure 3.
+        // 'For all R.(P and not P)' is 'at most 0 R', also below a link.
         compare("5,1 [1,1; 2,1]", "4,1,0"),
         compare("4,1,0", "5,1 [1,1; 2,1]"),
         normal_form("1,1; 5,1 [4,2,0; 5,2 [1,2]]"),
-        // After Definition 12: the canonical graph's node by R is more specific than P and at most 1 S.
+        // The canonical graph's node by R is more specific than P and at most 1 S.
         compare("1,1; 1,2; 4,2,0", "1,1; 4,2,1"),
     ]
 }

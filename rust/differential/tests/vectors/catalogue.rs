@@ -1,4 +1,4 @@
-//! The vectors of all services in one call, with their answers from the request's sentences.
+//! The vectors of all services in one call, with their answers from the clauses.
 
 use super::*;
 use differential::named::catalogue;
@@ -40,7 +40,7 @@ fn a_byte_for_each_service() {
     check(&catalogue::bytes(), &expected);
 }
 
-/// "Each byte equals the single comparison."
+/// Each byte is the single comparison's (L4).
 #[test]
 fn the_pairs_of_the_desk() {
     let contained = [1, 1, 0, 1, 1, 0, 1, 0, 0, 1, 1, 0];

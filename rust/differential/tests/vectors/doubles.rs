@@ -1,4 +1,4 @@
-//! The vectors of descriptions that mean the same, with their answers from the request's sentence.
+//! The vectors of descriptions that mean the same, with their answers from the clause (N20).
 
 use super::*;
 use differential::named::doubles::*;

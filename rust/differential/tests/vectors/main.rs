@@ -1,5 +1,5 @@
-//! The vectors: the files that are kept are the ones that are made, every answer comes often enough, and the named cases give what
-//! the paper and the report say.
+//! The vectors: the files that are kept are the ones that are made, every answer comes often enough, and the named
+//! cases give what the specification and the literature say.
 
 mod catalogue;
 mod doubles;
@@ -611,7 +611,7 @@ fn desk() {
     check(&named::desk(), &expected);
 }
 
-/// Figure 5: P, Q and at most 0 S by R; Q and at least 3 S by S.
+/// The canonical graph: P, Q and at most 0 S by R; Q and at least 3 S by S.
 fn figure_5() -> [Entry; 7] {
     [
         entry(5, 0, 1, 0),
@@ -624,7 +624,8 @@ fn figure_5() -> [Entry; 7] {
     ]
 }
 
-/// D of Example 7, whose graph no rule changes: P by R, Q by R and S, Q and at least 1 S by S.
+/// D of the running example, whose graph no rule changes: P by R, Q by R and S, Q and at least
+/// 1 S by S.
 fn graph_of_d() -> [Entry; 7] {
     [
         entry(5, 0, 1, 0),

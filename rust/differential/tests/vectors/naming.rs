@@ -1,4 +1,4 @@
-//! The vectors of named descriptions, with their answers from the request's sentences.
+//! The vectors of named descriptions, with their answers from the clauses.
 
 use super::*;
 use differential::named::naming::*;

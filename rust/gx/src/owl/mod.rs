@@ -15,8 +15,8 @@
 //! Links from 32,768 up lead to one item only: the axiom `FunctionalObjectProperty(:link_32768)` says so to a reasoner. So does
 //! `DisjointClasses(:property_7 :property_8)` of two properties that exclude each other.
 //!
-//! OWL speaks of all records and the paper of finite ones; for this fragment the answers are the same, since the specimen of a no
-//! is finite.
+//! OWL speaks of all records and the library of finite ones; for this fragment the answers are the same, since the
+//! specimen of a no is finite.
 
 mod lexer;
 mod other;

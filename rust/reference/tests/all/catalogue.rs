@@ -1,4 +1,4 @@
-//! All services in one call: each statement of the request.
+//! All services in one call: each clause.
 
 use std::collections::BTreeSet;
 
@@ -46,7 +46,7 @@ fn refused(pairs: &[u8], dict: &[u8], list: &[u8], due: Refusal) {
     assert!(out.iter().all(|&byte| byte == FILL));
 }
 
-/// "It fills one byte for each: 1 contained, 0 not."
+/// A byte for each service: 1 for contained, 0 for not (L3).
 #[test]
 fn by_hand() {
     for (c, texts, due) in [
@@ -107,7 +107,7 @@ fn single(pairs: &[u8], dict: &[u8], c: &[u8], d: &[u8]) -> u8 {
     u8::from(answer.unwrap() == Comparison::Contained)
 }
 
-/// "Each byte equals the single comparison", under lists of pairs and with
+/// Each byte is the single comparison's (L4), under lists of pairs and with
 /// dictionaries, and equals that of the unfolded ones with none.
 #[test]
 fn each_byte_is_the_single_comparison() {
@@ -143,7 +143,7 @@ fn each_byte_is_the_single_comparison() {
     assert!(bytes[0] > 500 && bytes[1] > 500, "{bytes:?}");
 }
 
-/// A list of excluding pairs counts: "the catalogue call [...] take[s] a list".
+/// A list of excluding pairs counts: the catalogue takes a list (S14).
 #[test]
 fn under_a_list_of_pairs() {
     let texts = services(&["2,2", "2,1", "1,1; 2,2", "5,1 [2,2]", "6"]);
@@ -170,8 +170,7 @@ fn with_a_dictionary() {
     assert_eq!(answer, Err(refusal(13, 2, 1)));
 }
 
-/// "1 for a list of length 0 or no multiple of 512 [...] at input 2, place 0",
-/// before 8.
+/// 1 for a list of length 0 or no multiple of 512 (L6), before 8.
 #[test]
 fn number_1_of_the_list() {
     refused(&[], &[], &[], refusal(1, 2, 0));
@@ -193,8 +192,7 @@ fn number_1_of_the_list() {
     refused(&[], &[], &part[..part.len() - 2], refusal(1, 2, 0));
 }
 
-/// "8: more than 64 services; [...] at input 2, place 0; before the services'
-/// own".
+/// 8 for more than 64 services, before their own checks (L6).
 #[test]
 fn number_8() {
     let good = blocks("1,1");
@@ -218,7 +216,7 @@ fn number_8() {
     }
 }
 
-/// "the first block, and each later one numbered 1, begins a service"
+/// Each block numbered 1 begins a description (L1).
 #[test]
 fn where_services_begin() {
     let renumbered = |number: u16| {
@@ -251,8 +249,8 @@ fn where_services_begin() {
     refused(&[], &[], &list, refusal(3, 3, 1));
 }
 
-/// "Inside the list the input number is 1 plus the service's position", each
-/// service in full, its 14 included, before the next.
+/// The n-th service is input 1 + n (L5), each service in full, its 14
+/// included, before the next.
 #[test]
 fn the_services_own_checks() {
     let full = vec![entry(1, 0, 7, 0); 1008];
@@ -341,7 +339,7 @@ fn the_order() {
     }
 }
 
-/// "7 last for fewer answer bytes than services"; later bytes stay.
+/// 7 last, for fewer bytes than services (L7); later bytes stay.
 #[test]
 fn number_7() {
     for count in [1, 2, 3, 63, 64] {

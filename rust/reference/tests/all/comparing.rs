@@ -58,13 +58,13 @@ fn counterexample(first: &[u64], second: &[u64]) -> bool {
 }
 
 /// The specimen is one of C's and none of D's, and the list of excluding pairs
-/// doesn't refuse it: "a specimen is judged under the same list".
+/// doesn't refuse it: a specimen is judged under the list (S13).
 fn check_specimen(pairs: &[u8], c: &[Entry], d: &[Entry], specimen: &[Entry]) {
     let bytes = encode(specimen);
     let fit = |description: &[Entry]| fit_with(pairs, &[], &bytes, &encode(description));
     assert_eq!(fit(c), Ok(true), "{c:?} {d:?}");
     assert_eq!(fit(d), Ok(false), "{c:?} {d:?}");
-    // "Entries never exceed those of C and D together."
+    // No more entries than C and D together (C13).
     assert!(specimen.len() <= c.len() + d.len());
     for pair in specimen.windows(2) {
         let key = |e: &Entry| (e.owner, e.kind, e.name);

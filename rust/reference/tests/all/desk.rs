@@ -97,7 +97,7 @@ fn nothing_fits() {
             entries: 0
         })
     );
-    // "specimen of 0 entries in one block": bytes 0 and 508 = 1, byte 510 = 2.
+    // A specimen of no entries (C16): bytes 0 and 508 = 1, byte 510 = 2.
     let mut empty = vec![0; 512];
     (empty[0], empty[508], empty[510]) = (1, 1, 2);
     assert_eq!(out[..512], empty);
@@ -119,7 +119,7 @@ fn sizes() {
         place: 0,
     };
     assert_eq!(read_description(&encode(&over)), Err(refusal));
-    // "a specimen 1 to 32 (2,016)"
+    // A specimen has at most 32 blocks, 2,016 entries (B8).
     assert_eq!(
         read_specimen(&encode(&vec![entry(1, 0, 1, 0); 2016])),
         Ok(2016)

@@ -1,8 +1,6 @@
 //! Two entries of one block exchanged: which exchanges the second check finds.
 //!
-//! "Exchanging two used entries p entries apart in one block of an accepted
-//! input is refused as 2 exactly when p times the difference of their word
-//! sums is no multiple of 16,384."
+//! What exchanging two entries of a block comes to (B11).
 
 use reference::{encode, read_description, read_specimen, Entry, Refusal};
 

@@ -1,4 +1,4 @@
-//! Properties that exclude each other: each statement of the request.
+//! Properties that exclude each other: each clause.
 
 use std::collections::BTreeMap;
 
@@ -67,7 +67,7 @@ fn accepted(pairs: &[u8]) {
     assert_eq!(normal_under(pairs, &blocks("")), Ok(vec![]));
 }
 
-/// "length no multiple of 4 or over 64 pairs, place 0"
+/// The length, at place 0 (R11).
 #[test]
 fn number_11_length() {
     let long = list(&[(1, 2); 100]);
@@ -84,7 +84,7 @@ fn number_11_length() {
     }
 }
 
-/// "else the lowest pair with 0 or two equal numbers, place that pair"
+/// Else the lowest wrong pair, at its place (R11).
 #[test]
 fn number_11_pairs() {
     let wrong = [(0, 1), (1, 0), (0, 0), (1, 1), (256, 256), (65_535, 65_535)];
@@ -102,7 +102,7 @@ fn number_11_pairs() {
     accepted(&list(&[(1, 65_535), (65_535, 1), (1, 65_535), (256, 1)]));
 }
 
-/// 11 comes "before any other check", and only then a dictionary, before the
+/// 11 comes before all else (R25), and only then a dictionary, before the
 /// inputs.
 #[test]
 fn number_11_before_the_dictionary() {
@@ -137,8 +137,8 @@ fn twelve(pairs: &[u8], specimen: &[Entry], place: Option<usize>) {
     }
 }
 
-/// "a specimen or delivered record with an item that has both of a pair, place
-/// the lowest entry that completes one"
+/// An item has both properties of a pair; the place is the lowest entry that
+/// completes one (R12).
 #[test]
 fn number_12() {
     for (text, place) in [
@@ -187,7 +187,7 @@ fn number_12() {
     twelve(&list(&ONE_PAIR), &full[..2015], None);
 }
 
-/// "after that input's other checks"
+/// After the specimen's other checks (S13).
 #[test]
 fn number_12_is_last_in_its_input() {
     let both = entries("1,1; 1,2");
@@ -263,8 +263,8 @@ fn fitting_is_as_it_was() {
     }
 }
 
-/// "A place with both is impossible; a place with one counts as lacking the
-/// other, so that lack is dropped from the normal form".
+/// Both properties of a pair are impossible, and the lack that one implies
+/// goes (S9) (S10).
 #[test]
 fn normal_forms() {
     for (before, after) in [
@@ -321,7 +321,7 @@ fn not_contained(pairs: &[(u16, u16)], c: &str, d: &str, entry: usize, specimen:
     assert_eq!(found, Answer::Not { entry, specimen }, "{c} / {d}");
 }
 
-/// "yet it supports a lack in the comparison"
+/// An implied lack is supported (S10).
 #[test]
 fn an_implied_lack_supports() {
     contained(&OVERLAP, "1,1", "2,2");
@@ -386,9 +386,8 @@ fn all_records_that_keep_the_list_are_tried() {
     assert!(record.keeps_the_list(&list(&ONE_PAIR)));
 }
 
-/// "What a yes and a no promise now ranges over every list that 11 doesn't
-/// refuse and over records that keep it": all descriptions of up to two
-/// entries against all records of up to two items.
+/// Answers are about the records that keep the list (S12): all descriptions
+/// of up to two entries against all records of up to two items.
 #[test]
 fn all_tiny_descriptions() {
     for pairs in [&ONE_PAIR[..], &OVERLAP, &ROUND] {

@@ -33,7 +33,8 @@ fn all_items_fit_the_empty_description() {
     }
 }
 
-/// "Groups of one owner and link add up."; "Counting a group as one item."
+/// Groups of one owner and link add up (F9); a group counts as its items
+/// (F9).
 #[test]
 fn counts() {
     for (specimen, description, answer) in [
@@ -92,7 +93,7 @@ fn properties_and_every() {
     }
 }
 
-/// "Each item of the owner is linked to each item of the group."
+/// Each item of the owner is linked to each of the group (F7).
 #[test]
 fn an_expanded_specimen() {
     let record = specimen_record(&entries("1,5; 7,1,1 [1,6; 7,2]"));

@@ -5,7 +5,7 @@ use reference::{decode, encode, Entry};
 use crate::chance::Chance;
 use crate::notation::entry;
 
-/// "word 1 is 1, so byte 508 is 1 and byte 510 is 2"
+/// The block of no entries (B9).
 #[test]
 fn the_empty_description() {
     let mut empty = vec![0; 512];

@@ -1,4 +1,4 @@
-//! Named descriptions: each statement of the request.
+//! Named descriptions: each clause.
 
 use reference::record::{fits, fits_named, Record};
 use reference::{
@@ -99,8 +99,8 @@ fn accepted(dict: &[u8]) {
     assert_eq!(answer, Ok(Comparison::Contained));
 }
 
-/// "A dictionary is a list like P1's, or of length 0 with no descriptions": 1
-/// for a length that is no multiple of 512.
+/// A list of descriptions, or of length 0 (D1): 1 for a length that is no
+/// multiple of 512.
 #[test]
 fn number_1_of_the_dictionary() {
     accepted(&[]);
@@ -129,7 +129,7 @@ fn number_1_of_the_dictionary() {
     dictionary_refused(&[&over[..], &full].concat(), refusal(1, 101, 0));
 }
 
-/// "8: more than 64", before the descriptions' own checks.
+/// 8 for more than 64 (R8), before the descriptions' own checks.
 #[test]
 fn number_8() {
     for count in [1, 2, 63, 64] {
@@ -150,8 +150,7 @@ fn number_8() {
     dictionary_refused(&vec![full; 65].concat(), refusal(8, 100, 0));
 }
 
-/// "the first block, and each later one numbered 1, begins a service", before
-/// any check.
+/// Each block numbered 1 begins a description (L1), before any check.
 #[test]
 fn where_descriptions_begin() {
     let renumbered = |number: u16| {
@@ -185,7 +184,7 @@ fn where_descriptions_begin() {
     dictionary_refused(&dict, refusal(3, 102, 1));
 }
 
-/// "its n-th description as 100 + n", each in full before the next.
+/// The n-th description is input 100 + n (D2), each in full before the next.
 #[test]
 fn the_dictionarys_own_checks() {
     let two_blocks = encode(&[entry(1, 0, 1, 0); 70]);
@@ -216,8 +215,8 @@ fn the_dictionarys_own_checks() {
     }
 }
 
-/// "entry kind 9 with name n and number 0": other numbers are 4, and so is a
-/// wrong zero byte.
+/// A named entry has any name and number 0 (D3) (E5): other numbers are 4,
+/// and so is a wrong zero byte.
 #[test]
 fn number_4() {
     let dict = dictionary(&["1,7", "1,8"]);
@@ -237,8 +236,7 @@ fn number_4() {
     }
 }
 
-/// "13: a name of 0, above the dictionary's count or not earlier; at its entry
-/// after 4."
+/// 13, a name that may not be given, after 4 at its entry (R13) (R24).
 #[test]
 fn number_13() {
     for count in [0u16, 1, 2, 40, 63] {
@@ -277,7 +275,7 @@ fn number_13() {
     }
 }
 
-/// 13 "at its entry after 4", then 5 and 6; the lowest entry decides.
+/// 13 at its entry, after 4 (R24), then 5 and 6; the lowest entry decides.
 #[test]
 fn number_13_and_the_others() {
     let dict = dictionary(&["1,7"]);
@@ -310,8 +308,8 @@ fn number_13_and_the_others() {
     refused_everywhere(&dict, 1, &with_checks(bytes), 3, 2);
 }
 
-/// "owner not earlier or not of kind 5": a named entry owns nothing, whatever
-/// it stands for.
+/// The owner is not earlier, or may not own (R5): a named entry owns nothing,
+/// whatever it stands for.
 #[test]
 fn number_5_below_a_named_entry() {
     let dict = dictionary(&["", "5,1 []", "5,1 [1,7]"]);
@@ -344,8 +342,7 @@ fn number_6_of_a_named_entry() {
     assert_eq!(none, Ok(chain(32)));
 }
 
-/// "14: a description, in the dictionary or not, of more than 1,008 entries
-/// [...] once unfolded".
+/// 14, too many entries once unfolded (R14).
 #[test]
 fn number_14_entries() {
     let sizes = [0, 1, 2, 504, 505, 1007, 1008];
@@ -379,8 +376,8 @@ fn number_14_entries() {
     }
 }
 
-/// "or depth over 32 once unfolded"; "An entry's depth is the number of entries
-/// in its chain of owners".
+/// Depth above 32 once unfolded (R14); how many owners an entry has above it
+/// (E9).
 #[test]
 fn number_14_depth() {
     // Description k is a chain of which the deepest entry has depth k - 1, and
@@ -409,7 +406,7 @@ fn number_14_depth() {
     assert!(unfolded(&dict, &encode(&all)).is_ok());
 }
 
-/// "place 0, after all other checks of that input", and before the next input.
+/// Place 0, after the input's other checks (R24), and before the next input.
 #[test]
 fn number_14_is_last_in_its_input() {
     let dict = laid_end_to_end(&[vec![entry(1, 0, 7, 0); 1008]]);
@@ -485,7 +482,7 @@ fn number_14_step_by_step() {
     let flat = around(entries("1,7"));
     accepted(&laid_end_to_end(&flat[..33]));
     dictionary_refused(&laid_end_to_end(&flat), refusal(14, 134, 0));
-    // "A name that unfolds to nothing adds no depth": one more fits.
+    // A name that stands for nothing adds no depth (D9): one more fits.
     let none = around(vec![]);
     accepted(&laid_end_to_end(&none[..34]));
     dictionary_refused(&laid_end_to_end(&none), refusal(14, 135, 0));
@@ -513,7 +510,7 @@ fn many_names_of_nothing() {
     assert_eq!(unfolded(&dict, &encode(&some)), Ok(entries("5,1 []")));
 }
 
-/// "each named entry replaced by the contents, taken over in their order"
+/// The contents of a name stand where it stood, in their order (D6).
 #[test]
 fn unfolding_by_hand() {
     let dict = dictionary(&[
@@ -742,8 +739,8 @@ fn number_14_is_what_replacing_says() {
     );
 }
 
-/// "A call for which no output length is named gives 7 exactly when the output
-/// is shorter than what the call would write; bytes after what it writes stay."
+/// 7 exactly where the output is shorter than what is written; later bytes stay
+/// (D12).
 #[test]
 fn number_7_of_the_unfolding() {
     let dict = laid_end_to_end(&[vec![], vec![entry(1, 0, 7, 0); 64]]);
@@ -775,8 +772,8 @@ fn number_7_of_the_unfolding() {
     }
 }
 
-/// "the output [...] measured too" by the unfolded ones; "01's limit on one
-/// input goes by its length as sent".
+/// The output is measured (D8) by the unfolded ones; the limit of blocks is
+/// on what is sent (D9).
 #[test]
 fn number_7_by_the_unfolded_ones() {
     let dict = laid_end_to_end(&[vec![], vec![entry(1, 0, 7, 0); 64]]);
@@ -815,8 +812,8 @@ fn outcome<T>(length: usize, call: impl Fn(&mut [u8]) -> Result<T, Refusal>) -> 
     (answer, out)
 }
 
-/// "All answers and written bytes for named descriptions, entry numbers
-/// included, equal those for the unfolded ones".
+/// All answers and written bytes are those for the unfolded descriptions
+/// (D8).
 fn the_same(pairs: &[u8], dict: &[u8], s: &[u8], c: &[u8], d: &[u8]) {
     let [plain_c, plain_d] = [c, d].map(|bytes| encode(&unfolded(dict, bytes).unwrap()));
     let (one, both) = (plain_c.len(), plain_c.len() + plain_d.len());
@@ -907,7 +904,8 @@ fn numbers_in_answers() {
     assert_eq!(out, blocks("1,7; 4,1,0; 4,2,3"));
 }
 
-/// "an item meets kind 9 exactly if it fits the n-th description", by hand.
+/// An item meets a named entry where it fits what it stands for (D5), by
+/// hand.
 #[test]
 fn what_a_name_means() {
     let mut record = Record::of_items(3);
@@ -937,8 +935,8 @@ fn what_a_name_means() {
     }
 }
 
-/// "Unfolding writes a plain description of the same meaning": the same items
-/// fit, in each of these records.
+/// The unfolded description means the same (D7): the same items fit, in each
+/// of these records.
 fn same_meaning(records: &[Record], named: &[Vec<Entry>], before: &[Entry]) -> usize {
     let after = unfolded(&laid_end_to_end(named), &encode(before)).unwrap();
     let mut fitted = 0;
@@ -1034,8 +1032,9 @@ fn the_fit_answer_is_the_meaning() {
     assert!(yes > 300 && no > 300, "{yes} {no}");
 }
 
-/// "(the program passes length 0, and no pairs)": in the calls with no
-/// dictionary each name is above the count, and what is wrong otherwise is 4.
+/// The program passes no pairs and a dictionary of length 0 (D10): in the
+/// calls with no dictionary each name is above the count, and what is wrong
+/// otherwise is 4.
 #[test]
 fn the_calls_with_no_dictionary() {
     let (good, mut out) = (blocks("1,1"), vec![FILL; 2048]);
@@ -1065,7 +1064,7 @@ fn the_calls_with_no_dictionary() {
 }
 
 /// The readers take no dictionary at all, not even one of length 0: kind 9 is
-/// "kind not allowed" there.
+/// a kind that may not stand there (R4) there.
 #[test]
 fn the_readers() {
     for e in [named(0, 0), named(0, 1), named(9, 1), entry(9, 0, 1, 1)] {
@@ -1075,8 +1074,8 @@ fn the_readers() {
     }
 }
 
-/// "Descriptions use 1-6, specimens 1 and 7": kind 9 in a specimen is 4, with
-/// any dictionary.
+/// Kinds 1 to 6 in descriptions, 1 and 7 in specimens (E4): kind 9 in a
+/// specimen is 4, with any dictionary.
 #[test]
 fn specimens_name_nothing() {
     for dict in [vec![], blocks("1,7"), dictionary(&["1,7", "9,1"])] {

@@ -54,7 +54,7 @@ pub fn check_normal(pairs: &[u8], found: &[Entry]) {
         assert!(a.kind != 3 || a.number > 0, "rule 8");
         let single = Link(a.name).is_single();
         assert!(a.kind != 3 || !single || a.number < 2, "rules 3 and 5");
-        assert!(a.kind != 4 || !single || a.number < 1, "the request");
+        assert!(a.kind != 4 || !single || a.number < 1, "N12");
         assert!(
             a.kind != 5 || found.iter().any(|b| b.owner == number),
             "rule 9"
@@ -126,7 +126,7 @@ fn of_small_descriptions() {
     assert_eq!(normal_text("5,1 [1,1]; 5,2 [2,1]"), apart);
 }
 
-/// "entries ascend by owner, then kind, then name"
+/// Entries ascend by owner, then kind, then name (E11).
 #[test]
 fn numbers_are_given_owner_by_owner() {
     let found = normal_text("5,9 [5,2 [1,1]; 2,3]; 5,4 [5,8 [1,2]; 5,3 [1,4]]; 2,1; 1,5");

@@ -1,9 +1,9 @@
-//! Examples of the report, with R = 1, S = 2 as links and P = 1, Q = 2 as
-//! properties, and the traps.
+//! Examples of the literature, with R = 1, S = 2 as links and P = 1, Q = 2 as
+//! properties, and where the specification differs from it.
 
 use crate::notation::{blocks, compared_texts, entries, entry, normal, Answer};
 
-/// Example 7.
+/// The running example: C is contained in D.
 const C: &str = "5,1 [1,1; 1,2; 5,2 [3,2,1; 5,2 [1,2; 2,2]]]; 5,2 [1,2]; 5,2 [3,2,3]";
 const D: &str = "5,1 [1,1; 5,2 [1,2]]; 5,2 [1,2; 3,2,1]";
 
@@ -22,7 +22,8 @@ fn example_7_exchanged_is_not() {
     assert_eq!(compared_texts(D, C), Answer::Not { entry: 3, specimen });
 }
 
-/// Example 11, Figure 5: P, Q and at most 0 S by R; Q and at least 3 S by S.
+/// The canonical graph of C: P, Q and at most 0 S by R; Q and at least 3 S by
+/// S.
 #[test]
 fn example_11_normal_form() {
     assert_eq!(
@@ -47,7 +48,7 @@ fn example_15() {
     );
 }
 
-/// Figure 3.
+/// At most 0 below a link removes its 'every'.
 #[test]
 fn figure_3() {
     assert_eq!(
@@ -56,8 +57,8 @@ fn figure_3() {
     );
 }
 
-/// After Definition 12: the node of Figure 5 by R is more specific than P and
-/// at most 1 S.
+/// The node of the canonical graph by R is more specific than P and at most 1
+/// S.
 #[test]
 fn after_definition_12() {
     assert_eq!(compared_texts(C, "5,1 [1,1; 4,2,1]"), Answer::Contained);
@@ -67,7 +68,7 @@ fn after_definition_12() {
     );
 }
 
-/// "Rules 3 and 5 there say m > n; the text's m < n is meant."
+/// M < n is meant (N3) (N5).
 #[test]
 fn room_between_at_least_and_at_most() {
     assert_eq!(normal_text("3,1,2; 4,1,5"), entries("3,1,2; 4,1,5"));
@@ -78,14 +79,14 @@ fn room_between_at_least_and_at_most() {
     assert_eq!(normal_text("5,9 [3,1,5; 4,1,2]"), entries("4,9,0"));
 }
 
-/// "Rule 2 there removes all on paths from v; from w is meant."
+/// What is below the impossible place goes (N2).
 #[test]
 fn places_beside_an_impossible_one_stay() {
     let found = normal_text("5,3 [5,1 [6]; 5,2 [1,1]; 1,2]");
     assert_eq!(found, entries("5,3 [1,2; 4,1,0; 5,2 [1,1]]"));
 }
 
-/// "Definition 12 has the literals the wrong way round".
+/// The supplier's place has what the service asks for (C4).
 #[test]
 fn the_supplier_has_more() {
     assert_eq!(compared_texts("1,1; 2,2", "1,1"), Answer::Contained);
@@ -96,8 +97,7 @@ fn the_supplier_has_more() {
     );
 }
 
-/// "Figure 6 goes on into a link that has at most 0; such a link is passed
-/// over."
+/// A link with at most 0 is passed over (C3).
 #[test]
 fn nothing_is_asked_below_at_most_0() {
     assert_eq!(
@@ -114,7 +114,7 @@ fn nothing_is_asked_below_at_most_0() {
     );
 }
 
-/// "Property 7 and link 7 have nothing to do with each other".
+/// Properties and links are numbered apart (E6).
 #[test]
 fn property_and_link_of_one_number() {
     assert_eq!(

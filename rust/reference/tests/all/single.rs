@@ -1,7 +1,7 @@
-//! Links that lead to one item only: each statement of the request.
+//! Links that lead to one item only: each clause.
 //!
-//! "Link numbers from 32,768 up are such links." 32,767 is the last that may
-//! lead to several items.
+//! Links from 32,768 up are single (S1). 32,767 is the last that may lead to
+//! several items.
 
 use reference::record::{fits, specimen_record, Record};
 use reference::{
@@ -43,8 +43,9 @@ fn from_32768_up() {
     }
 }
 
-/// "never lead to two items": from one item. Several items may lead to the
-/// same one, and to themselves, and properties have nothing to do with it.
+/// Lead to one item at most (S1): from one item. Several items may lead to
+/// the same one, and to themselves, and properties have nothing to do with
+/// it.
 #[test]
 fn which_records_keep_the_rule() {
     let mut record = Record::of_items(4);
@@ -72,8 +73,8 @@ fn all_records_that_keep_the_rule_are_tried() {
     assert_eq!(all_records(3, 1, &[Link(65_535)]).len(), 8 * 64);
 }
 
-/// "at least 2 of such a link makes its place impossible": rules 2, 3 and 5
-/// go on from there, and the gained at most 0 of the owner's link too.
+/// At least 2 of a single link (S2): rules 2, 3 and 5 go on from there, and
+/// the gained at most 0 of the owner's link too.
 #[test]
 fn at_least_2_is_impossible() {
     for (before, after) in [
@@ -112,8 +113,8 @@ fn at_least_2_is_impossible() {
     }
 }
 
-/// "at most 1 or more is always met: it is dropped from a normal form", and
-/// then its 'every' may own nothing.
+/// At most 1 or more of a single link goes (S3) (N12), and then its 'every'
+/// may own nothing.
 #[test]
 fn at_most_1_or_more_is_dropped() {
     for (before, after) in [
@@ -152,7 +153,7 @@ fn a_full_description_of_entries_that_are_dropped() {
     assert_eq!(normal(&encode(&kept)).unwrap(), entries("4,32767,1"));
 }
 
-/// "holds in every comparison", also where N has no place W.
+/// It holds in every comparison (S3), also where N has no place W.
 #[test]
 fn at_most_1_or_more_holds() {
     for c in ["", "1,7", "6", "3,32768,1", "4,32768,0", "5,1 [1,7]"] {
@@ -264,7 +265,7 @@ fn accepted_text(text: &str) {
     nine(&entries(text), None);
 }
 
-/// "a specimen group that brings its owner above one item by such a link"
+/// A group that brings its owner a second item by a single link (R9).
 #[test]
 fn number_9() {
     // One group of two items or more is one at once.
@@ -321,7 +322,7 @@ fn no_description_is_refused_as_9() {
     assert_eq!(read_description(&blocks("7,32768,1")), Err(four));
 }
 
-/// "after 6 at the same entry"; the lowest entry decides.
+/// After 6 at its entry (R24); the lowest entry decides.
 #[test]
 fn number_9_after_4_5_and_6() {
     let refused = |entries: &[Entry], number: u8, place: u32| {
@@ -425,7 +426,8 @@ fn number_9_is_what_the_record_says() {
     assert!(kept > 500 && broken > 500, "{kept} {broken}");
 }
 
-/// Table 1 is as it was: at least 2 and at most 1 are counted, not foreseen.
+/// What fits is as without the rule (F14): at least 2 and at most 1 are
+/// counted, not foreseen.
 #[test]
 fn fitting_is_as_it_was() {
     for (specimen, description, answer) in [
