@@ -21,7 +21,7 @@ use Rattle.narrow.proofs.Missing.Additions.{addition-enough, missing-needed, mis
 use Rattle.narrow.proofs.Missing.Failings.{failing-exactly, failing-nowhere}
 use Rattle.narrow.specs.Keeping.{cut, without}
 use Rattle.narrow.specs.Missing.{both, fails_at, missing, only}
-use Rattle.narrow_listed.proofs.AcceptedLegal.{legal-read}
+use Rattle.narrow_listed.proofs.AcceptedLegal.{few-read, legal-read}
 use Rattle.pairs.proofs.Under.{ruled-under}
 use Rattle.pairs.specs.Pairs.{pairs_reading, under}
 use Rattle.std.specs.Prelude.{Ok}
@@ -47,8 +47,8 @@ module _ (P c d : List ℕ) {k n m : ℕ} (r : pairs_reading P ≡ Ok k) (rc : r
   abbrev pub addition : List ℕ
   addition = encode (cut (missing (under P) C D) 0 D)
 
-  pub addition-read : (i : ℕ) → length D ≤ 1008 → reading_of Description i addition ≡ Ok (length (cut (missing (under P) C D) 0 D))
-  addition-read i h = addition-accepted rules.lawful C D (legal-read 1 c rc) (legal-read 2 d rd) i h
+  pub addition-read : (i : ℕ) → reading_of Description i addition ≡ Ok (length (cut (missing (under P) C D) 0 D))
+  addition-read i = addition-accepted rules.lawful C D (legal-read 1 c rc) (legal-read 2 d rd) i (few-read 2 d rd)
 
   -- what fits C and the addition fits D, in every record that keeps the list and the rule
   pub addition-fits : (s : Record) → Keeps (under P) s → (x : ℕ) → x < s.size → fits s (place_of C 0) x ≡ true

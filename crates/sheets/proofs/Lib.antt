@@ -6,3 +6,7 @@ pub mod SheetBlocks
 pub mod Profiles
 -- What is promised of reading a sheet.
 pub mod PromiseKept
+-- The narrowest description that contains two field sheets is one.
+pub mod NarrowestRead
+-- Field sheets by examples.
+mod SheetExamples

@@ -23,7 +23,7 @@ use Rattle.meaning.proofs.Verdicts.Contained.{contained-all}
 use Rattle.meaning.specs.Description.{atom_of, links_to, place_of}
 use Rattle.meaning.specs.Failing.{failing}
 use Rattle.meaning.specs.Promise.{Subsumed}
-use Rattle.narrow.proofs.Keeping.Cut.{cut-exactly}
+use Rattle.narrow.proofs.Keeping.Cut.{cut-exactly, legal-cut}
 use Rattle.narrow.proofs.Keeping.KeepLaws.{Part, kept-needed, kept-passes}
 use Rattle.narrow.proofs.Keeping.Thinned.{fits-exactly, thinner-subsumed}
 use Rattle.narrow.specs.Earned.{earned, earners, sayers, suffices}
@@ -149,6 +149,11 @@ module _ {b : Background} (law : LawfulBackground b) (c d : List Entry) (C : Leg
   earned-contained e =
       (cut-suffices (marked E c) E (λ n lo hi k. or_left _ k) (marks-owner c C E) (keeps-marked c C E)).1
       (kept-passes P (length c) (sayers c) (all-sayers e))
+
+  -- cut down so, it is a description
+  pub earned-legal : Legal Description (cut (earned b c d) 0 c)
+  unfolding earned earners
+  earned-legal = legal-cut (marked E c) E c C (λ n lo hi k. or_left _ k) (marks-owner c C E) (keeps-marked c C E)
 
   -- the marks without n
   abbrev rest : ℕ → ℕ → Bool
