@@ -19,7 +19,8 @@ every_names (node l s r) ys = once l (every_names r ys)
 -- some property that both places have excludes p
 unfoldable pub implied : Background → ℕ → Place → Place → Bool
 implied b p end u = false
-implied b p (leaf (atom k q m) r) u = (eqb (rank has) (rank k) && (found (find has q u) && b.excludes q p)) || implied b p r u
+implied b p (leaf (atom k q m) r) u =
+    (eqb (rank has) (rank k) && (found (find has q u) && b.excludes q p)) || implied b p r u
 implied b p (node l s r) u = implied b p r u
 
 -- a property is listed where both have it, its lack where both support that, unless a property that both have implies
@@ -37,7 +38,8 @@ larger (some m) (some n) = some (max m n)
 
 -- of a link the smaller at least and the larger at most
 abbrev pub link_cell : Place → Place → ℕ → Cell
-link_cell t u l = cell l true l (min (or_zero (find least l t)) (or_zero (find least l u))) (larger (find most l t) (find most l u))
+link_cell t u l =
+    cell l true l (min (or_zero (find least l t)) (or_zero (find least l u))) (larger (find most l t) (find most l u))
 
 -- the names of a joined place: ps are those of the list of pairs
 abbrev pub property_names : List ℕ → Place → Place → List ℕ
@@ -60,7 +62,8 @@ make b ps f t u = written (λ l. place_below b t u l (f l (sub l u))) (joined_ce
 unfoldable pub joined_below : Background → List ℕ → Place → ℕ → Place → Place
 joined_below b ps end l v = end
 joined_below b ps (leaf a r) l v = joined_below b ps r l v
-joined_below b ps (node l' s r) l v = cond (eqb l l') (make b ps (λ l'' w. joined_below b ps s l'' w) s v) (joined_below b ps r l v)
+joined_below b ps (node l' s r) l v =
+    cond (eqb l l') (make b ps (λ l'' w. joined_below b ps s l'' w) s v) (joined_below b ps r l v)
 
 unfoldable pub joined_place : Background → List ℕ → Place → Place → Place
 joined_place b ps t u = make b ps (λ l v. joined_below b ps t l v) t u

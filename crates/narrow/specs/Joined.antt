@@ -13,6 +13,7 @@ pub data Joined (b : Background) : Place → Place → Place → Type 0 where
       → ((l : ℕ) → supports b t (atom most l 0) ≡ true → sub l j ≡ sub l u)
       → ((l : ℕ) → supports b u (atom most l 0) ≡ true → sub l j ≡ sub l t)
       → ((l : ℕ) → is_end (sub l t) && is_end (sub l u) ≡ true → sub l j ≡ end)
-      → ((l : ℕ) → supports b t (atom most l 0) ≡ false → supports b u (atom most l 0) ≡ false → is_end (sub l t) && is_end (sub l u) ≡ false
+      → ((l : ℕ) → supports b t (atom most l 0) ≡ false → supports b u (atom most l 0) ≡ false
+      → is_end (sub l t) && is_end (sub l u) ≡ false
       → Joined b (sub l t) (sub l u) (sub l j))
       → Joined b t u j

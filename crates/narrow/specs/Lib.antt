@@ -19,5 +19,5 @@ pub mod Heard
 pub mod Told
 -- The bounds that slots give a key.
 pub mod Bounds
--- Mirrors of the code: the contracts of its functions cite these, and no promise to the customer does.
+-- Mirrors of the code: the contracts of its functions cite these, and no promise does.
 pub mod code

@@ -23,7 +23,13 @@ only d n = cut (marked (λ k. eqb k n) d) 0 d
 
 -- an entry that stands after k others
 abbrev pub shifted : ℕ → Entry → Entry
-shifted k e = record { kind = e.kind; reserved = e.reserved; owner = cond (eqb e.owner 0) 0 (k + e.owner); name = e.name; number = e.number }
+shifted k e = record {
+  kind = e.kind;
+  reserved = e.reserved;
+  owner = cond (eqb e.owner 0) 0 (k + e.owner);
+  name = e.name;
+  number = e.number;
+}
 
 -- the entries of c followed by those of e: one list, which says what both say
 unfoldable pub both : List Entry → List Entry → List Entry

@@ -49,14 +49,16 @@ module _ (P c d : List ℕ) {k n m : ℕ} (r : pairs_reading P ≡ Ok k) (rc : r
   earning-read i =
       let few = few-read 1 c rc in
       let fewer = cut-fewer (earned (under P) C D) 0 C in
-      encoded-accepted Description i kept (earned-legal rules.lawful C D (legal-read 1 c rc) (legal-read 2 d rd)) tt (omega arith)
+      encoded-accepted Description i kept (earned-legal rules.lawful C D (legal-read 1 c rc) (legal-read 2 d rd)) tt
+      (omega arith)
 
   -- where C is contained in D it still is
   pub earning-contained : Subsumed (under P) (place_of C 0) (place_of D 0)
       → Subsumed (under P) (place_of (entries_of earning) 0) (place_of D 0)
   earning-contained f =
       rw (decode-encode kept)
-      (earned-contained rules.lawful C D (legal-read 1 c rc) (legal-read 2 d rd) ((contained-all rules.lawful C D (legal-read 2 d rd)).1 f))
+      (earned-contained rules.lawful C D (legal-read 1 c rc) (legal-read 2 d rd)
+      ((contained-all rules.lawful C D (legal-read 2 d rd)).1 f))
 
   -- and without any one marked entry that is no 'every' it is not
   pub earning-needs : (j : ℕ) → 1 ≤ j → j ≤ length C → (nth C j).kind ≢ 5 → earned (under P) C D j ≡ true

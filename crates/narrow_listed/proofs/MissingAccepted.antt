@@ -26,7 +26,8 @@ use Rattle.pairs.proofs.Under.{ruled-under}
 use Rattle.pairs.specs.Pairs.{pairs_reading, under}
 use Rattle.std.specs.Prelude.{Ok}
 
-module _ (P c d : List ℕ) {k n m : ℕ} (r : pairs_reading P ≡ Ok k) (rc : reading_of Description 1 c ≡ Ok n) (rd : reading_of Description 2 d ≡ Ok m) where
+module _ (P c d : List ℕ) {k n m : ℕ} (r : pairs_reading P ≡ Ok k) (rc : reading_of Description 1 c ≡ Ok n)
+    (rd : reading_of Description 2 d ≡ Ok m) where
   abbrev rules : Ruled (under P)
   rules = ruled-under P r
 
@@ -37,10 +38,12 @@ module _ (P c d : List ℕ) {k n m : ℕ} (r : pairs_reading P ≡ Ok k) (rc : r
   D = entries_of d
 
   -- which entries fail
-  pub failing-byte : (j : ℕ) → 1 ≤ j → j ≤ length D → (fails_at (under P) C D j ≡ false) ↔ Subsumed (under P) (place_of C 0) (place_of (only D j) 0)
+  pub failing-byte : (j : ℕ) → 1 ≤ j → j ≤ length D → (fails_at (under P) C D j ≡ false)
+      ↔ Subsumed (under P) (place_of C 0) (place_of (only D j) 0)
   failing-byte = failing-exactly rules.lawful C D (legal-read 2 d rd)
 
-  pub failing-no-byte : ((j : ℕ) → 1 ≤ j → j ≤ length D → fails_at (under P) C D j ≡ false) ↔ Subsumed (under P) (place_of C 0) (place_of D 0)
+  pub failing-no-byte : ((j : ℕ) → 1 ≤ j → j ≤ length D → fails_at (under P) C D j ≡ false)
+      ↔ Subsumed (under P) (place_of C 0) (place_of D 0)
   failing-no-byte = failing-nowhere rules.lawful C D (legal-read 2 d rd)
 
   -- the addition in blocks
@@ -54,7 +57,8 @@ module _ (P c d : List ℕ) {k n m : ℕ} (r : pairs_reading P ≡ Ok k) (rc : r
   pub addition-fits : (s : Record) → Keeps (under P) s → (x : ℕ) → x < s.size → fits s (place_of C 0) x ≡ true
       → fits s (place_of (entries_of addition) 0) x ≡ true → fits s (place_of D 0) x ≡ true
   addition-fits s kept x i h g =
-      addition-enough rules.lawful C D (legal-read 1 c rc) (legal-read 2 d rd) s kept x i h (rw (decode-encode (cut (missing (under P) C D) 0 D)) at g)
+      addition-enough rules.lawful C D (legal-read 1 c rc) (legal-read 2 d rd) s kept x i h
+      (rw (decode-encode (cut (missing (under P) C D) 0 D)) at g)
 
   -- without any one marked entry that is no 'every' it is not enough
   pub addition-needs : (j : ℕ) → 1 ≤ j → j ≤ length D → (nth D j).kind ≢ 5 → missing (under P) C D j ≡ true
@@ -62,5 +66,6 @@ module _ (P c d : List ℕ) {k n m : ℕ} (r : pairs_reading P ≡ Ok k) (rc : r
   addition-needs = missing-needed rules.lawful C D (legal-read 1 c rc) (legal-read 2 d rd)
 
   -- nothing is marked exactly where C is contained in D
-  pub addition-none : ((j : ℕ) → 1 ≤ j → j ≤ length D → missing (under P) C D j ≡ false) ↔ Subsumed (under P) (place_of C 0) (place_of D 0)
+  pub addition-none : ((j : ℕ) → 1 ≤ j → j ≤ length D → missing (under P) C D j ≡ false)
+      ↔ Subsumed (under P) (place_of C 0) (place_of D 0)
   addition-none = missing-none rules.lawful C D (legal-read 1 c rc) (legal-read 2 d rd)

@@ -24,13 +24,15 @@ module _ (P : List ℕ) where
   names-ascend zero = tt
   names-ascend (suc n) = once-increasing (one_of P (suc n)) _ (once-increasing (other_of P (suc n)) _ (names-ascend n))
 
-  names-member : (n i : ℕ) → 1 ≤ i → i ≤ n → (member (one_of P i) (names_from P n) ≡ true) × (member (other_of P i) (names_from P n) ≡ true)
+  names-member : (n i : ℕ) → 1 ≤ i → i ≤ n → (member (one_of P i) (names_from P n) ≡ true)
+      × (member (other_of P i) (names_from P n) ≡ true)
   unfolding names_from
   names-member zero i lo hi = absurd (omega arith)
   names-member (suc n) i lo hi =
       let a = one_of P (suc n) in
       let c = other_of P (suc n) in
-      let first : (x : ℕ) → member x (names_from P n) ≡ true → member x (names_from P (suc n)) ≡ true = λ x h. later n x h in
+      let first : (x : ℕ) → member x (names_from P n) ≡ true → member x (names_from P (suc n)) ≡ true =
+      λ x h. later n x h in
       eq-cases i (suc n)
       (λ z. rw z (new-one n, new-other n))
       (λ z. let ih = names-member n i lo (omega arith) in (first (one_of P i) ih.0, first (other_of P i) ih.1))
@@ -38,7 +40,8 @@ module _ (P : List ℕ) where
       later : (n x : ℕ) → member x (names_from P n) ≡ true → member x (names_from P (suc n)) ≡ true
       later n x h =
           member-once x (one_of P (suc n)) (once (other_of P (suc n)) (names_from P n))
-          ∙ or_right (eqb x (one_of P (suc n))) (member-once x (other_of P (suc n)) (names_from P n) ∙ or_right (eqb x (other_of P (suc n))) h)
+          ∙ or_right (eqb x (one_of P (suc n)))
+          (member-once x (other_of P (suc n)) (names_from P n) ∙ or_right (eqb x (other_of P (suc n))) h)
 
       new-one : (n : ℕ) → member (one_of P (suc n)) (names_from P (suc n)) ≡ true
       new-one n = member-once (one_of P (suc n)) (one_of P (suc n)) _ ∙ or_left _ (eqb-self (one_of P (suc n)))
@@ -46,7 +49,8 @@ module _ (P : List ℕ) where
       new-other : (n : ℕ) → member (other_of P (suc n)) (names_from P (suc n)) ≡ true
       new-other n =
           member-once (other_of P (suc n)) (one_of P (suc n)) _
-          ∙ or_right (eqb (other_of P (suc n)) (one_of P (suc n))) (member-once (other_of P (suc n)) (other_of P (suc n)) _ ∙ or_left _ (eqb-self (other_of P (suc n))))
+          ∙ or_right (eqb (other_of P (suc n)) (one_of P (suc n)))
+          (member-once (other_of P (suc n)) (other_of P (suc n)) _ ∙ or_left _ (eqb-self (other_of P (suc n))))
 
   -- what some property excludes stands in the list
   pub excluded-named : (p q : ℕ) → excludes_in P q p ≡ true → member p (names_in P) ≡ true
@@ -69,6 +73,7 @@ module _ (P : List ℕ) where
       (λ z. both_ways e (none-excludes P q p (λ i lo hi.
       let w : pair_wrong P i ≡ false = R.right i lo (omega (arith, R.whole)) in
       not-true (λ t. pair-cases P q p i t
-      (λ a b. both_ways (eq-eqb (b ∙ z)) (neither_left (eqb (other_of P i) 0) _ (neither_right (eqb (one_of P i) 0) _ w)))
+      (λ a b. both_ways (eq-eqb (b ∙ z))
+      (neither_left (eqb (other_of P i) 0) _ (neither_right (eqb (one_of P i) 0) _ w)))
       (λ a b. both_ways (eq-eqb (a ∙ z)) (neither_left (eqb (one_of P i) 0) _ w))))))
       (λ z. omega arith)

@@ -18,7 +18,8 @@ use Rattle.pairs.proofs.Under.{ruled-under}
 use Rattle.pairs.specs.Pairs.{pair_count, pairs_reading, under}
 use Rattle.std.specs.Prelude.{Ok}
 
-module _ (P c d : List ℕ) {k n m : ℕ} (r : pairs_reading P ≡ Ok k) (rc : reading_of Description 1 c ≡ Ok n) (rd : reading_of Description 2 d ≡ Ok m) where
+module _ (P c d : List ℕ) {k n m : ℕ} (r : pairs_reading P ≡ Ok k) (rc : reading_of Description 1 c ≡ Ok n)
+    (rd : reading_of Description 2 d ≡ Ok m) where
   abbrev rules : Ruled (under P)
   rules = ruled-under P r
 
@@ -27,12 +28,16 @@ module _ (P c d : List ℕ) {k n m : ℕ} (r : pairs_reading P ≡ Ok k) (rc : r
       × Subsumed (under P) (place_of (entries_of d) 0) (place_of (narrowest_under P c d) 0)
   unfolding names_in
   result-contains =
-      narrowest-contains rules.lawful (names_in P) (names-ascend P (pair_count P)) (excluded-named P) (entries_of c) (entries_of d) (legal-read 1 c rc) (legal-read 2 d rd) (excluded-positive P r)
+      narrowest-contains rules.lawful (names_in P) (names-ascend P (pair_count P)) (excluded-named P) (entries_of c)
+      (entries_of d) (legal-read 1 c rc) (legal-read 2 d rd) (excluded-positive P r)
 
   -- an accepted description contains the result exactly if it contains both
   pub result-least : (i : ℕ) (e : List ℕ) {q : ℕ} → reading_of Description i e ≡ Ok q
       → Subsumed (under P) (place_of (narrowest_under P c d) 0) (place_of (entries_of e) 0)
-      ↔ (Subsumed (under P) (place_of (entries_of c) 0) (place_of (entries_of e) 0) × Subsumed (under P) (place_of (entries_of d) 0) (place_of (entries_of e) 0))
+      ↔ (Subsumed (under P) (place_of (entries_of c) 0) (place_of (entries_of e) 0)
+      × Subsumed (under P) (place_of (entries_of d) 0) (place_of (entries_of e) 0))
   unfolding names_in
   result-least i e re =
-      contains-narrowest rules.lawful (names_in P) (names-ascend P (pair_count P)) (excluded-named P) (entries_of c) (entries_of d) (legal-read 1 c rc) (legal-read 2 d rd) (excluded-positive P r) (entries_of e) (legal-read i e re)
+      contains-narrowest rules.lawful (names_in P) (names-ascend P (pair_count P)) (excluded-named P) (entries_of c)
+      (entries_of d) (legal-read 1 c rc) (legal-read 2 d rd) (excluded-positive P r) (entries_of e)
+      (legal-read i e re)

@@ -23,7 +23,8 @@ use Rattle.sheets.specs.Sheet.{sheet_reading}
 legal-sheet : (s : List ℕ) {n : ℕ} → sheet_reading s ≡ Ok n → Legal Description (entries_of s)
 legal-sheet s {n} r = (sound-of-accepted Description 1 s ((sheet-exactly s n).0 r).0).entries
 
-module _ {b : Background} (law : LawfulBackground b) (none-excluded : (p q : ℕ) → b.excludes p q ≡ false) (c d : List ℕ) {n m : ℕ}
+module _ {b : Background} (law : LawfulBackground b) (none-excluded : (p q : ℕ) → b.excludes p q ≡ false)
+    (c d : List ℕ) {n m : ℕ}
     (rc : sheet_reading c ≡ Ok n) (rd : sheet_reading d ≡ Ok m) where
   abbrev C : List Entry
   C = entries_of c
@@ -39,11 +40,13 @@ module _ {b : Background} (law : LawfulBackground b) (none-excluded : (p q : ℕ
       → (fits r (place_of C 0) x ≡ true) ⊎ (fits r (place_of D 0) x ≡ true) → length narrowest_sheet ≤ 1008
       → sheet_reading (encode narrowest_sheet) ≡ Ok (length narrowest_sheet)
   narrowest-accepted r kept x inside item few =
-      let all-named : (p q : ℕ) → b.excludes q p ≡ true → member p [] ≡ true = λ p q e. both_ways e (none-excluded q p) in
+      let all-named : (p q : ℕ) → b.excludes q p ≡ true → member p [] ≡ true =
+      λ p q e. both_ways e (none-excluded q p) in
       let named : (p q : ℕ) → b.excludes q p ≡ true → Positive p = λ p q e. both_ways e (none-excluded q p) in
       let legal = narrowest-legal law [] tt all-named C D (legal-sheet c rc) (legal-sheet d rd) named in
       let sheet =
-      narrowest-sheet law none-excluded C D (legal-sheet c rc) (legal-sheet d rd) ((sheet-exactly c n).0 rc).1 ((sheet-exactly d m).0 rd).1
+      narrowest-sheet law none-excluded C D (legal-sheet c rc) (legal-sheet d rd) ((sheet-exactly c n).0 rc).1
+      ((sheet-exactly d m).0 rd).1
       r kept x inside item in
       (sheet-exactly (encode narrowest_sheet) (length narrowest_sheet)).1
       (encoded-accepted Description 1 narrowest_sheet legal tt few, rw (decode-encode narrowest_sheet) sheet)

@@ -1,5 +1,5 @@
--- What is promised of reading a sheet: accepted exactly where it is as a description and each entry is in the profile; any refusal but 19 is that of
--- the description; and 19 exactly at the lowest entry outside the profile.
+-- What is promised of reading a sheet: accepted exactly where it is as a description and each entry is in the profile;
+-- any refusal but 19 is that of the description; and 19 exactly at the lowest entry outside the profile.
 -- Assumes nothing.
 use Rattle.std.proofs.Common.{◌≡◌, ◌≢◌, ◌↔◌, ℕ, List, length, Ok, sym, refl, ◌∙◌, arith}
 use Rattle.base.proofs.Missing.{not-true}
@@ -59,7 +59,8 @@ module _ (s : List ℕ) where
   never-block : (q : ℕ) → first front ≡ Faulty Profile q → ⊥
   unfolding reading_of faults
   never-block q c =
-      let r : reading_of Description 1 s ≡ refused Profile 1 q = rw (first-append front (entry_faults Description es 1 (length es)), c) in
+      let r : reading_of Description 1 s ≡ refused Profile 1 q =
+      rw (first-append front (entry_faults Description es 1 (length es)), c) in
       let n = description-number 1 s r in
       omega arith
 
@@ -72,11 +73,13 @@ module _ (s : List ℕ) where
         (rw (plain-lines, g.0) (rw f.0), λ j a b. test-profile es j (g.1 j a b)),
     λ h.
         let f = accepted-finding 1 (total_in plain s) (first (faults Description s)) h.0 in
-        let g = (nothing-exactly front R (sheet_ok es) Profile (length es)).1 (sym plain-lines ∙ f.1, λ j a b. profile-test es j (h.1 j a b)) in
+        let g = (nothing-exactly front R (sheet_ok es) Profile (length es)).1
+        (sym plain-lines ∙ f.1, λ j a b. profile-test es j (h.1 j a b)) in
         rw (sheet-lines, g) (rw f.0),
   )
 
-  pub other-than-nineteen : (k : Cause) (i p : ℕ) → k ≢ Profile → sheet_reading s ≡ refused k i p → reading_of Description 1 s ≡ refused k i p
+  pub other-than-nineteen : (k : Cause) (i p : ℕ) → k ≢ Profile → sheet_reading s ≡ refused k i p
+      → reading_of Description 1 s ≡ refused k i p
   unfolding sheet_reading reading_of
   other-than-nineteen k i p z e =
       let f = refused-finding 1 (total_in plain s) (first (sheet_faults s)) e in
@@ -88,7 +91,8 @@ module _ (s : List ℕ) where
   nineteen-found i p = (
     λ e.
         let f = refused-finding 1 (total_in plain s) (first (sheet_faults s)) e in
-        let g = found-outside front R (sheet_ok es) Profile (length es) never-block (never-outside es) (sym sheet-lines ∙ f.1) in
+        let g = found-outside front R (sheet_ok es) Profile (length es) never-block (never-outside es)
+        (sym sheet-lines ∙ f.1) in
         let u = g.1.0 in (
           f.0,
           record {
@@ -108,7 +112,8 @@ module _ (s : List ℕ) where
           others = λ j a b. none-clean (R j) (u.entries j a b);
           before = λ j a b. profile-test es j (u.before j a b);
         } in
-        rw (sheet-lines, outside-found front R (sheet_ok es) Profile (length es) (none-clean front u.blocks) f u.high, h.0),
+        let g = outside-found front R (sheet_ok es) Profile (length es) (none-clean front u.blocks) f u.high in
+        rw (sheet-lines, g, h.0),
   )
 
   pub sheet-read : SheetRead s

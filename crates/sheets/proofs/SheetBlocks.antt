@@ -26,7 +26,8 @@ module _ (s : List ℕ) {r : Reading} (e : r ≡ answer 1 (total_in plain s) (fi
       rw (first-append (plain_faults Description s) rows, f.1, f.0)
 
   -- else its entries decide
-  pub sheet-accepted : {n : ℕ} → r ≡ Ok n → sheet_reading s ≡ answer 1 n (first (rows_from (sheet_rows (entries_of s)) 1 n))
+  pub sheet-accepted : {n : ℕ} → r ≡ Ok n
+      → sheet_reading s ≡ answer 1 n (first (rows_from (sheet_rows (entries_of s)) 1 n))
   unfolding sheet_reading sheet_faults
   sheet-accepted {n} q =
       let f = accepted-finding 1 (total_in plain s) (first (plain_faults Description s)) (sym e ∙ q) in

@@ -1,4 +1,4 @@
--- The pass over the entries of a sheet, by the table of levels: what one entry's lines find is what the pass sees of it.
+-- The pass over the entries of a sheet, by the table of levels: what it sees of an entry is what the entry's lines find.
 -- Assumes nothing.
 use Rattle.std.proofs.Common.{◌≡◌, ℕ, zero, suc, ◌+◌, ◌-◌, ◌<◌, ◌≤◌, not, ◌&&◌, nat_le, List, [], ◌∷◌, Option, Some, None, sym, refl, ap, ◌∙◌, add-one, arith}
 use Rattle.base.proofs.RangeLaws.{none_left, one_left}
@@ -21,7 +21,8 @@ cause-cases {ℓ} : {A : Type ℓ} (o : Option Cause) → (o ≡ None → A) →
 cause-cases None f g = f refl
 cause-cases (Some k) f g = g k refl
 
-module _ (es : List Entry) (t : List ℕ) (n : ℕ) {e : Entry} {l : ℕ} {o : Option Cause} (T : Levels Description es t n) (one : 1 ≤ n) (at : e ≡ nth es n)
+module _ (es : List Entry) (t : List ℕ) (n : ℕ) {e : Entry} {l : ℕ} {o : Option Cause} (T : Levels Description es t n)
+    (one : 1 ≤ n) (at : e ≡ nth es n)
     (lv : l ≡ level_by t n e.owner) (r : o ≡ sheet_refusal e l) where
   owner-level : l ≡ level_by t n (owner_of es n)
   unfolding owner_of
@@ -39,7 +40,8 @@ module _ (es : List Entry) (t : List ℕ) (n : ℕ) {e : Entry} {l : ℕ} {o : O
       sym one-entry ∙ entries-more Description es t n T one at lv refl n (omega arith) z
       ∙ entries-end Description es (n + 1) n (omega arith)
 
-  plainly-found : {k : Cause} → entry_refusal Description e l ≡ Some k → first (entry_rows Description es n) ≡ Faulty k n
+  plainly-found : {k : Cause} → entry_refusal Description e l ≡ Some k
+      → first (entry_rows Description es n) ≡ Faulty k n
   plainly-found z = sym one-entry ∙ entries-found Description es t n T one at lv refl n (omega arith) z
 
   -- an entry that no line of a description refuses is one less deep than its owner's level
@@ -67,7 +69,8 @@ module _ (es : List Entry) (t : List ℕ) (n : ℕ) {e : Entry} {l : ℕ} {o : O
       (λ q. let i = inside z ∙ q in rw (r, z, q, plainly-clean z, i)))
       (λ k z. rw (r, z, plainly-found z))
 
-  sheet-step : (left : ℕ) → first (rows_from (sheet_rows es) n (suc left)) ≡ step o n (first (rows_from (sheet_rows es) (suc n) left))
+  sheet-step : (left : ℕ)
+      → first (rows_from (sheet_rows es) n (suc left)) ≡ step o n (first (rows_from (sheet_rows es) (suc n) left))
   unfolding rows_from
   sheet-step left =
       first-append (sheet_rows es n) (rows_from (sheet_rows es) (suc n) left)
@@ -82,12 +85,17 @@ module _ (es : List Entry) (t : List ℕ) (n : ℕ) {e : Entry} {l : ℕ} {o : O
       (λ k q. let w : Some k ≡ None = rw q at (sym r ∙ z) in let y : ◌≡◌ {A = ℕ} 0 1 = cc in absurd (omega arith))
 
   pub sheet-more : (total : ℕ) → n ≤ total → o ≡ None
-      → first (rows_from (sheet_rows es) n (total + 1 - n)) ≡ first (rows_from (sheet_rows es) (n + 1) (total + 1 - (n + 1)))
-  sheet-more total h z = rw (one_left n (total + 1) (omega arith), add-one n) (sheet-step (total + 1 - suc n) ∙ step-more _ _ _ z)
+      → first (rows_from (sheet_rows es) n (total + 1 - n))
+      ≡ first (rows_from (sheet_rows es) (n + 1) (total + 1 - (n + 1)))
+  sheet-more total h z = rw (one_left n (total + 1) (omega arith), add-one n)
+      (sheet-step (total + 1 - suc n) ∙ step-more _ _ _ z)
 
-  pub sheet-found : (total : ℕ) → n ≤ total → {k : Cause} → o ≡ Some k → first (rows_from (sheet_rows es) n (total + 1 - n)) ≡ Faulty k n
-  sheet-found total h z = rw (one_left n (total + 1) (omega arith)) (sheet-step (total + 1 - (n + 1)) ∙ step-found _ _ _ z)
+  pub sheet-found : (total : ℕ) → n ≤ total → {k : Cause} → o ≡ Some k
+      → first (rows_from (sheet_rows es) n (total + 1 - n)) ≡ Faulty k n
+  sheet-found total h z = rw (one_left n (total + 1) (omega arith))
+      (sheet-step (total + 1 - (n + 1)) ∙ step-found _ _ _ z)
 
-pub sheet-end : (es : List Entry) (n total : ℕ) → total < n → first (rows_from (sheet_rows es) n (total + 1 - n)) ≡ Clean
+pub sheet-end : (es : List Entry) (n total : ℕ) → total < n
+    → first (rows_from (sheet_rows es) n (total + 1 - n)) ≡ Clean
 unfolding rows_from first
 sheet-end es n total h = rw (none_left n (total + 1) (omega arith))

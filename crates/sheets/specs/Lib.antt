@@ -2,5 +2,5 @@
 pub mod Sheet
 -- What the answers of reading a sheet mean beside the reading of any description.
 pub mod Promise
--- Mirrors of the code: the contracts of its functions cite these, and no promise to the customer does.
+-- Mirrors of the code: the contracts of its functions cite these, and no promise does.
 pub mod code

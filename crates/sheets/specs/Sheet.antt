@@ -30,7 +30,8 @@ sheet_rows es n = entry_rows Description es n ++ (fault (not (sheet_ok es n)) Pr
 unfoldable pub sheet_faults : List ℕ → List Fault
 sheet_faults s =
     fault (length_wrong Description s) Length 0
-    ∷ (block_faults plain s (blocks_in s) 0 (blocks_in s) ++ rows_from (sheet_rows (entries_of s)) 1 (length (entries_of s)))
+    ∷ (block_faults plain s (blocks_in s) 0 (blocks_in s) ++ rows_from (sheet_rows (entries_of s)) 1
+    (length (entries_of s)))
 
 -- reading s as a sheet, which is input 1: its number of entries or a refusal
 unfoldable pub sheet_reading : List ℕ → Reading

@@ -6,8 +6,8 @@ ghost use Rattle.sheets.specs.code.SheetSteps.{sheet_refusal};
 use blocks::{Cause, Entry, Schema, kinds};
 use reading::entry_refusal;
 
-// The least number that the profile does not allow to a kind: 0 where it does not allow the kind. All are constants, so that this is a look
-// into a table: a jump by kind would be guessed wrong.
+// The least number that the profile does not allow to a kind: 0 where it does not allow the kind. All are constants, so
+// that this is a look into a table: a jump by kind would be guessed wrong.
 #[tactic(auto, unfolding(crate::specs::Sheet::kind_in))]
 fn number_outside(kind: u8) -> u16
     ensures { result ≡ cond (kind_in kind) 100 0 }
@@ -28,8 +28,8 @@ fn in_profile(e: Entry) -> bool
     e.number < number_outside(e.kind)
 }
 
-// Why an entry of a sheet is refused whose owner has level l, if it is: as in any description, and else where it is outside the profile. An entry
-// is one less deep than its owner's level.
+// Why an entry of a sheet is refused whose owner has level l, if it is: as in any description, and else where it is
+// outside the profile. An entry is one less deep than its owner's level.
 #[inline(always)]
 pub(crate) fn sheet_refusal(e: Entry, l: u8) -> Option<Cause>
     ensures { result ≡ sheet_refusal e l }

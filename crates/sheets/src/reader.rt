@@ -11,7 +11,8 @@ use crate::profile::sheet_refusal;
 use blocks::{Entry, Refusal, Schema, entries_in_order};
 use reading::{level_under, owner_level, read_blocks};
 
-// The lowest of `total` entries that breaks number 4, 5, 6 or 19, with a table that has room for the level of each, as for reading.
+// The lowest of `total` entries that breaks number 4, 5, 6 or 19, with a table that has room for the level of each, as
+// for reading.
 #[inline(always)]
 fn fault_by_levels(s: &[u8], total: usize, level: &mut [u8]) -> Result<(), Refusal>
     requires { (total ≡ length (entries_of s.now)) × (total ≤ 1008) × Whole s.now total × (total < length level.old) }
@@ -64,9 +65,9 @@ fn read_entries(s: &[u8], total: u16) -> Result<u16, Refusal>
     Ok(total)
 }
 
-/// Reads a field sheet as input 1: 1 to 16 blocks of entries of kinds 1, 3, 4 and 5, with numbers of at most 99, at most 3 links deep. Its number
-/// of entries, or the refusal by the first number that applies: those of any description, and at an entry after these 19, where it is outside the
-/// profile.
+/// Reads a field sheet as input 1: 1 to 16 blocks of entries of kinds 1, 3, 4 and 5, with numbers of at most 99, at
+/// most 3 links deep. Its number of entries, or the refusal by the first number that applies: those of any description,
+/// and at an entry after these 19, where it is outside the profile.
 pub fn read_sheet(s: &[u8]) -> Result<u16, Refusal>
     ensures { result ≡ sheet_reading s.now }
 {

@@ -1,4 +1,5 @@
--- Why an entry of a sheet is refused, by the level of its owner, as the pass over the entries takes it. No public promise names this.
+-- Why an entry of a sheet is refused, by the level of its owner, as the pass over the entries takes it. No public
+-- promise names this.
 -- Assumes nothing.
 use Rattle.std.specs.Prelude.{ℕ, cond, ◌&&◌, nat_le, Option, Some, None}
 use Rattle.blocks.specs.code.ReadingSteps.{entry_refusal}

@@ -9,7 +9,8 @@ returns-in-Some c = refused-plainly c.args.e c.args.l c.entry_refusal.ensures c.
 
 pub returns-then-not-in_profile : goal.returns-then-not-in_profile
 returns-then-not-in_profile c =
-    outside-kind c.args.e c.args.l c.entry_refusal.ensures c.in_default.is (refuted c.in_profile.ensures (ap not c.if-not-in_profile.true))
+    outside-kind c.args.e c.args.l c.entry_refusal.ensures c.in_default.is
+    (refuted c.in_profile.ensures (ap not c.if-not-in_profile.true))
 
 pub returns-then-l-gt4 : goal.returns-then-l-gt4
 returns-then-l-gt4 c =

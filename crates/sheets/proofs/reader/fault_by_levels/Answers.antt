@@ -17,7 +17,9 @@ here c = turned c.loop-before.invariant.over _ _ c.loop-before.yielded_by c.next
 pub loop-before-init : goal.loop-before-init
 loop-before-init c =
     let n = c.enumerate-before-items.ensures in
-    let o = begun (omega (arith, c.requires.0)) (omega (arith, c.requires.1)) c.requires.2 c.entries_in_order.ensures.items n.source n.count c.into_iter-before-iterator.ensures.into_iter_gives in
+    let into = c.into_iter-before-iterator.ensures.into_iter_gives in
+    let items = c.entries_in_order.ensures.items in
+    let o = begun (omega (arith, c.requires.0)) (omega (arith, c.requires.1)) c.requires.2 items n.source n.count into in
     let e : c.args.total + 1 - 1 ≡ c.args.total = omega arith in
     record {
       goes = (tt, tt, o.1);
@@ -34,8 +36,12 @@ pub returns-in-Some-sheet_refusal : goal.returns-in-Some-sheet_refusal
 returns-in-Some-sheet_refusal c =
     let h = here (goal.at.returns-in-Some-sheet_refusal c).In-Some in
     let i = c.loop-before.invariant in
-    let found : first (rows_from (sheet_rows (entries_of c.args.s.now)) 1 c.args.total) ≡ Faulty c.in-Some-sheet_refusal.cause (c.in-Some.before + 1) =
-    i.rest ∙ (rw (← h.same) (sheet-found _ _ _ (rw (← h.same) at i.levels) (omega arith) (c.from-e.ensures ∙ h.entry) (c.owner_level-l.ensures ∙ level-passed _ _ _) c.sheet_refusal.ensures c.args.total (omega (arith, h.before)) c.in-Some-sheet_refusal.is)) in
+    let found : first (rows_from (sheet_rows (entries_of c.args.s.now)) 1 c.args.total)
+    ≡ Faulty c.in-Some-sheet_refusal.cause (c.in-Some.before + 1) =
+    i.rest ∙ (rw (← h.same)
+    (sheet-found _ _ _ (rw (← h.same) at i.levels) (omega arith) (c.from-e.ensures ∙ h.entry)
+    (c.owner_level-l.ensures ∙ level-passed _ _ _) c.sheet_refusal.ensures c.args.total
+    (omega (arith, h.before)) c.in-Some-sheet_refusal.is)) in
     ap (answer 1 tt) (sym found)
 
 pub slice_bounds-owner_level-end : goal.slice_bounds-owner_level-end
@@ -46,7 +52,8 @@ slice_bounds-owner_level-end c =
 pub slice_bounds-owner_level-end-in-loop-before : goal.slice_bounds-owner_level-end-in-loop-before
 slice_bounds-owner_level-end-in-loop-before c =
     let h = here (goal.at.slice_bounds-owner_level-end-in-loop-before c).In-Some in
-    omega (arith, length-take (c.in-Some.before + 1) c.loop-before.level, c.requires.0, h.before, c.loop-before.invariant.levels.room)
+    let long = length-take (c.in-Some.before + 1) c.loop-before.level in
+    omega (arith, long, c.requires.0, h.before, c.loop-before.invariant.levels.room)
 
 pub bounds-level-n : goal.bounds-level-n
 bounds-level-n c =
@@ -66,8 +73,11 @@ loop-before-preserved c =
       goes = c.in-Some.ensures.goes.keeps;
       ends = tt;
       over = i.over;
-      levels = rw h.more (levels-more Description _ _ _ t (omega arith) at lv refl plain (omega (arith, h.before, c.requires.0)) (level-told _ _ (omega (arith, small)) c.level_under.ensures));
-      rest = rw h.more (i.rest ∙ rw (← h.same) (sheet-more _ _ _ t (omega arith) at lv c.sheet_refusal.ensures c.args.total (omega (arith, h.before)) c.in_default.is));
+      levels = rw h.more (levels-more Description _ _ _ t (omega arith) at lv refl plain
+          (omega (arith, h.before, c.requires.0)) (level-told _ _ (omega (arith, small)) c.level_under.ensures));
+      rest = rw h.more (i.rest
+          ∙ rw (← h.same) (sheet-more _ _ _ t (omega arith) at lv c.sheet_refusal.ensures c.args.total
+          (omega (arith, h.before)) c.in_default.is));
     }
 
 pub returns : goal.returns

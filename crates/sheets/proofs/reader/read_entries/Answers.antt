@@ -8,7 +8,8 @@ use Rattle.sheets.proofs.reader.read_entries.Goals as goal
 pub returns-in_err-check_entries : goal.returns-in_err-check_entries
 returns-in_err-check_entries c =
     let p = err_from_is_err_and c.from_residual.result c.from_residual.ensures.1 in
-    rw (p.1, p.2) (refused-alike 1 tt c.args.total _ (sym (rw c.from.ensures at c.check_entries.ensures) ∙ c.in_err-check_entries.was))
+    rw (p.1, p.2) (refused-alike 1 tt c.args.total _
+    (sym (rw c.from.ensures at c.check_entries.ensures) ∙ c.in_err-check_entries.was))
 
 pub returns : goal.returns
 returns c =

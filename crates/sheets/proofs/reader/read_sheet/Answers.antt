@@ -8,7 +8,8 @@ use Rattle.sheets.proofs.reader.read_sheet.Goals as goal
 
 pub read_entries-requires : goal.read_entries-requires
 read_entries-requires c =
-    let w = blocks-whole Description 1 c.args.s.now c.read_blocks.ensures c.in_ok-total.was in (w.0, omega (arith, w.1), w.2)
+    let w = blocks-whole Description 1 c.args.s.now c.read_blocks.ensures c.in_ok-total.was in
+    (w.0, omega (arith, w.1), w.2)
 
 pub returns-in_err-total : goal.returns-in_err-total
 returns-in_err-total c =
