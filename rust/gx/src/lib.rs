@@ -5,7 +5,7 @@
 //! | Module | Subject |
 //! |---|---|
 //! | [`entry`], [`blocks`], [`tree`] | entries, entries as blocks, which entry owns which |
-//! | [`pairs`], [`dictionary`] | properties that exclude each other, named descriptions, and both as bytes |
+//! | [`pairs`], [`dictionary`], [`services`] | properties that exclude each other, named descriptions, lists of services, and their bytes |
 //! | [`background`] | what all answers of a run are about: the list and the dictionary |
 //! | [`names`], [`text`] | the words of properties, links and descriptions; descriptions, specimens, lists and dictionaries as text |
 //! | [`input`], [`trouble`], [`refused`] | inputs, what keeps one from an answer, a refusal in words |
@@ -41,6 +41,7 @@ pub mod pairs;
 pub mod readback;
 pub mod refused;
 pub mod run;
+pub mod services;
 pub mod settings;
 pub mod sha256;
 pub mod shown;

@@ -5,6 +5,7 @@ use crate::dictionary::{self, Dictionary};
 use crate::entry::{Entry, Sort};
 use crate::names::Names;
 use crate::pairs::List;
+use crate::services::Services;
 use crate::text;
 use crate::trouble::Trouble;
 
@@ -46,6 +47,17 @@ pub fn pairs(text: String, list: &List) -> Result<String, Trouble> {
 /// An error of this program: it does not.
 pub fn dictionary(text: String, of: &Dictionary) -> Result<String, Trouble> {
     let same = text::parse_dictionary(&text, &of.names);
+    let same = same.is_ok_and(|parsed| dictionary::encode(&parsed.parts) == of.bytes);
+    shown(text, same, &of.title)
+}
+
+/// The text of a list of services, if its reader gives its bytes again.
+///
+/// # Errors
+///
+/// An error of this program: it does not.
+pub fn services(text: String, of: &Services) -> Result<String, Trouble> {
+    let same = text::parse_services(&text, &of.names);
     let same = same.is_ok_and(|parsed| dictionary::encode(&parsed.parts) == of.bytes);
     shown(text, same, &of.title)
 }

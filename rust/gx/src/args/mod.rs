@@ -115,6 +115,8 @@ pub enum Content {
     Pairs,
     /// A dictionary.
     Dictionary,
+    /// A list of services.
+    Services,
 }
 
 /// The options.
@@ -162,6 +164,8 @@ pub struct Options {
     pub only_contained: bool,
     /// One service that contains the description is enough.
     pub any: bool,
+    /// The question is written in the notation of FaCT++.
+    pub fact: bool,
 }
 
 /// A shell that completes command lines.

@@ -90,8 +90,9 @@ pub const OPTIONS: &[Opt] = &[
     word("--from", &["blocks", "text"], "the inputs are 'blocks' or 'text', whatever they look like", READING),
     word(
         "--sort",
-        &["description", "specimen", "pairs", "dictionary"],
-        "the input is a 'description', a 'specimen', a list of 'pairs' or a 'dictionary'; of from-owl, write the 'description' or the 'pairs'",
+        &["description", "specimen", "pairs", "dictionary", "services"],
+        "the input is a 'description', a 'specimen', a list of 'pairs' or of 'services', or a 'dictionary'; of from-owl, write the \
+         'description' or the 'pairs'",
         &[Show, Write, Check, FromOwl],
     ),
     word(
@@ -125,6 +126,7 @@ pub const OPTIONS: &[Opt] = &[
     flag("--why", "tell of each no which entry fails first", &[Catalogue]),
     word("--only", &["contained"], "tell only the services that contain the description", &[Catalogue]),
     flag("--any", "one service that contains the description is enough for a yes", &[Catalogue]),
+    flag("--fact", "write the question in the notation of FaCT++", &[Owl]),
     Opt {
         value: Some("NAME"),
         ..flag("--class", "the class whose definition is read, where there are several", &[FromOwl])

@@ -197,6 +197,7 @@ impl<'a> Line<'a> {
             "--no-lab" => &mut options.no_lab,
             "--quiet" => &mut options.quiet,
             "--why" => &mut options.why,
+            "--fact" => &mut options.fact,
             _ => &mut options.any,
         };
         *flag = true;
@@ -236,6 +237,7 @@ const SORTS: &[(&str, Content)] = &[
     ("specimen", Content::Entries(Sort::Specimen)),
     ("pairs", Content::Pairs),
     ("dictionary", Content::Dictionary),
+    ("services", Content::Services),
 ];
 const SORTS_FROM_OWL: &[(&str, Content)] = &[
     ("description", Content::Entries(Sort::Description)),

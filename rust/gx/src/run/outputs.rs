@@ -104,7 +104,15 @@ fn replaced(option: &str, path: &Path, input: &Path) -> String {
 /// How the files may end that an option writes into a folder.
 fn endings(option: &str) -> &'static [&'static str] {
     match option {
-        "--out" => &["txt", "blocks", "pairs", "dictionary", "ofn"],
+        "--out" => &[
+            "txt",
+            "blocks",
+            "pairs",
+            "dictionary",
+            "services",
+            "ofn",
+            "lisp",
+        ],
         "--html" => &["html"],
         "--svg" => &["svg"],
         _ => &["blocks"],

@@ -139,6 +139,7 @@ fn each_answer_for_programs_is_one_of_the_schema() {
         .put("wrong", "hass\nat lest 1 core")
         .put("refused", "1,0")
         .put("p.pairs", "sealed excludes property 8")
+        .put("l", "services: [1,7]; []")
         .put("x.dictionary", "[1,7]; [9,1; 3,1,1]");
     let with = ["--names", "n", "--dictionary", "x.dictionary", "--json"];
     let mut answers = Vec::new();
@@ -146,6 +147,7 @@ fn each_answer_for_programs_is_one_of_the_schema() {
         &["show", "c"][..],
         &["show", "p.pairs"],
         &["show", "x.dictionary"],
+        &["show", "l"],
         &["write", "d", "-o", "out"],
         &["check", "c", "--pairs", "p.pairs"],
         &["check", "wrong"],
@@ -162,6 +164,7 @@ fn each_answer_for_programs_is_one_of_the_schema() {
         &["compare", "none", "f"],
         &["catalogue", "c", "d", "e", "refused", "--why"],
         &["owl", "c", "d"],
+        &["owl", "c", "d", "--fact"],
     ] {
         let ran = folder.gx(&[args, &with].concat());
         for line in ran.whole().lines() {
