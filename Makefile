@@ -74,6 +74,9 @@ outside: lib gx target/bin/goltximen
 	$(CC) $(CFLAGS) examples/catalogue.c target/staticlib/libcapi.a -o target/c/catalogue
 	test "$$(cd examples && ../target/c/catalogue supplier.blocks services/*.blocks service.txt | paste -s -d,)" = \
 		"service.txt: refused 1 place 0,services/few-cores.blocks: contained,services/sealed.blocks: not contained,services/with-core.blocks: contained"
+	$(CC) $(CFLAGS) examples/hierarchy.c target/staticlib/libcapi.a -o target/c/hierarchy
+	test "$$(cd examples && ../target/c/hierarchy supplier.blocks services/*.blocks supplier.blocks | paste -s -d,)" = \
+		"supplier.blocks: below services/few-cores.blocks services/with-core.blocks,services/few-cores.blocks: at the top,services/sealed.blocks: at the top,services/with-core.blocks: at the top,supplier.blocks: says the same as supplier.blocks"
 	test "$$(bash examples/doubles.sh | paste -s -d ';')" = "clay-and-sand.txt no-samples.txt;clay-without-sand.txt clay.txt;cores-again.txt cores-named.txt cores.txt;three-cores.txt"
 	cargo test --quiet --manifest-path rust/bindings/Cargo.toml
 	cargo test --release --quiet --manifest-path rust/differential/Cargo.toml

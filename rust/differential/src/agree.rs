@@ -6,6 +6,7 @@
 //! made with a dictionary are made again with none, on the unfolded descriptions, and have to give the same.
 
 mod catalogue;
+mod hierarchy;
 
 use std::fmt;
 
@@ -18,6 +19,7 @@ use crate::excluding::Given;
 use crate::{length_of, MOST_DESCRIPTION};
 
 pub use catalogue::catalogue;
+pub use hierarchy::hierarchy;
 
 /// What both answered.
 #[derive(Clone, Copy, Debug, PartialEq, Eq, PartialOrd, Ord)]
