@@ -12,6 +12,7 @@
 //! | [`library`] | the calls of the proved library |
 //! | [`words`], [`whereabouts`], [`shown`], [`readback`] | sentences, and where an entry stands |
 //! | [`explain`], [`specimen`] | a no explained, a specimen as a tree of lines |
+//! | [`mod@hierarchy`] | services from general to special |
 //! | [`svg`], [`page`] | the drawing and the page |
 //! | [`owl`] | the question in OWL, and descriptions from it |
 //! | [`settings`], [`given`], [`sha256`] | a laboratory's settings, and under what an answer is given |
@@ -31,6 +32,7 @@ pub mod entry;
 pub mod explain;
 pub mod given;
 pub mod help;
+pub mod hierarchy;
 pub mod input;
 pub mod json;
 pub mod library;

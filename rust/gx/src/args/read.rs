@@ -107,6 +107,11 @@ impl<'a> Line<'a> {
         if self.command == Command::Catalogue && count < 2 {
             return Err(format!("{word} takes two inputs or more, and {given}"));
         }
+        if self.options.csv && self.options.dot {
+            return Err(
+                "--csv and --dot are two forms of one answer; one of them can be written".into(),
+            );
+        }
         let mut files = self.files;
         if files.is_empty() {
             files.push("-".into());
@@ -198,6 +203,8 @@ impl<'a> Line<'a> {
             "--quiet" => &mut options.quiet,
             "--why" => &mut options.why,
             "--fact" => &mut options.fact,
+            "--csv" => &mut options.csv,
+            "--dot" => &mut options.dot,
             _ => &mut options.any,
         };
         *flag = true;

@@ -158,17 +158,22 @@ impl Context {
     }
 
     fn service(&self, supplier: &Input, service: &Service, input: u16) -> Result<Input, Trouble> {
+        let read = self.alone_service(service, input)?;
+        let names = words_of(supplier, &read)?;
+        Ok(Input { names, ..read })
+    }
+
+    /// A service, as the call's input of this number, once unfolded.
+    pub(super) fn alone_service(&self, service: &Service, input: u16) -> Result<Input, Trouble> {
         let file = &service.file;
-        let read = match (&service.list, service.number, &service.bytes) {
+        match (&service.list, service.number, &service.bytes) {
             (Some(list), Some(number), _) => {
                 let naming = Naming::All(&self.background.dictionary);
                 let read = accepted(file, list.draft(number), input, naming)?;
-                self.unfolded(file, read)?
+                self.unfolded(file, read)
             }
-            (_, _, Some(bytes)) => self.description_of(file, bytes.clone(), input)?,
-            _ => self.description(file, input)?,
-        };
-        let names = words_of(supplier, &read)?;
-        Ok(Input { names, ..read })
+            (_, _, Some(bytes)) => self.description_of(file, bytes.clone(), input),
+            _ => self.description(file, input),
+        }
     }
 }

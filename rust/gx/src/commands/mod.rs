@@ -5,6 +5,7 @@ mod check;
 mod compare;
 mod dictionary;
 mod fit;
+mod hierarchy;
 mod list;
 mod normal;
 mod owl;

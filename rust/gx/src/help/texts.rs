@@ -11,6 +11,7 @@ pub(super) fn detail(command: Command) -> &'static str {
         Command::Fit => FIT,
         Command::Compare => COMPARE,
         Command::Catalogue => CATALOGUE,
+        Command::Hierarchy => HIERARCHY,
         Command::Unfold => UNFOLD,
         Command::Owl => OWL,
         Command::FromOwl => FROM_OWL,
@@ -96,6 +97,17 @@ HermiT reads question.ofn through the OWL API, as in Prot\u{e9}g\u{e9}: start th
 below owl:Nothing.
 ";
 
+const HIERARCHY: &str = "\
+Ranks up to 64 services. A service stands below those that allow all that it allows, and more: general above special, a line for
+each class. Services that say the same are one class, with '=' between their names. A class directly below several stands below the
+first of them, and 'also below' names the others. Services are files, folders of files, or one file that is a list, as for gx
+catalogue. More than 64 are refused (8), and so is the whole where one of them is: what is missing could stand between two others.
+With --pairs the order is that among the records that keep the list. With --dictionary named entries are unfolded first.
+--csv writes a row for each service: its class, by the first service of it, its direct superiors, and a column for each service with
+1 where that contains it, else 0. --dot writes a graph for Graphviz, in which each class leads up to those directly above. --svg
+draws the classes in layers, --html writes a page with the tree, the drawing, and of each class what stands above and below it.
+";
+
 const FROM_OWL: &str = "\
 Reads OWL 2 functional syntax: a class expression, or an ontology in which EquivalentClasses defines classes. It takes classes,
 ObjectComplementOf a class, ObjectIntersectionOf, ObjectAllValuesFrom, ObjectMinCardinality, ObjectMaxCardinality,
@@ -178,8 +190,8 @@ has input 100, one of its n-th description input 100 + n.
 A list of pairs or of services or a dictionary that is shown, written or checked is known by its heading, by the ending of its
 file, .pairs, .services or .dictionary, or by --sort. After --pairs and --dictionary either may be text or bytes.
 
-A list of services, for gx catalogue, is the blocks of up to 64 descriptions laid end to end, where each block numbered 1 begins
-one, or a text like
+A list of services, for gx catalogue and gx hierarchy, is the blocks of up to 64 descriptions laid end to end, where each block
+numbered 1 begins one, or a text like
     services
     service 1 [
         has property 7 \"sealed\"

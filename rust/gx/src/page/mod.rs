@@ -5,6 +5,7 @@ mod all;
 mod description;
 mod fitting;
 mod folds;
+mod hierarchy;
 mod index;
 mod readback;
 mod specimen;
@@ -26,6 +27,7 @@ use crate::words::{self, Words, APART};
 use description::{listing, Marks};
 
 pub use fitting::{fitting, Fitting};
+pub use hierarchy::hierarchy;
 pub use index::{index, Row};
 
 /// What a page of a comparison is made of.

@@ -11,6 +11,7 @@ mod completions;
 mod dictionaries;
 mod folders;
 mod golden;
+mod hierarchy;
 mod lost;
 mod mistakes;
 mod owl;

@@ -163,6 +163,8 @@ fn each_answer_for_programs_is_one_of_the_schema() {
         &["compare", "e", "f"],
         &["compare", "none", "f"],
         &["catalogue", "c", "d", "e", "refused", "--why"],
+        &["hierarchy", "c", "d", "c"],
+        &["hierarchy", "c", "refused", "none"],
         &["owl", "c", "d"],
         &["owl", "c", "d", "--fact"],
     ] {
@@ -187,6 +189,7 @@ fn each_answer_for_programs_is_one_of_the_schema() {
         "not contained",
         "contained",
         "written",
+        "hierarchy",
     ] {
         assert!(answers.contains(&Some(Text(due.into()))), "{due}");
     }
