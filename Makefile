@@ -132,6 +132,6 @@ installed: gx
 	$(MAKE) --no-print-directory install PREFIX=$(CURDIR)/target/installed > /dev/null
 	bash rust/gx/installed.sh target/installed
 
-# target/page/small.html, large.html, deep.html, a catalogue's table, and what they are made of.
+# target/page/small.html, large.html, deep.html, hierarchy.html, a catalogue's table, and what they are made of.
 page: lib
 	bash rust/gx/page.sh

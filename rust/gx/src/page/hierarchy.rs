@@ -68,6 +68,7 @@ fn links(hierarchy: &Hierarchy, classes: &[usize]) -> String {
 fn tree(hierarchy: &Hierarchy) -> String {
     let mut out =
         String::from("<section class=\"card\" id=\"tree\">\n<h2>General above special</h2>\n");
+    out.push_str(&format!("<p class=\"size\">{}</p>\n", hierarchy.counted()));
     let mut open = 0;
     for (class, depth) in hierarchy.tree() {
         while open > depth + 1 {

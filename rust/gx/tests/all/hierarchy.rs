@@ -377,7 +377,6 @@ fn nothing_that_is_read_is_replaced() {
     assert_eq!(folder.get("services/any.txt"), b"3,1,1");
 }
 
-/// What the README shows of its services.
 #[test]
 fn the_services_of_the_examples() {
     let path = |name: &str| repository(name).display().to_string();
