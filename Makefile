@@ -61,7 +61,10 @@ always:
 test:
 	bash .ci/run
 
-outside: lib gx target/bin/goltximen
+# The program that all of this goes by: proved and built here, where the gate has not just done so (.ci/run).
+PROGRAM = target/bin/goltximen
+
+outside: lib gx $(PROGRAM)
 	mkdir -p target/c
 	$(CC) $(CFLAGS) examples/compare.c target/staticlib/libcapi.a -o target/c/compare
 	test "$$(target/c/compare)" = "not contained, entry 1; specimen of 2 entries"
