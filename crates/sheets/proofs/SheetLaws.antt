@@ -1,4 +1,5 @@
--- The pass over the entries of a sheet, by the table of levels: what it sees of an entry is what the entry's lines find.
+-- The pass over the entries of a sheet, by the table of levels: what it sees of an entry is what the entry's lines
+-- find.
 -- Assumes nothing.
 use Rattle.std.proofs.Common.{◌≡◌, ℕ, zero, suc, ◌+◌, ◌-◌, ◌<◌, ◌≤◌, not, ◌&&◌, nat_le, List, [], ◌∷◌, Option, Some, None, sym, refl, ap, ◌∙◌, add-one, arith}
 use Rattle.base.proofs.RangeLaws.{none_left, one_left}

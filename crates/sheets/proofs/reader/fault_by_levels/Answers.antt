@@ -19,7 +19,8 @@ loop-before-init c =
     let n = c.enumerate-before-items.ensures in
     let into = c.into_iter-before-iterator.ensures.into_iter_gives in
     let items = c.entries_in_order.ensures.items in
-    let o = begun (omega (arith, c.requires.0)) (omega (arith, c.requires.1)) c.requires.2 items n.source n.count into in
+    let o = begun (omega (arith, c.requires.0))
+    (omega (arith, c.requires.1)) c.requires.2 items n.source n.count into in
     let e : c.args.total + 1 - 1 ≡ c.args.total = omega arith in
     record {
       goes = (tt, tt, o.1);
