@@ -16,6 +16,7 @@ mod lost;
 mod mistakes;
 mod owl;
 mod pairs;
+mod readback;
 mod reasoners;
 mod reception;
 mod schema;
