@@ -68,7 +68,10 @@ always:
 test:
 	bash .ci/run
 
-outside: lib gx target/bin/goltximen
+# The program that all of this goes by: proved and built here, where the gate has not just done so (.ci/run).
+PROGRAM = target/bin/goltximen
+
+outside: lib gx $(PROGRAM)
 	mkdir -p target/c
 	$(CC) $(CFLAGS) examples/compare.c target/staticlib/libcapi.a -o target/c/compare
 	test "$$(target/c/compare)" = "not contained, entry 1; specimen of 2 entries"
@@ -81,6 +84,9 @@ outside: lib gx target/bin/goltximen
 	$(CC) $(CFLAGS) examples/catalogue.c target/staticlib/libcapi.a -o target/c/catalogue
 	test "$$(cd examples && ../target/c/catalogue supplier.blocks services/*.blocks service.txt | paste -s -d,)" = \
 		"service.txt: refused 1 place 0,services/few-cores.blocks: contained,services/sealed.blocks: not contained,services/with-core.blocks: contained"
+	$(CC) $(CFLAGS) examples/hierarchy.c target/staticlib/libcapi.a -o target/c/hierarchy
+	test "$$(cd examples && ../target/c/hierarchy supplier.blocks services/*.blocks supplier.blocks | paste -s -d,)" = \
+		"supplier.blocks: below services/few-cores.blocks services/with-core.blocks,services/few-cores.blocks: at the top,services/sealed.blocks: at the top,services/with-core.blocks: at the top,supplier.blocks: says the same as supplier.blocks"
 	test "$$(bash examples/doubles.sh | paste -s -d ';')" = "clay-and-sand.txt no-samples.txt;clay-without-sand.txt clay.txt;cores-again.txt cores-named.txt cores.txt;three-cores.txt"
 	cargo test --quiet --manifest-path rust/bindings/Cargo.toml
 	cargo test --release --quiet --manifest-path rust/differential/Cargo.toml
@@ -136,6 +142,6 @@ installed: gx
 	$(MAKE) --no-print-directory install PREFIX=$(CURDIR)/target/installed > /dev/null
 	bash rust/gx/installed.sh target/installed
 
-# target/page/small.html, large.html, deep.html, a catalogue's table, and what they are made of.
+# target/page/small.html, large.html, deep.html, hierarchy.html, a catalogue's table, and what they are made of.
 page: lib
 	bash rust/gx/page.sh

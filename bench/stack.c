@@ -98,6 +98,7 @@ static void compare_with(void) {
 static void catalogue(void) {
     answer = gx_catalogue(pairs, sizeof pairs, NULL, 0, wide, sizeof wide, list, sizeof list, out, sizeof out);
 }
+static void hierarchy(void) { answer = gx_hierarchy(pairs, sizeof pairs, list, sizeof list, out, sizeof out); }
 static void unfold(void) { answer = gx_unfold(dictionary, sizeof dictionary, named[0], 512, out, sizeof out); }
 static void fit_named(void) {
     answer = gx_fit_with(pairs, sizeof pairs, dictionary, sizeof dictionary, groups, sizeof groups, named[2], 512);
@@ -147,6 +148,7 @@ int main(void) {
     show("gx_normal_with", normal_with);
     show("gx_compare_with", compare_with);
     show("gx_catalogue", catalogue);
+    show("gx_hierarchy", hierarchy);
     show("gx_unfold", unfold);
     show("gx_fit_with, named", fit_named);
     show("gx_normal_with, named", normal_named);

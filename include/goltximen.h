@@ -1,7 +1,7 @@
 /*
  * Goltximen: soil sample descriptions, what fits them, their normal form, and whether one holds another.
  *
- * The static library is target/staticlib/libcapi.a, for x86-64 Linux; `make lib` builds it. Its eleven functions are proved to
+ * The static library is target/staticlib/libcapi.a, for x86-64 Linux; `make lib` builds it. Its twelve functions are proved to
  * answer what is said here for all bytes and lengths, to read and write no memory but that of their slices and their own
  * stack, and to return.
  *
@@ -20,24 +20,24 @@
  * Links from 32,768 up lead to one item only: a finite record keeps the rule that no item has two items by one of them. What a
  * yes, a no and a normal form promise is about such records.
  *
- * Properties that exclude each other. gx_fit_with, gx_normal_with, gx_compare_with and gx_catalogue take a list of pairs of
- * properties, such as clay and sand, that never hold of one item: 0 to 64 pairs of four bytes, in each pair two properties of
+ * Properties that exclude each other. gx_fit_with, gx_normal_with, gx_compare_with, gx_catalogue and gx_hierarchy take a list of
+ * pairs of properties, such as clay and sand, that never hold of one item: 0 to 64 pairs of four bytes, in each pair two properties of
  * two bytes, low byte first. Which of the two stands first says nothing; a pair may stand there twice, and a property in
  * several pairs. The list says which records are spoken of: what these calls promise is about every finite record that keeps
  * the list and the rule on links from 32,768 up. So a place of a description with both properties of a pair is impossible, and
  * one with the one of them lacks the other. gx_fit, gx_normal and gx_compare are the first three with no pairs and no
  * dictionary, and stay so.
  *
- * Dictionaries. The same four calls and gx_unfold take a dictionary of named descriptions: 0 to 64 descriptions laid end to
+ * Dictionaries. The first four of these and gx_unfold take a dictionary of named descriptions: 0 to 64 descriptions laid end to
  * end, where the first block and each later one numbered 1 begins a description; of length 0 it has none. In the descriptions
  * that these calls take, an entry of kind 9 with name n and number 0 stands for the n-th description of the dictionary, put in at
  * that place. A description of the dictionary may name only earlier ones. gx_unfold writes the plain description that is meant.
  * All answers and written bytes, numbers of entries included, are those for the unfolded descriptions, and an output is measured
  * by them too; one of them has at most GX_BYTES(1008) bytes. The limit of 16 blocks is about a description as it is sent. gx_fit,
- * gx_fit_counted, gx_normal and gx_compare have a dictionary of length 0, so they refuse every name with 13; the two readers take
- * no dictionary and refuse kind 9 with 4.
+ * gx_fit_counted, gx_normal and gx_compare have a dictionary of length 0, so they refuse every name with 13; the two readers and
+ * gx_hierarchy take no dictionary and refuse kind 9 with 4.
  *
- * Lists of services. gx_catalogue takes 1 to 64 descriptions laid end to end: the first block and each later one numbered 1
+ * Lists of services. gx_catalogue and gx_hierarchy take 1 to 64 descriptions laid end to end: the first block and each later one numbered 1
  * begins a service. Only the stored number counts for this, and it is looked at before any check: a block whose number is damaged
  * belongs to another service than it did, or begins one, and a refusal is that of the service in which it then stands.
  *
@@ -84,21 +84,22 @@
  *
  * Blocks, entries and pairs count from 1. The input is 1 or 2, in the order of the arguments after pairs and dict; it is 0 for
  * numbers 7 and 11, 100 for a dictionary and 100 + n for its n-th description. A list of services is input 2, and its n-th service
- * is input 1 + n, 2 to 65; blocks and entries count from 1 in each.
+ * is input 1 + n, 2 to 65, also in gx_hierarchy, which has no input 1; blocks and entries count from 1 in each.
  *
  * Stack. The most that each call took of the caller's stack, on the inputs that lead furthest down (`make stack` measures it):
  *
- *     gx_read_description   24,804 bytes
- *     gx_read_specimen      24,804 bytes
- *     gx_fit                70,228 bytes
- *     gx_fit_counted        70,180 bytes
- *     gx_normal             72,436 bytes
- *     gx_compare            69,284 bytes
+ *     gx_read_description    2,232 bytes
+ *     gx_read_specimen      26,568 bytes
+ *     gx_fit                57,544 bytes
+ *     gx_fit_counted        57,496 bytes
+ *     gx_normal             56,664 bytes
+ *     gx_compare            53,896 bytes
  *     gx_unfold             22,008 bytes
- *     gx_fit_with           79,588 bytes
- *     gx_normal_with        81,764 bytes
- *     gx_compare_with       86,868 bytes
+ *     gx_fit_with           66,904 bytes
+ *     gx_normal_with        65,992 bytes
+ *     gx_compare_with       71,480 bytes
  *     gx_catalogue          65,288 bytes
+ *     gx_hierarchy          32,552 bytes
  *
  * The library calls memset and memcpy; a program that binds them at their first call took up to 1,072 bytes more there. A
  * thread with 128 KiB of stack has room for each call.
@@ -210,6 +211,28 @@ uint64_t gx_compare_with(const uint8_t *pairs, size_t pairs_len, const uint8_t *
  */
 uint64_t gx_catalogue(const uint8_t *pairs, size_t pairs_len, const uint8_t *dict, size_t dict_len, const uint8_t *c,
                       size_t c_len, const uint8_t *list, size_t list_len, uint8_t *out, size_t out_len);
+
+/* The bytes that gx_hierarchy writes for n services: 3 for one, and 8,256 for 64, which are enough for any list. */
+#define GX_HIERARCHY_BYTES(n) ((size_t)(2 * (n) * (n) + (n)))
+
+/*
+ * Ranks the n services of a list, input 2, from special to general under a list of pairs. It writes, from the start of out:
+ *
+ *     n rows of n bytes: byte j of row i is 1 where gx_compare_with answers contained for service i and service j under the same
+ *     list of pairs, else 0. Each service contains itself, so the diagonal is 1.
+ *     n rows of n bytes: byte j of row i is 1 where service j is a direct superior of service i, else 0. It contains i, i does not
+ *     contain it, and no third service stands strictly between them in this sense. The diagonal is 0. Where several services
+ *     contain each other, either all of them are superiors of i or none is.
+ *     n bytes: the class of each service, which is the lowest position, from 1, of the services that contain it and that it
+ *     contains. Two services have one class exactly if each contains the other.
+ *
+ * Whoever follows the direct superiors from a service reaches each service that strictly contains it, and no other. A count, the
+ * number of bytes written, GX_HIERARCHY_BYTES(n); or refused, by the first that applies: 11 for the pairs; 1 for a list of length 0
+ * or no multiple of 512 and then 8 for more than 64 services, both at input 2, place 0; each service in full before the next; 7
+ * where out is shorter than what is written. It takes no dictionary, so kind 9 is 4. Later bytes of out stay. Where refused, out is
+ * unchanged.
+ */
+uint64_t gx_hierarchy(const uint8_t *pairs, size_t pairs_len, const uint8_t *list, size_t list_len, uint8_t *out, size_t out_len);
 
 #ifdef __cplusplus
 }

@@ -1,6 +1,6 @@
 // The numbers of one bucket, from the last back: each points to the one before it. In the tables, of fixed memory, 0 stands for none; who walks
 // along a chain gets an Option.
-ghost use Rattle.std.specs.Prelude.{◌≡◌, ◌<◌, eqb, get_or, length};
+ghost use Rattle.std.specs.Prelude.{◌≡◌, ◌<◌, get_or, length};
 ghost use Rattle.std.specs.Iterator.{at_most};
 ghost use Rattle.fit.specs.code.Index.{Falls, StepsBack};
 
@@ -20,28 +20,11 @@ impl<'a> Chain<'a> {
         requires { (b < length table.now) × Falls most table.now (get_or table.now b 0) }
         ensures { (result.table.now ≡ table.now) × (result.most ≡ most) × (result.next ≡ get_or table.now b 0) }
     {
-        Chain::from_number(table, most, usize::from(table[b]))
-    }
-
-    // The chain from number k back.
-    #[inline(always)]
-    pub(crate) fn from_number(table: &'a [u16], most: usize, k: usize) -> Chain<'a>
-        requires { Falls most table.now k }
-        ensures { (result.table.now ≡ table.now) × (result.most ≡ most) × (result.next ≡ k) }
-    {
         Chain {
             table,
             most,
-            next: k,
+            next: usize::from(table[b]),
         }
-    }
-
-    // Whether no number is left.
-    #[inline(always)]
-    pub(crate) fn is_done(&self) -> bool
-        ensures { result ≡ eqb self.now.next 0 }
-    {
-        self.next == 0
     }
 }
 

@@ -1,10 +1,10 @@
 // What the items of one group of a specimen have: properties, and items that they are linked to.
-ghost use Rattle.std.specs.Prelude.{◌≡◌, ◌%◌, ◌-◌, ◌+◌, ◌≤◌, ◌<◌, eqb, get_or, length};
+ghost use Rattle.std.specs.Prelude.{◌≡◌, ◌%◌, ◌-◌, ◌<◌, get_or, length};
 ghost use Rattle.blocks.specs.Entries.{entries_of};
 ghost use Rattle.blocks.specs.declared.Schema.{Schema};
 ghost use Rattle.fit.specs.Totals.{TotalsOf};
 ghost use Rattle.fit.specs.code.Chains.{ComesTo};
-ghost use Rattle.fit.specs.code.Groups.{has_bare, has_property, meets_atom};
+ghost use Rattle.fit.specs.code.Groups.{has_bare, has_property};
 ghost use Rattle.fit.specs.code.Index.{Ready, any_of, hash_of, is_of};
 ghost use Rattle.fit.specs.code.Rows.{Singles};
 
@@ -60,25 +60,6 @@ impl<'a> Items<'a> {
         ensures { ComesTo self.now.index.now self.now.most (get_or self.now.index.now (hash_of self.now.most g 7 l.0) 0) result }
     {
         self.bucket(g, kinds::GROUP, l.0)
-    }
-
-    // The entries of a bucket from number k back.
-    #[inline(always)]
-    #[tactic(auto, using(crate::proofs::index::BucketWalk::falls_from))]
-    pub(crate) fn back_from(&self, k: usize) -> Chain<'a>
-        requires { k ≤ length (entries_of self.now.bytes.now) }
-        ensures { ComesTo self.now.index.now self.now.most k result }
-    {
-        Chain::from_number(self.index, self.most, k)
-    }
-
-    // Whether no entry stands before number k in its bucket.
-    #[inline(always)]
-    pub(crate) fn is_first(&self, k: usize) -> bool
-        requires { k ≤ length (entries_of self.now.bytes.now) }
-        ensures { result ≡ eqb (get_or self.now.index.now (self.now.most + k) 0) 0 }
-    {
-        self.index[self.most + k] == 0
     }
 
     // Whether an entry of the bucket by which owner, kind and name are found is of this owner, kind and name.
@@ -137,21 +118,6 @@ impl<'a> Known<'a> {
             items,
             totals,
             places,
-        }
-    }
-
-    // Whether the items of group g meet an entry of a description that owns no place. Totals come from the table: nothing is added here.
-    #[tactic(auto, unfolding(crate::specs::code::Groups::meets_atom))]
-    pub(crate) fn meets_atom(&self, g: usize, e: Entry, adds: &mut u16) -> bool
-        requires { g < 2048 }
-        ensures { (result ≡ meets_atom (entries_of self.now.items.bytes.now) g e) × (adds.new ≡ adds.old) }
-    {
-        match e.kind {
-            kinds::HAS => self.items.has_property(g, e.property()),
-            kinds::LACKS => !self.items.has_property(g, e.property()),
-            kinds::AT_LEAST => u32::from(e.number) <= self.totals.total_of(g, e.link()),
-            kinds::AT_MOST => self.totals.at_most(g, e.link(), e.number),
-            _ => false,
         }
     }
 }

@@ -1,7 +1,8 @@
 // Numbers in buckets: of each bucket the last number, and of each number the one before it in its bucket, so that a look costs the numbers
 // of a bucket and not all of them. The entries of an input are indexed so. A description's bucket is a place, since a place is gone over
 // whole. A specimen's entries are looked for by owner, kind and name.
-ghost use Rattle.std.specs.Prelude.{◌≡◌, ◌+◌, ◌≤◌, ◌<◌, length, get_or, replicate, set, false, not};
+ghost use Rattle.std.specs.Prelude.{◌≡◌, ◌+◌, ◌*◌, ◌≤◌, ◌<◌, length, get_or, replicate, set, false, not};
+ghost use Rattle.std.specs.Int.Bits.{bit_and};
 ghost use Rattle.blocks.specs.Entries.{entries_of};
 ghost use Rattle.blocks.specs.code.Blockwise.{Whole};
 ghost use Rattle.blocks.specs.declared.Schema.{Schema};
@@ -14,15 +15,23 @@ use blocks::{Entry, entries_in_order, kinds};
 // Groups that own nothing have buckets of their own, by this number in the place of their kind; no kind has it.
 pub(crate) const BARE: u8 = 8;
 
-// The bucket, of `most`, of an owner, a kind and a name. Sizes are powers of two, so that it takes no division. Of one kind and name, different
-// owners have different buckets: so all groups together look at each entry of a specimen at most once for an entry of a description, whatever
-// names were chosen.
+// The bucket of an owner, a kind and a name, of one more than `mask`. Sizes are powers of two, so that it takes no
+// division. Of one kind and name, different owners have different buckets: so all groups together look at each entry of
+// a specimen at most once for an entry of a description, whatever names were chosen.
+pub(crate) fn masked(mask: usize, owner: usize, kind: u8, name: u16) -> usize
+    requires { owner < 65536 }
+    ensures { result ≡ bit_and (owner + (31 * name + kind)) mask }
+{
+    (owner + (31 * usize::from(name) + usize::from(kind))) & mask
+}
+
+// The same of `most` buckets.
 #[tactic(auto, using(crate::proofs::index::BucketLaws::hash_is))]
 pub(crate) fn hash(most: usize, owner: usize, kind: u8, name: u16) -> usize
     requires { (0 < most) × (owner < 65536) }
     ensures { (result ≡ hash_of most owner kind name) × (result < most) }
 {
-    (owner + (31 * usize::from(name) + usize::from(kind))) & (most - 1)
+    masked(most - 1, owner, kind, name)
 }
 
 // The kind by which an entry is found: groups that own nothing, which are not marked, stand apart, as if of kind 8.

@@ -1,7 +1,7 @@
 // The table of totals, worked out before the walk over entries: for each owner and link with a group, the number of items in all its
 // groups, and nothing else. A row is one number of 64 bits, owner and link above the items; chains by the bucket of owner and link find it
 // again. At most 2,016 groups of at most 65,536 items make 132,120,576.
-ghost use Rattle.std.specs.Prelude.{◌≡◌, List, ◌+◌, ◌*◌, ◌≤◌, ◌<◌, ℕ, eqb, false, leb, length, get_or, replicate, set};
+ghost use Rattle.std.specs.Prelude.{◌≡◌, List, ◌+◌, ◌*◌, ◌-◌, ◌≤◌, ◌<◌, ℕ, eqb, false, leb, length, get_or, replicate, set};
 ghost use Rattle.base.specs.Chain.{last_where};
 ghost use Rattle.base.specs.Range.{bit};
 ghost use Rattle.blocks.specs.Entries.{entries_of, nth};
@@ -14,7 +14,7 @@ ghost use Rattle.fit.specs.code.Index.{Ordered};
 ghost use Rattle.fit.specs.code.Rows.{FoundRow, Rows, Singles, Small, empty_row, pair_in, pair_of, pairs_of};
 
 use crate::chain::Chain;
-use crate::index::{hash, put};
+use crate::index::{hash, masked, put};
 use blocks::{Entry, Link, entries_in_order, kinds};
 
 // The owner and the link of a row.
@@ -39,14 +39,17 @@ fn pair_of(owner: usize, l: Link) -> u64
     65536 * (owner as u64) + u64::from(l.0)
 }
 
-// The table as it is looked into: rows 1 to `used`, chained by the buckets, of `most`, of their owners and links.
+// The table as it is looked into: rows 1 to `used`, chained by the buckets, of `most`, of their owners and links. One
+// less than `most` is at hand as `mask`: each entry of a place may ask for a total.
 #[derive(Clone, Copy)]
 pub(crate) struct Totals<'a> {
     pub rows: &'a [u64],
     pub links: &'a [u16],
     pub most: usize,
+    pub mask: usize,
     pub used: usize,
     ghost kept: { Rows most rows.now links.now used },
+    ghost masked: { mask ≡ most - 1 },
 }
 
 impl<'a> Totals<'a> {
@@ -59,7 +62,7 @@ impl<'a> Totals<'a> {
         for r in Chain::of_bucket(
             self.links,
             self.most,
-            hash(self.most, owner, kinds::GROUP, l.0),
+            masked(self.mask, owner, kinds::GROUP, l.0),
         ) {
             if pair_in(self.rows[r]) == pair {
                 return Some(r);
@@ -135,6 +138,7 @@ impl<const MOST: usize, const LINKS: usize> Filling<MOST, LINKS> {
             rows: &self.rows,
             links: &self.links,
             most: MOST,
+            mask: MOST - 1,
             used: self.used,
         }
     }

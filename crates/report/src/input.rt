@@ -1,5 +1,5 @@
 // The program's input: how much is read of it, and the comparison of its two descriptions.
-ghost use Rattle.std.specs.Prelude.{◌≡◌, [], replicate};
+ghost use Rattle.std.specs.Prelude.{◌≡◌, [], length, replicate};
 ghost use Rattle.lists.specs.Parts.{first_part, second_part};
 ghost use Rattle.named.specs.Answer.{compare_named, output_named};
 ghost use Rattle.report.specs.Text.{input_bytes};
@@ -9,7 +9,8 @@ use compare::NotContained;
 
 // Zeros, as many as the program reads bytes at most. As many are room for every specimen.
 pub fn input_buffer() -> [u8; 16385]
-    ensures { result ≡ replicate input_bytes 0 }
+    ensures many { length result ≡ input_bytes }
+    ensures zeros { result ≡ replicate input_bytes 0 }
 {
     [0; 16385]
 }

@@ -112,7 +112,7 @@ impl Model {
                 _ => 0,
             };
         }
-        shuffle(&mut entries[self.chain.len()..], chance);
+        self.shuffle(&mut entries, chance);
         entries
     }
 
@@ -130,6 +130,11 @@ impl Model {
             }
         });
         self.chained(7).into_iter().chain(rows).collect()
+    }
+
+    /// Entries that begin with the chain of the model, the others in another order.
+    pub fn shuffle(&self, entries: &mut [Entry], chance: &mut Chance) {
+        shuffle(&mut entries[self.chain.len()..], chance);
     }
 
     fn chained(&self, kind: u8) -> Vec<Entry> {

@@ -4,6 +4,7 @@
 
 pub mod catalogue;
 pub mod excluding;
+pub mod hierarchy;
 pub mod inputs;
 pub mod naming;
 pub mod plain;

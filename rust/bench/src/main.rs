@@ -4,6 +4,7 @@
 
 mod listed;
 mod named;
+mod ranked;
 mod services;
 mod turns;
 
@@ -57,10 +58,15 @@ type Pair<'a> = (&'a [u8], &'a [u8]);
 
 fn main() {
     print_heading();
+    if std::env::args().nth(1).as_deref() == Some("hierarchy") {
+        // These rows alone.
+        return ranked::rows();
+    }
     model_rows();
     listed::rows();
     named::rows();
     services::rows();
+    ranked::rows();
     turns::rows();
 }
 

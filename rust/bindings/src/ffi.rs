@@ -1,4 +1,4 @@
-//! The eleven functions of the library as C declares them, behind calls that take slices. All unsafe code is here.
+//! The twelve functions of the library as C declares them, behind calls that take slices. All unsafe code is here.
 //!
 //! The library is proved to read and write nothing but the memory that its pointers and lengths name, whatever bytes stand
 //! there, and its own stack. Each call below lends it the memory of whole slices for the time of the call. The borrow
@@ -65,6 +65,14 @@ extern "C" {
         dict_len: usize,
         c: *const u8,
         c_len: usize,
+        list: *const u8,
+        list_len: usize,
+        out: *mut u8,
+        out_len: usize,
+    ) -> u64;
+    fn gx_hierarchy(
+        pairs: *const u8,
+        pairs_len: usize,
         list: *const u8,
         list_len: usize,
         out: *mut u8,
@@ -193,6 +201,20 @@ pub(crate) fn catalogue(pairs: &[u8], dict: &[u8], c: &[u8], list: &[u8], out: &
     }
 }
 
+pub(crate) fn hierarchy(pairs: &[u8], list: &[u8], out: &mut [u8]) -> u64 {
+    // SAFETY: the pointers and lengths are those of three slices, and the last is ours alone.
+    unsafe {
+        gx_hierarchy(
+            pairs.as_ptr(),
+            pairs.len(),
+            list.as_ptr(),
+            list.len(),
+            out.as_mut_ptr(),
+            out.len(),
+        )
+    }
+}
+
 #[cfg(test)]
 mod tests {
     use super::*;
@@ -224,6 +246,8 @@ mod tests {
             assert_eq!(gx_compare_with(no, 0, no, 0, no, 0, no, 0, none, 0), EMPTY);
             assert_eq!(gx_unfold(no, 0, no, 0, none, 0), EMPTY);
             assert_eq!(gx_catalogue(no, 0, no, 0, no, 0, no, 0, none, 0), EMPTY);
+            // Refusal 1 of input 2.
+            assert_eq!(gx_hierarchy(no, 0, no, 0, none, 0), 256 + 2 * 65_536);
         }
     }
 }

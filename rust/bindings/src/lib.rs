@@ -13,7 +13,7 @@
 //! [`Under`] has the same calls under a list of properties that exclude each other, such as clay and sand. What they promise is
 //! about records that keep the list as well. It also has the dictionary whose descriptions may be named by others, and [`unfold()`]
 //! puts them in where they are named. [`fit()`], [`normal_form`] and [`compare`] are the calls with no list and no dictionary.
-//! [`Under::catalogue`] compares one description with a list of up to 64.
+//! [`Under::catalogue`] compares one description with a list of up to 64, and [`hierarchy()`] ranks such a list from special to general.
 //!
 //! `k` entries take `512 * k.div_ceil(63).max(1)` bytes, `GX_BYTES(k)` of the C header: a call that writes `k` entries writes
 //! just those bytes, from the start of the output.
@@ -44,6 +44,7 @@
 mod catalogue;
 #[allow(unsafe_code)]
 mod ffi;
+mod hierarchy;
 mod packed;
 mod refusal;
 mod under;
@@ -52,6 +53,7 @@ mod unfold;
 /// The version of the library.
 pub const VERSION: &str = env!("CARGO_PKG_VERSION");
 
+pub use hierarchy::{hierarchy, hierarchy_bytes, Hierarchy};
 pub use refusal::{Reason, Refusal};
 pub use under::Under;
 pub use unfold::unfold;

@@ -7,6 +7,7 @@
 //! unfolded descriptions, and have to give the same.
 
 mod catalogue;
+mod hierarchy;
 
 use std::fmt;
 
@@ -19,6 +20,7 @@ use crate::excluding::Given;
 use crate::{length_of, MOST_DESCRIPTION};
 
 pub use catalogue::catalogue;
+pub use hierarchy::hierarchy;
 
 /// What both answered.
 #[derive(Clone, Copy, Debug, PartialEq, Eq, PartialOrd, Ord)]

@@ -1,6 +1,7 @@
 //! Rounds of cases, and how often each answer came.
 
 mod catalogue;
+mod hierarchy;
 
 use std::collections::BTreeMap;
 use std::fmt;
@@ -156,7 +157,7 @@ impl Rounds {
     ///
     /// The difference.
     pub fn any(&mut self) -> Found {
-        match self.chance.below(68) {
+        match self.chance.below(70) {
             0..=13 => self.pair(),
             14..=17 => self.doubles(),
             18..=24 => self.normal(),
@@ -172,7 +173,9 @@ impl Rounds {
             62 => self.hostile(),
             63 => self.full(),
             64..=65 => self.catalogues(),
-            _ => self.wrong_lists_of_services(),
+            66..=67 => self.wrong_lists_of_services(),
+            68 => self.hierarchies(),
+            _ => self.wrong_hierarchies(),
         }
     }
 

@@ -8,17 +8,17 @@
 //! | 2-3 | the length of the list of pairs |
 //! | 4-5 | the length of the dictionary |
 //! | 6-7 | the length of input 1 |
-//! | 8-9 | the length of input 2, which of the catalogue is its list of services; 0 for a call of one input |
+//! | 8-9 | the length of input 2, which of the catalogue and the hierarchy is the list of services; 0 for a call of one input |
 //! | 10-11 | the length of the output, 0 for a call without one |
 //! | 12-13 | a number for a call that takes one; no call of today does, and it is 0 |
 //! | 14-15 | 0 |
 //!
 //! After byte 15 come the list, the dictionary, input 1 and input 2, with nothing between them and nothing before the next header.
 //! The fit answer, the normal form, the comparison and the catalogue are always made with the list and the dictionary, which may be
-//! empty; the unfolding is made with the dictionary, and its list has length 0; the two readers take neither. A call without pairs
-//! is one with a list of length 0, and one without a dictionary one with a dictionary of length 0. No length of a dictionary is
-//! above [`MOST_DICTIONARY`], none of a list of services above [`MOST_LIST`], and no other above [`MOST_LENGTH`]. Each byte of
-//! the output is [`FILL`] before the call.
+//! empty; the unfolding is made with the dictionary, and its list has length 0; the hierarchy is made with the list, and its
+//! dictionary and its input 1 have length 0; the two readers take neither. A call without pairs is one with a list of length 0, and
+//! one without a dictionary one with a dictionary of length 0. No length of a dictionary is above [`MOST_DICTIONARY`], none of a
+//! list of services above [`MOST_LIST`], and no other above [`MOST_LENGTH`]. Each byte of the output is [`FILL`] before the call.
 
 use std::fmt;
 
@@ -36,7 +36,7 @@ pub const MOST_DICTIONARY: usize = 33_792;
 /// The most bytes of the list of services of a vector: 66 blocks.
 pub const MOST_LIST: usize = 33_792;
 /// The most vectors of a list.
-pub const MOST_VECTORS: usize = 1500;
+pub const MOST_VECTORS: usize = 1600;
 /// What the digest of an output stays below, the largest prime below 2^32.
 const MODULUS: u64 = 4_294_967_291;
 
@@ -57,6 +57,8 @@ pub enum Call {
     Unfold = 6,
     /// Input 1 compared with each service of the list in input 2, under the list of pairs and the dictionary.
     Catalogue = 7,
+    /// The services of the list in input 2 ranked, under the list of pairs.
+    Hierarchy = 8,
 }
 
 impl Call {
@@ -76,6 +78,7 @@ impl fmt::Display for Call {
             Call::Compare => "compare",
             Call::Unfold => "unfold",
             Call::Catalogue => "catalogue",
+            Call::Hierarchy => "hierarchy",
         })
     }
 }
@@ -181,6 +184,11 @@ impl Vector {
         Vector::of(Call::Catalogue, c, list, output)
     }
 
+    /// The hierarchy, with an output of this length.
+    pub fn hierarchy(list: Vec<u8>, output: usize) -> Vector {
+        Vector::of(Call::Hierarchy, Vec::new(), list, output)
+    }
+
     fn of(call: Call, first: Vec<u8>, second: Vec<u8>, output: usize) -> Vector {
         Vector {
             call,
@@ -245,6 +253,7 @@ impl Vector {
             Call::Catalogue => {
                 reference::catalogue(pairs, dict, first, second, &mut out).map(Answer::Wrote)
             }
+            Call::Hierarchy => reference::hierarchy(pairs, second, &mut out).map(Answer::Wrote),
         };
         (answer.unwrap_or_else(Answer::Refused), out)
     }
@@ -281,6 +290,7 @@ pub fn all() -> Vec<Vector> {
         named::excluding::all(),
         named::naming::all(),
         named::catalogue::all(),
+        named::hierarchy::all(),
         named::doubles::all(),
         named::desk(),
         named::report(),

@@ -49,11 +49,11 @@ fn bash() -> String {
     )
 }
 
-/// The text without what a shell's quotes would end at.
-fn plain(text: &str) -> String {
-    text.replace('\'', "")
-        .replace(['[', ']'], "")
-        .replace(':', ";")
+/// The text between single quotes of zsh, where a description ends at these signs.
+fn in_zsh(text: &str) -> String {
+    let text = text.replace('\'', "'\\''");
+    let text = text.replace('[', "\\[").replace(']', "\\]");
+    text.replace(':', "\\:")
 }
 
 fn zsh() -> String {
@@ -62,70 +62,86 @@ fn zsh() -> String {
         out.push_str(&format!(
             "        '{}:{}'\n",
             command.word(),
-            plain(about(command).1)
+            in_zsh(about(command).1)
         ));
     }
     out.push_str("        'help:the help of a command'\n        'completions:for bash, zsh or fish'\n    )\n");
-    out.push_str("    if (( CURRENT == 2 )); then\n        _describe command commands\n        return\n    fi\n    case $words[2] in\n");
+    out.push_str("    if (( CURRENT == 2 )); then\n        if [[ $PREFIX == -* ]]; then\n            compadd -- --help --version\n        else\n            \
+                  _describe command commands\n        fi\n        return\n    fi\n    case $words[2] in\n");
     for command in Command::ALL {
         out.push_str(&format!("        {}) _arguments", command.word()));
         for option in command.options() {
             out.push_str(&format!(" \\\n            {}", zsh_option(option)));
         }
+        out.push_str(" \\\n            '(-h --help)'{-h,--help}'[this help]'");
         out.push_str(" \\\n            '*:file:_files' ;;\n");
     }
-    out.push_str("        help) _describe command commands ;;\n        completions) _values shell bash zsh fish ;;\n    esac\n}\n");
+    out.push_str("        help) _describe command commands ;;\n        completions) compadd bash zsh fish ;;\n    esac\n}\n");
     out.push_str("if [ \"$funcstack[1]\" = _gx ]; then _gx \"$@\"; else compdef _gx gx; fi\n");
     out
 }
 
+/// An option with its letter, its help, and its value: one of its words, or a file.
 fn zsh_option(option: &Opt) -> String {
-    let about = plain(option.about);
+    let (name, about) = (option.name, in_zsh(option.about));
+    let names = match option.short {
+        Some(letter) => format!("'(-{letter} {name})'{{-{letter},{name}}}'"),
+        None => format!("'{name}"),
+    };
     match (option.value, option.words) {
-        (None, _) => format!("'{}[{about}]'", option.name),
-        (Some(value), []) => format!("'{}[{about}]:{value}:_files'", option.name),
+        (None, _) => format!("{names}[{about}]'"),
+        (Some(value), []) => format!("{names}[{about}]:{value}:_files'"),
         (Some(value), words) => {
-            format!("'{}[{about}]:{value}:({})'", option.name, words.join(" "))
+            let words = words.join(" ");
+            format!("{names}[{about}]:{value}:({words})'")
         }
     }
+}
+
+/// The text between single quotes of fish.
+fn in_fish(text: &str) -> String {
+    text.replace('\\', "\\\\").replace('\'', "\\'")
 }
 
 fn fish() -> String {
     let words = commands().join(" ");
     let mut out = String::from("# fish completion of gx\n");
     let first = format!("not __fish_seen_subcommand_from {words}");
-    for command in Command::ALL {
+    let mut command = |word: &str, about: &str| {
+        let about = in_fish(about);
         out.push_str(&format!(
-            "complete -c gx -n '{first}' -a {} -d '{}'\n",
-            command.word(),
-            plain(about(command).1)
+            "complete -c gx -f -n '{first}' -a {word} -d '{about}'\n"
         ));
+    };
+    for each in Command::ALL {
+        command(each.word(), about(each).1);
     }
+    command("help", "the help of a command");
+    command("completions", "for bash, zsh or fish");
     out.push_str(&format!(
-        "complete -c gx -n '{first}' -a help -d 'the help of a command'\n"
+        "complete -c gx -f -n '{first}' -s V -l version -d 'the versions'\n\
+         complete -c gx -s h -l help -d 'this help'\n\
+         complete -c gx -f -n '__fish_seen_subcommand_from completions' -a 'bash zsh fish'\n\
+         complete -c gx -f -n '__fish_seen_subcommand_from help' -a '{words}'\n"
     ));
-    out.push_str(&format!(
-        "complete -c gx -n '{first}' -a completions -d 'for bash, zsh or fish'\n"
-    ));
-    out.push_str(
-        "complete -c gx -f -n '__fish_seen_subcommand_from completions' -a 'bash zsh fish'\n",
-    );
-    for option in crate::args::OPTIONS {
-        let of: Vec<&str> = option.of.iter().map(|command| command.word()).collect();
-        let short = option
-            .short
-            .map_or(String::new(), |letter| format!(" -s {letter}"));
-        let value = match (option.value, option.words) {
-            (None, _) => String::new(),
-            (Some(_), []) => " -r".into(),
-            (Some(_), words) => format!(" -x -a '{}'", words.join(" ")),
-        };
-        out.push_str(&format!(
-            "complete -c gx -n '__fish_seen_subcommand_from {}' -l {}{short}{value} -d '{}'\n",
-            of.join(" "),
-            option.name.trim_start_matches('-'),
-            plain(option.about)
-        ));
-    }
+    out.extend(crate::args::OPTIONS.iter().map(fish_option));
     out
+}
+
+fn fish_option(option: &Opt) -> String {
+    let of: Vec<&str> = option.of.iter().map(|command| command.word()).collect();
+    let short = option
+        .short
+        .map_or(String::new(), |letter| format!(" -s {letter}"));
+    let value = match (option.value, option.words) {
+        (None, _) => String::new(),
+        (Some(_), []) => " -r".into(),
+        (Some(_), words) => format!(" -x -a '{}'", words.join(" ")),
+    };
+    format!(
+        "complete -c gx -n '__fish_seen_subcommand_from {}' -l {}{short}{value} -d '{}'\n",
+        of.join(" "),
+        option.name.trim_start_matches('-'),
+        in_fish(option.about)
+    )
 }

@@ -5,13 +5,14 @@
 //! | Module | Subject |
 //! |---|---|
 //! | [`entry`], [`blocks`], [`tree`] | entries, entries as blocks, which entry owns which |
-//! | [`pairs`], [`dictionary`] | properties that exclude each other, named descriptions, and both as bytes |
+//! | [`pairs`], [`dictionary`], [`services`] | properties that exclude each other, named descriptions, lists of services, and their bytes |
 //! | [`background`] | what all answers of a run are about: the list and the dictionary |
 //! | [`names`], [`text`] | the words of properties, links and descriptions; descriptions, specimens, lists and dictionaries as text |
 //! | [`input`], [`trouble`], [`refused`] | inputs, what keeps one from an answer, a refusal in words |
 //! | [`library`] | the calls of the proved library |
 //! | [`words`], [`whereabouts`], [`shown`], [`readback`] | sentences, and where an entry stands |
 //! | [`explain`], [`specimen`] | a no explained, a specimen as a tree of lines |
+//! | [`mod@hierarchy`] | services from general to special |
 //! | [`svg`], [`page`] | the drawing and the page |
 //! | [`owl`] | the question in OWL, and descriptions from it |
 //! | [`settings`], [`given`], [`sha256`] | a laboratory's settings, and under what an answer is given |
@@ -31,6 +32,7 @@ pub mod entry;
 pub mod explain;
 pub mod given;
 pub mod help;
+pub mod hierarchy;
 pub mod input;
 pub mod json;
 pub mod library;
@@ -41,6 +43,7 @@ pub mod pairs;
 pub mod readback;
 pub mod refused;
 pub mod run;
+pub mod services;
 pub mod settings;
 pub mod sha256;
 pub mod shown;

@@ -151,6 +151,51 @@ pub fn catalogue(
     under.catalogue_of(supplier, services)
 }
 
+/// Services ranked: for each, by the places of the others in the list, from 0.
+#[derive(Clone, Debug, PartialEq, Eq)]
+pub struct Ranked {
+    /// Whether each of the others contains it.
+    pub table: Vec<Vec<bool>>,
+    /// Whether each of the others is a direct superior.
+    pub superiors: Vec<Vec<bool>>,
+    /// The first of those that say the same.
+    pub classes: Vec<usize>,
+}
+
+/// Ranks accepted plain services, at most [`MOST_SERVICES`], under a list of pairs.
+///
+/// # Errors
+///
+/// The library's refusal.
+pub fn hierarchy(pairs: &[u8], services: &[&[u8]]) -> Result<Ranked, Refusal> {
+    let mut out = vec![0; goltximen::hierarchy_bytes(MOST_SERVICES)];
+    let ranked = goltximen::hierarchy(pairs, &services.concat(), &mut out)?;
+    let rows = |bytes: &[u8]| {
+        let rows = bytes.chunks_exact(ranked.count());
+        rows.map(|row| row.iter().map(|&byte| byte == 1).collect())
+            .collect()
+    };
+    let classes = ranked.classes().iter();
+    Ok(Ranked {
+        table: rows(ranked.table()),
+        superiors: rows(ranked.superiors()),
+        classes: classes.map(|&class| usize::from(class) - 1).collect(),
+    })
+}
+
+/// The refusal of so many services, if they are too many.
+///
+/// # Errors
+///
+/// The library's refusal.
+pub fn read_ranked(count: usize) -> Result<(), Refusal> {
+    let list = encode(&[]).repeat(count);
+    match goltximen::hierarchy(&[], &list, &mut []) {
+        Err(refusal) if refusal.reason == Reason::TooMany => Err(refusal),
+        _ => Ok(()),
+    }
+}
+
 /// The bytes of the blocks that hold so many entries.
 fn length_of(entries: usize) -> usize {
     BLOCK * entries.div_ceil(BLOCK_ENTRIES).max(1)

@@ -1,5 +1,7 @@
 //! A specimen as an indented tree with counts.
 
+pub mod read;
+
 use crate::entry::{Entry, Says};
 use crate::tree::Tree;
 use crate::words::{grouped, listed, Words};

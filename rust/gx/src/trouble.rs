@@ -69,6 +69,14 @@ pub enum Trouble {
 }
 
 impl Trouble {
+    /// The same where a refusal is one of this part of an input.
+    pub fn within(mut self, part: &str) -> Trouble {
+        if let Trouble::Refused { why, .. } = &mut self {
+            *why = format!("{part}: {why}");
+        }
+        self
+    }
+
     /// On one line, without the file.
     pub fn line(&self) -> String {
         match self {

@@ -224,6 +224,12 @@ pub fn descriptions(count: usize) -> String {
     format!("{count} {word}")
 }
 
+/// The count with its word: "1 service", "2 services".
+pub fn services(count: usize) -> String {
+    let word = if count == 1 { "service" } else { "services" };
+    format!("{count} {word}")
+}
+
 /// Several things: "a", "a and b", "a, b and c".
 pub fn listed(things: &[String]) -> String {
     match things {

@@ -5,12 +5,11 @@ use lib.Dec.{eqb, leb}
 use lib.ListN.{length}
 use mathlib.Core.Bool.{Bool, ◌&&◌, ◌||◌, false, not, true}
 use mathlib.Core.List.{List}
-use mathlib.Core.Logic.{◌≢◌}
 use mathlib.Core.Path.{◌∙◌, ◌≡◌, ap, sym}
 use native.Mathlib.Omega.{arith}
 use Rattle.std.proofs.Math.Logic.{∥∥₁_elim}
 use Rattle.std.proofs.Props.{props}
-use Rattle.base.proofs.Tests.{and_cases, and_left, and_right, bool_cases, eqb-eq, ne_eqb, or-one}
+use Rattle.base.proofs.Tests.{and_cases, and_left, and_right, bool_cases, eqb-eq, or-one}
 use Rattle.blocks.specs.Entries.{entries_of, nth}
 use Rattle.blocks.specs.Owners.{owner_of}
 use Rattle.blocks.specs.Single.{items_up_to}
@@ -20,7 +19,7 @@ use Rattle.fit.proofs.index.BucketLaws.{all-bucket, code-bare, code-full, code_o
 use Rattle.fit.proofs.index.BucketWalk.{where-ext}
 use Rattle.fit.specs.Totals.{TotalsOf}
 use Rattle.fit.specs.code.Bare.{bare}
-use Rattle.fit.specs.code.Groups.{gives_property, groups_by, has_bare, has_property, is_group, meets_atom, total_by}
+use Rattle.fit.specs.code.Groups.{gives_property, groups_by, has_bare, has_property, is_group, total_by}
 use Rattle.fit.specs.code.Index.{any_of, bucket_of, code_of, hash_of, is_of, not_of}
 use Rattle.fit.specs.code.Rows.{Singles}
 
@@ -100,11 +99,6 @@ bare_bucket most es g l more is h =
     (λ k out. bool_cases (bare es k)
     (λ y. elsewhere most es g 7 8 l k out (λ q. code-bare _ q y) (λ o. rw o) (λ m. rw m (or-one (not (eqb (owner_of es k) g)))))
     (λ y. rw (y, or-one (not (is_group es l k)), or-one (not (eqb (owner_of es k) g))))) (length es))))
-
--- an entry that is none of the four is not met
-pub no-atom : (s : List Entry) (g : ℕ) (e : Entry) → e.kind ≢ 1 → e.kind ≢ 2 → e.kind ≢ 3 → e.kind ≢ 4 → false ≡ meets_atom s g e
-unfolding meets_atom
-no-atom s g e a b c d = rw (meets_atom, ne_eqb a, ne_eqb b, ne_eqb c, ne_eqb d)
 
 -- ---- totals
 

@@ -31,6 +31,11 @@ pub hash_is : (most o k n : ℕ) {q m : ℕ} → 0 < most → q ≡ k → m ≡ 
 unfolding hash_of
 hash_is most o k n {q} {m} pos d e = (rw (hash_of, d, e), omega (arith, and_le_r (o + (31 * m + q)) (most - 1)))
 
+-- where one less than `most` is at hand
+pub masked_is : (most o k n : ℕ) {m r : ℕ} → 0 < most → m ≡ most - 1 → r ≡ bit_and (o + (31 * n + k)) m
+    → (r ≡ hash_of most o k n) × (r < most)
+masked_is most o k n pos d e = rw (e, d) (hash_is most o k n pos refl refl)
+
 pub bucket-below : (σ : Schema) (most : ℕ) (es : List Entry) (k : ℕ) → Ordered es → 1 ≤ k → k ≤ length es → length es < most → bucket_of σ most es k < most
 bucket-below Description most es k O lo hi few = omega (arith, O.earlier k lo hi)
 bucket-below (Named names) most es k O lo hi few = omega (arith, O.earlier k lo hi)

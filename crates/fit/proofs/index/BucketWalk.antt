@@ -66,7 +66,7 @@ pub record Walk {A : Type 0} (c : ℕ → ℕ) (b n : ℕ) (f : ℕ → A) (answ
 
 module _ {c : ℕ → ℕ} {most n : ℕ} {t : List ℕ} (I : Indexed most c t n) where
   -- numbers fall along it
-  pub falls_from : {k : ℕ} → k ≤ n → Falls most t k
+  falls_from : {k : ℕ} → k ≤ n → Falls most t k
   falls_from h = record {
     room = omega (arith, I.size, I.below);
     lower = λ j lo hi. walk-falls I.chains (c j) (record { bound = omega (arith, hi, h); bucket = λ z. refl }) (λ z. omega arith) refl;
@@ -138,21 +138,9 @@ module _ {σ : Schema} {most : ℕ} {s : List ℕ} {t : List ℕ} (R : Ready σ 
     pub pass-ends : k ≡ 0 → answer ≡ true
     pass-ends z = W.tells ∙ all-ends (buckets σ most s) p b z
 
-    -- the last to come to alone decides
-    pub pass-last : {table' : List ℕ} {m' k' i : ℕ} → StepsBack table m k (Some i) table' m' k' → k' ≡ 0 → answer ≡ p i
-    pass-last {i = i} q e =
-        bool_cases (p i)
-        (λ y. (pass-on q y).tells ∙ all-ends (buckets σ most s) p b e ∙ sym y)
-        (λ y. pass-no q y ∙ sym y)
-
     -- the entry that it comes to is there
     pub pass-has : {table' : List ℕ} {m' k' i : ℕ} → StepsBack table m k (Some i) table' m' k' → Has s i
     pass-has q = has-entry R (walk-at W q).bound q.0.1
-
--- an entry with none before it in its bucket decides what those from there back tell
-pub all-last : {σ : Schema} {most : ℕ} {s : List ℕ} {t : List ℕ} → Ready σ most s t → (p : ℕ → Bool) (b : ℕ) {k : ℕ}
-    → OnChain (buckets σ most s) b k (length (entries_of s)) → k ≢ 0 → get_or t (most + k) 0 ≡ 0 → all_where (buckets σ most s) p b k ≡ p k
-all-last R p b S z e = pass-last R p b (record { on = S; tells = refl; same-table = refl; same-most = refl }) ((refl, z, refl), refl, refl) e
 
 -- ---- the index
 

@@ -1,25 +1,37 @@
 -- Laws of meeting an entry, one for each way through the code.
 -- Assumes nothing.
 use Prim.Native.Nat.{◌-◌, suc, zero, ℕ, ◌%◌}
-use lib.Dec.{eqb}
+use lib.Dec.{eqb, leb}
 use lib.ListN.{length}
-use mathlib.Core.Bool.{Bool, ◌&&◌, ◌||◌, false, not, true}
+use mathlib.Core.Bool.{Bool, cond, ◌&&◌, ◌||◌, false, not, true}
 use mathlib.Core.List.{List}
 use mathlib.Core.Logic.{◌≢◌}
 use mathlib.Core.Path.{◌∙◌, ◌≡◌, ap, refl, sym}
 use native.Mathlib.Numerals.{sub-one}
 use Rattle.base.proofs.Tests.{bool_cases, false_of_not, ne_eqb, or-one, true_of_not}
-use Rattle.blocks.specs.Entries.{entries_of, nth}
+use Rattle.blocks.specs.Entries.{nth}
 use Rattle.blocks.specs.Owners.{owner_of}
 use Rattle.blocks.specs.declared.Entry.{Entry}
-use Rattle.blocks.specs.declared.Schema.TheVariants.{Description, Specimen}
+use Rattle.blocks.specs.declared.Schema.TheVariants.{Specimen}
 use Rattle.fit.proofs.groups.GroupLaws.{full-here, owned-else, owned-here}
 use Rattle.fit.proofs.index.BucketLaws.{all-bucket, code-full, elsewhere}
-use Rattle.fit.proofs.index.BucketWalk.{Passing}
 use Rattle.fit.specs.code.Bare.{bare, bare_fits}
-use Rattle.fit.specs.code.Groups.{Rests, fits_place, group_fits, groups_by, has_bare, is_group, meets_atom, meets_entry, own_fits}
+use Rattle.fit.specs.code.Groups.{fits_place, group_fits, groups_by, has_bare, has_property, is_group, meets_entry, own_fits, total_by}
 use Rattle.fit.specs.code.Index.{bucket_of, hash_of, is_of}
 use Rattle.meaning.specs.Owned.{all_owned, all_where}
+
+-- the items of group g meet an entry that is no 'every'
+unfoldable pub meets_atom : List Entry → ℕ → Entry → Bool
+meets_atom s g e =
+    cond (eqb e.kind 1) (has_property s g e.name)
+    (cond (eqb e.kind 2) (not (has_property s g e.name))
+    (cond (eqb e.kind 3) (leb e.number (total_by s g e.name))
+    (cond (eqb e.kind 4) (leb (total_by s g e.name) e.number) false)))
+
+-- one of another kind is not met
+pub no-atom : (s : List Entry) (g : ℕ) (e : Entry) → e.kind ≢ 1 → e.kind ≢ 2 → e.kind ≢ 3 → e.kind ≢ 4 → false ≡ meets_atom s g e
+unfolding meets_atom
+no-atom s g e a b c d = rw (meets_atom, ne_eqb a, ne_eqb b, ne_eqb c, ne_eqb d)
 
 pub meets-bottom : (left : ℕ) (s d : List Entry) (g e : ℕ) → left ≡ 0 → false ≡ meets_entry left s d g e
 unfolding meets_entry
@@ -73,13 +85,3 @@ module _ (s : List Entry) (left : ℕ) (d : List Entry) (e g l k : ℕ) {x : Ent
       → own_fits left s d e g l k ≡ f
   group-decides most at more q h =
       let y = owned-here s g 7 l k a b q in rw (y.0, y.1, full-here most s g l k more y.0 y.1 at) (sym h)
-
--- the group on which it rests: the entry's link is the one that was read
-pub rests-on : {most left : ℕ} {s d : List Entry} {g e l m h : ℕ} → l ≡ m → Rests most left s d g e l h → Rests most left s d g e m h
-rests-on q R = rw q at R
-
--- The entries from number k back that a place owns, in a chain over the description's index, judged for group g and so many levels, tell the
--- answer.
-pub record Left (s : List Entry) (most : ℕ) (d : List ℕ) (answer : Bool) (left g : ℕ) (t table : List ℕ) (m k : ℕ) : Type 0 where
-  pub place : ℕ
-  pub walk : Passing Description most d (meets_entry left s (entries_of d) g) place answer t table m k

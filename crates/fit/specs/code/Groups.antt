@@ -1,18 +1,13 @@
 -- Fitting by groups and by entry numbers, as the code goes. No public promise names these: proofs/ shows that they
 -- give the answer in the record of items.
 -- Assumes nothing.
-use Rattle.std.specs.Prelude.{Bool, false, not, true, cond, ◌&&◌, ◌||◌, List, ◌≡◌, ◌≢◌, ℕ, zero, suc, ◌-◌, ◌≤◌, leb, eqb, length}
-use Rattle.base.specs.Chain.{OnChain}
+use Rattle.std.specs.Prelude.{Bool, false, not, cond, ◌&&◌, ◌||◌, List, ℕ, zero, suc, leb, eqb, length}
 use Rattle.blocks.specs.Entries.{nth}
 use Rattle.blocks.specs.Owners.{owner_of}
 use Rattle.blocks.specs.Single.{items_up_to}
 use Rattle.blocks.specs.declared.Entry.{Entry}
-use Rattle.blocks.specs.declared.Schema.TheVariants.{Specimen}
 use Rattle.fit.specs.code.Bare.{bare, bare_fits}
-use Rattle.fit.specs.declared.judge.Verdict.{Verdict}
-use Rattle.fit.specs.declared.judge.Verdict.TheVariants.{Met, RestsOn, Unmet}
-use Rattle.fit.specs.code.Index.{bucket_of, hash_of, is_of}
-use Rattle.meaning.specs.Owned.{all_owned, all_where}
+use Rattle.meaning.specs.Owned.{all_owned}
 
 -- entry k gives property p; it is a group by link l
 abbrev pub gives_property : List Entry → ℕ → ℕ → Bool
@@ -61,28 +56,3 @@ group_fits left s d e l k = not (is_group s l k) || (bare s k || fits_place left
 -- the same for the groups that g owns; others pass
 abbrev pub own_fits : ℕ → List Entry → List Entry → ℕ → ℕ → ℕ → ℕ → Bool
 own_fits left s d e g l k = not (eqb (owner_of s k) g) || group_fits left s d e l k
-
--- each of those in the bucket of g and l, of `most`, from number h back; `left` levels are to be followed down from entry e
-abbrev pub groups_fit : ℕ → ℕ → List Entry → List Entry → ℕ → ℕ → ℕ → ℕ → Bool
-groups_fit most left s d g e l h = all_where (bucket_of Specimen most s) (own_fits (left - 1) s d e g l) (hash_of most g 7 l) h
-
--- the items of g meet entry e, an 'every' by link l, where the groups from h back fit; h is the last of them
-pub record Rests (most left : ℕ) (s d : List Entry) (g e l h : ℕ) : Type 0 where
-  pub some : 1 ≤ left
-  pub group : is_of (nth s h) g 7 l ≡ true
-  pub on : OnChain (bucket_of Specimen most s) (hash_of most g 7 l) h (length s)
-  pub tells : meets_entry left s d g e ≡ groups_fit most left s d g e l h
-
--- what a verdict on entry e tells
-abbrev pub Told : ℕ → ℕ → List Entry → List Entry → ℕ → ℕ → Verdict → Type 0
-Told most left s d g e Met = meets_entry left s d g e ≡ true
-Told most left s d g e Unmet = meets_entry left s d g e ≡ false
-Told most left s d g e (RestsOn h) = (h ≢ 0) × Rests most left s d g e (nth d e).name h
-
--- the items of group g meet an entry that owns no place
-unfoldable pub meets_atom : List Entry → ℕ → Entry → Bool
-meets_atom s g e =
-    cond (eqb e.kind 1) (has_property s g e.name)
-    (cond (eqb e.kind 2) (not (has_property s g e.name))
-    (cond (eqb e.kind 3) (leb e.number (total_by s g e.name))
-    (cond (eqb e.kind 4) (leb (total_by s g e.name) e.number) false)))

@@ -111,7 +111,7 @@ pub fn first_failing<const N: usize, const M: usize>(
 ) -> Result<usize, Refusal> {
     // A state for each 'every' entry: the place of C that it owns, or one of the two above.
     let mut states = [0u16; M];
-    states[0] = if slots.is_broken() { PASSED } else { 0 };
+    states[0] = top(slots);
     let mut failing = 0;
     d.read::<M>(input, |number, entry| {
         if failing == 0 {
@@ -124,9 +124,18 @@ pub fn first_failing<const N: usize, const M: usize>(
     Ok(failing)
 }
 
+/// The state of the top.
+pub fn top<const N: usize>(slots: &Slots<N>) -> u16 {
+    if slots.is_broken() {
+        PASSED
+    } else {
+        0
+    }
+}
+
 /// Whether an entry at a place of this state holds, and the state of the place that it owns.
 #[inline]
-fn look<const N: usize>(
+pub fn look<const N: usize>(
     pairs: Option<&Pairs>,
     slots: &Slots<N>,
     state: u16,

@@ -88,9 +88,14 @@ impl<'a> Described<'a> {
 
 /// Reads a description and answers its number of entries.
 pub fn read_description(bytes: &[u8]) -> Result<usize, Refusal> {
+    read_service(bytes, 1)
+}
+
+/// Reads a description as the input of this number, where no dictionary is taken.
+pub fn read_service(bytes: &[u8], input: u16) -> Result<usize, Refusal> {
     match size(bytes.len()) {
-        Size::Small => read::<64>(bytes, &DESCRIPTION, 1, |_, _| ()),
-        _ => read::<1024>(bytes, &DESCRIPTION, 1, |_, _| ()),
+        Size::Small => read::<64>(bytes, &DESCRIPTION, input, |_, _| ()),
+        _ => read::<1024>(bytes, &DESCRIPTION, input, |_, _| ()),
     }
 }
 

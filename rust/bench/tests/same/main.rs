@@ -2,6 +2,7 @@
 
 mod catalogue;
 mod excluding;
+mod hierarchy;
 mod naming;
 
 use std::fmt::Debug;

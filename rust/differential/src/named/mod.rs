@@ -3,6 +3,7 @@
 pub mod catalogue;
 pub mod doubles;
 pub mod excluding;
+pub mod hierarchy;
 pub mod naming;
 
 use reference::notation::{blocks, entry};

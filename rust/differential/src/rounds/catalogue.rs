@@ -94,7 +94,7 @@ fn how_many(chance: &mut Chance) -> usize {
 }
 
 /// The list with one service damaged, and those after it as they are.
-fn with_one_damaged(chance: &mut Chance, all: &[Vec<reference::Entry>]) -> Vec<u8> {
+pub(super) fn with_one_damaged(chance: &mut Chance, all: &[Vec<reference::Entry>]) -> Vec<u8> {
     let at = chance.below(all.len());
     let bad = damaged(chance, Sort::Description, &all[at]);
     [laid(&all[..at]), bad, laid(&all[at + 1..])].concat()

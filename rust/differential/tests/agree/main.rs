@@ -3,6 +3,7 @@
 mod catalogue;
 mod doubles;
 mod excluding;
+mod hierarchy;
 mod naming;
 
 use differential::agree::{self, Answer, Difference};

@@ -4,6 +4,7 @@
 mod catalogue;
 mod doubles;
 mod excluding;
+mod hierarchy;
 mod naming;
 
 use std::collections::{BTreeMap, BTreeSet};
@@ -119,21 +120,26 @@ fn the_digest() {
 fn as_many_and_as_long_as_allowed() {
     let vectors = all();
     assert!(vectors.len() <= MOST_VECTORS);
-    assert!(standard_input(vectors).len() < 2_900_000);
+    assert!(standard_input(vectors).len() < 3_100_000);
     for vector in vectors {
         let [pairs, dictionary, first, second] = vector.parts().map(<[u8]>::len);
         assert!(dictionary <= MOST_DICTIONARY);
         let most_second = match vector.call {
-            Call::Catalogue => MOST_LIST,
+            Call::Catalogue | Call::Hierarchy => MOST_LIST,
             _ => MOST_LENGTH,
         };
         assert!(pairs.max(first) <= MOST_LENGTH && second <= most_second);
         assert!(vector.output <= MOST_LENGTH);
-        let one_input = !matches!(vector.call, Call::Fit | Call::Compare | Call::Catalogue);
+        let one_input = !matches!(
+            vector.call,
+            Call::Fit | Call::Compare | Call::Catalogue | Call::Hierarchy
+        );
         assert!(vector.second.is_empty() || !one_input);
         assert!(vector.output == 0 || vector.call.writes());
         // The unfolding takes no list.
         assert!(pairs == 0 || vector.call != Call::Unfold);
+        // The hierarchy takes a list of services alone.
+        assert!(dictionary + first == 0 || vector.call != Call::Hierarchy);
     }
 }
 
@@ -242,6 +248,21 @@ fn each_refusal() {
         let sort = format!("catalogue refused {number} input {input}");
         assert!(sorts.contains_key(&sort), "{sort}");
     }
+    for (number, input) in [
+        (11, 0),
+        (1, 2),
+        (8, 2),
+        (2, 2),
+        (3, 3),
+        (4, 4),
+        (5, 4),
+        (6, 4),
+        (1, 3),
+        (7, 0),
+    ] {
+        let sort = format!("hierarchy refused {number} input {input}");
+        assert!(sorts.contains_key(&sort), "{sort}");
+    }
     assert!(sorts["fit refused 12 input 1"] >= 3);
     assert!(sorts["normal form refused 7 input 0"] >= 3);
     assert!(sorts["compare refused 7 input 0"] >= 3);
@@ -273,6 +294,7 @@ fn the_library_agrees() {
             Call::Compare => agree::compare(&mut chance, under, first, second, vector.output),
             Call::Unfold => agree::unfold(&mut chance, under.dictionary, first, vector.output),
             Call::Catalogue => agree::catalogue(&mut chance, under, first, second, vector.output),
+            Call::Hierarchy => agree::hierarchy(&mut chance, under.pairs, second, vector.output),
         };
         if let Err(difference) = agreed {
             panic!("vector {number}: {difference}");

@@ -28,6 +28,8 @@ pub enum Command {
     Compare,
     /// One description compared with many.
     Catalogue,
+    /// Many services from general to special.
+    Hierarchy,
     /// A description without named entries.
     Unfold,
     /// The question in OWL.
@@ -38,7 +40,7 @@ pub enum Command {
 
 impl Command {
     /// All commands, in the order of the help.
-    pub const ALL: [Command; 10] = [
+    pub const ALL: [Command; 11] = [
         Command::Show,
         Command::Write,
         Command::Check,
@@ -46,6 +48,7 @@ impl Command {
         Command::Fit,
         Command::Compare,
         Command::Catalogue,
+        Command::Hierarchy,
         Command::Unfold,
         Command::Owl,
         Command::FromOwl,
@@ -61,6 +64,7 @@ impl Command {
             Command::Fit => "fit",
             Command::Compare => "compare",
             Command::Catalogue => "catalogue",
+            Command::Hierarchy => "hierarchy",
             Command::Unfold => "unfold",
             Command::Owl => "owl",
             Command::FromOwl => "from-owl",
@@ -90,7 +94,11 @@ impl Command {
     pub fn answers(self) -> bool {
         matches!(
             self,
-            Command::Check | Command::Fit | Command::Compare | Command::Catalogue
+            Command::Check
+                | Command::Fit
+                | Command::Compare
+                | Command::Catalogue
+                | Command::Hierarchy
         )
     }
 }
@@ -115,6 +123,8 @@ pub enum Content {
     Pairs,
     /// A dictionary.
     Dictionary,
+    /// A list of services.
+    Services,
 }
 
 /// The options.
@@ -162,6 +172,12 @@ pub struct Options {
     pub only_contained: bool,
     /// One service that contains the description is enough.
     pub any: bool,
+    /// The question is written in the notation of FaCT++.
+    pub fact: bool,
+    /// A hierarchy is written as a table with commas.
+    pub csv: bool,
+    /// A hierarchy is written as a graph for Graphviz.
+    pub dot: bool,
 }
 
 /// A shell that completes command lines.

@@ -2,7 +2,7 @@
 //! this table.
 
 use super::Command::{
-    self, Catalogue, Check, Compare, Fit, FromOwl, Normal, Owl, Show, Unfold, Write,
+    self, Catalogue, Check, Compare, Fit, FromOwl, Hierarchy, Normal, Owl, Show, Unfold, Write,
 };
 
 /// An option.
@@ -35,12 +35,12 @@ impl Opt {
 }
 
 const ALL: &[Command] = &Command::ALL;
-const UNDER: &[Command] = &[Check, Normal, Fit, Compare, Catalogue, Owl];
+const UNDER: &[Command] = &[Check, Normal, Fit, Compare, Catalogue, Hierarchy, Owl];
 const NAMING: &[Command] = &[
-    Show, Write, Check, Normal, Fit, Compare, Catalogue, Unfold, Owl,
+    Show, Write, Check, Normal, Fit, Compare, Catalogue, Hierarchy, Unfold, Owl,
 ];
 const READING: &[Command] = &[
-    Show, Write, Check, Normal, Fit, Compare, Catalogue, Unfold, Owl,
+    Show, Write, Check, Normal, Fit, Compare, Catalogue, Hierarchy, Unfold, Owl,
 ];
 const TEXTS: &[Command] = &[Show, Normal, Unfold, FromOwl];
 
@@ -90,8 +90,9 @@ pub const OPTIONS: &[Opt] = &[
     word("--from", &["blocks", "text"], "the inputs are 'blocks' or 'text', whatever they look like", READING),
     word(
         "--sort",
-        &["description", "specimen", "pairs", "dictionary"],
-        "the input is a 'description', a 'specimen', a list of 'pairs' or a 'dictionary'; of from-owl, write the 'description' or the 'pairs'",
+        &["description", "specimen", "pairs", "dictionary", "services"],
+        "the input is a 'description', a 'specimen', a list of 'pairs' or of 'services', or a 'dictionary'; of from-owl, write the \
+         'description' or the 'pairs'",
         &[Show, Write, Check, FromOwl],
     ),
     word(
@@ -106,14 +107,18 @@ pub const OPTIONS: &[Opt] = &[
         ..file(
             "--out",
             "write into this file; for folders, into this folder",
-            &[Show, Write, Normal, Unfold, Owl, FromOwl],
+            &[Show, Write, Normal, Hierarchy, Unfold, Owl, FromOwl],
         )
     },
-    file("--svg", "draw the specimen; for folders, into this folder", &[Compare]),
+    file(
+        "--svg",
+        "draw the specimen; for folders, into this folder; of a hierarchy, draw the classes",
+        &[Compare, Hierarchy],
+    ),
     file(
         "--html",
         "write a page with the answer; for folders, and of a catalogue, into this folder, with an index",
-        &[Fit, Compare, Catalogue],
+        &[Fit, Compare, Catalogue, Hierarchy],
     ),
     file(
         "--specimen",
@@ -124,7 +129,10 @@ pub const OPTIONS: &[Opt] = &[
     flag("--all", "tell all entries that fail, not only the first", &[Compare]),
     flag("--why", "tell of each no which entry fails first", &[Catalogue]),
     word("--only", &["contained"], "tell only the services that contain the description", &[Catalogue]),
+    flag("--csv", "write the whole table, a row for each service", &[Hierarchy]),
+    flag("--dot", "write a graph for Graphviz", &[Hierarchy]),
     flag("--any", "one service that contains the description is enough for a yes", &[Catalogue]),
+    flag("--fact", "write the question in the notation of FaCT++", &[Owl]),
     Opt {
         value: Some("NAME"),
         ..flag("--class", "the class whose definition is read, where there are several", &[FromOwl])

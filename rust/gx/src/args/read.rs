@@ -107,6 +107,11 @@ impl<'a> Line<'a> {
         if self.command == Command::Catalogue && count < 2 {
             return Err(format!("{word} takes two inputs or more, and {given}"));
         }
+        if self.options.csv && self.options.dot {
+            return Err(
+                "--csv and --dot are two forms of one answer; one of them can be written".into(),
+            );
+        }
         let mut files = self.files;
         if files.is_empty() {
             files.push("-".into());
@@ -197,6 +202,9 @@ impl<'a> Line<'a> {
             "--no-lab" => &mut options.no_lab,
             "--quiet" => &mut options.quiet,
             "--why" => &mut options.why,
+            "--fact" => &mut options.fact,
+            "--csv" => &mut options.csv,
+            "--dot" => &mut options.dot,
             _ => &mut options.any,
         };
         *flag = true;
@@ -236,6 +244,7 @@ const SORTS: &[(&str, Content)] = &[
     ("specimen", Content::Entries(Sort::Specimen)),
     ("pairs", Content::Pairs),
     ("dictionary", Content::Dictionary),
+    ("services", Content::Services),
 ];
 const SORTS_FROM_OWL: &[(&str, Content)] = &[
     ("description", Content::Entries(Sort::Description)),

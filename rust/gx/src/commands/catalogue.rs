@@ -1,13 +1,16 @@
 //! One description against many services: the ones that are accepted go into one call of the library.
 
 use std::path::{Path, PathBuf};
+use std::rc::Rc;
 
 use super::compare::of_inputs;
 use super::{words_of, Answer, Context, Status};
-use crate::dictionary::split;
-use crate::input::{accepted_services, bytes_of, not_refused, title, Form, Input};
+use crate::dictionary::{split, Naming};
+use crate::input::{accepted, bytes_of, not_refused, title, Form, Input};
 use crate::library::{self, MOST_SERVICES};
 use crate::names::Conflict;
+use crate::services::Services;
+use crate::text;
 use crate::trouble::Trouble;
 
 /// A service: a file, or a part of a file that is a list of them.
@@ -19,6 +22,8 @@ pub struct Service {
     pub name: String,
     /// The bytes, where they are read already.
     bytes: Option<Vec<u8>>,
+    /// The list that it is a part of.
+    list: Option<Rc<Services>>,
     /// The number in the list, from 1, where it is a part of one.
     pub number: Option<usize>,
 }
@@ -30,6 +35,7 @@ impl Service {
             file,
             name,
             bytes: None,
+            list: None,
             number: None,
         }
     }
@@ -60,28 +66,33 @@ pub struct Contained {
 }
 
 impl Context {
-    /// The services of a file: those of a list, which is blocks with more than one numbered 1, or the file itself.
+    /// The services of a file: those of a list, which is blocks with more than one numbered 1 or a text that is headed so, or the
+    /// file itself.
     ///
     /// # Errors
     ///
     /// The file cannot be read, or the library refuses the list as a whole.
     pub fn services(&self, file: PathBuf) -> Result<Vec<Service>, Trouble> {
         let bytes = bytes_of(&file)?;
-        let parts = split(&bytes);
-        if self.reading.form_of(&bytes) == Form::Text || parts.len() < 2 {
+        let is_list = match self.reading.form_of(&bytes) {
+            Form::Text => self.reading.is_headed(&bytes, text::SERVICES),
+            Form::Blocks => split(&bytes).len() > 1,
+        };
+        if !is_list {
             return Ok(vec![Service {
                 name: title(&file),
                 file,
                 bytes: Some(bytes),
+                list: None,
                 number: None,
             }]);
         }
-        accepted_services(&file, &bytes)?;
-        let numbered = (1..).zip(parts);
-        let services = numbered.map(|(number, part)| Service {
+        let list = Rc::new(self.reading.unread_services_of(&file, bytes)?);
+        let services = (1..=list.parts.len()).map(|number| Service {
             file: file.clone(),
             name: title(&file),
-            bytes: Some(part.to_vec()),
+            bytes: None,
+            list: Some(list.clone()),
             number: Some(number),
         });
         Ok(services.collect())
@@ -147,17 +158,22 @@ impl Context {
     }
 
     fn service(&self, supplier: &Input, service: &Service, input: u16) -> Result<Input, Trouble> {
-        let bytes = match &service.bytes {
-            Some(bytes) => bytes.clone(),
-            None => bytes_of(&service.file)?,
-        };
-        let mut reading = self.reading.clone();
-        if service.number.is_some() {
-            // A part that is damaged may look like a text.
-            reading.form = Some(Form::Blocks);
-        }
-        let read = self.description_of(&reading, &service.file, bytes, input)?;
+        let read = self.alone_service(service, input)?;
         let names = words_of(supplier, &read)?;
         Ok(Input { names, ..read })
+    }
+
+    /// A service, as the call's input of this number, once unfolded.
+    pub(super) fn alone_service(&self, service: &Service, input: u16) -> Result<Input, Trouble> {
+        let file = &service.file;
+        match (&service.list, service.number, &service.bytes) {
+            (Some(list), Some(number), _) => {
+                let naming = Naming::All(&self.background.dictionary);
+                let read = accepted(file, list.draft(number), input, naming)?;
+                self.unfolded(file, read)
+            }
+            (_, _, Some(bytes)) => self.description_of(file, bytes.clone(), input),
+            _ => self.description(file, input),
+        }
     }
 }

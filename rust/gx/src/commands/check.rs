@@ -2,7 +2,7 @@
 
 use std::path::Path;
 
-use super::{dictionary, list, Alone, Answer, Context, Status};
+use super::{dictionary, list, services, Alone, Answer, Context, Status};
 use crate::blocks::BLOCK;
 use crate::dictionary::Naming;
 use crate::entry::Sort;
@@ -16,6 +16,7 @@ pub(super) fn check(context: &Context, file: &Path) -> Result<Answer, Trouble> {
         Alone::Entries(input) => input,
         Alone::Pairs(pairs) => return Ok(list::check(&pairs)),
         Alone::Dictionary(of) => return Ok(dictionary::check(&of)),
+        Alone::Services(of) => return Ok(services::check(&of)),
     };
     let input = match input.sort {
         Sort::Specimen => keeping(file, input, &context.background.list)?,

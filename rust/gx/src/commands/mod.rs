@@ -5,9 +5,11 @@ mod check;
 mod compare;
 mod dictionary;
 mod fit;
+mod hierarchy;
 mod list;
 mod normal;
 mod owl;
+mod services;
 mod show;
 mod unfold;
 
@@ -23,6 +25,7 @@ use crate::json::Json;
 use crate::names::{Conflict, Names};
 use crate::pairs::List;
 use crate::readback;
+use crate::services::Services;
 use crate::text::{self, Numbers};
 use crate::trouble::Trouble;
 
@@ -112,6 +115,8 @@ enum Alone {
     Pairs(List),
     /// A dictionary.
     Dictionary(Dictionary),
+    /// A list of services.
+    Services(Services),
 }
 
 impl Context {
@@ -138,11 +143,12 @@ impl Context {
         }
     }
 
-    /// What a file holds, where its heading, or else the ending of its name, tells that it is a list of pairs or a dictionary.
+    /// What a file holds, where its heading, or else the ending of its name, tells that it is a list or a dictionary.
     fn told(&self, file: &Path, bytes: &[u8]) -> Option<Content> {
         let words = [
             (text::PAIRS, Content::Pairs),
             (text::DICTIONARY, Content::Dictionary),
+            (text::SERVICES, Content::Services),
         ];
         let headed = |word| self.reading.is_headed(bytes, word);
         let ended = |word| file.extension().is_some_and(|ending| ending == word);
@@ -151,7 +157,7 @@ impl Context {
         told.map(|&(_, content)| content)
     }
 
-    /// A file of any sort: a list of pairs or a dictionary where the options, its heading or its ending say so. A description may
+    /// A file of any sort: a list or a dictionary where the options, its heading or its ending say so. A description may
     /// name what the dictionary has; without one, these.
     fn alone(&self, file: &Path, naming: Naming<'_>) -> Result<Alone, Trouble> {
         let reading = &self.reading;
@@ -162,15 +168,26 @@ impl Context {
                 let read = reading.dictionary_of(file, bytes);
                 return read.map(Alone::Dictionary);
             }
+            Some(Content::Services) => {
+                let mut read = reading.services_of(file, bytes, self.naming(naming))?;
+                let joined = read.names.join(&self.background.names);
+                joined.map_err(Trouble::Words)?;
+                return Ok(Alone::Services(read));
+            }
             Some(Content::Entries(sort)) => Some(sort),
             None => None,
         };
-        let naming = match self.options.dictionary {
-            Some(_) => Naming::All(&self.background.dictionary),
-            None => naming,
-        };
+        let naming = self.naming(naming);
         let read = reading.input_of(file, bytes, sort, 1, naming)?;
         self.worded(read).map(Alone::Entries)
+    }
+
+    /// What a description may name: what the dictionary has; without one, these.
+    fn naming<'a>(&'a self, without: Naming<'a>) -> Naming<'a> {
+        match self.options.dictionary {
+            Some(_) => Naming::All(&self.background.dictionary),
+            None => without,
+        }
     }
 
     /// A description, the call's input of this number, once unfolded.
@@ -179,22 +196,22 @@ impl Context {
     ///
     /// What keeps the input from an answer.
     pub fn description(&self, file: &Path, input: u16) -> Result<Input, Trouble> {
-        self.description_of(&self.reading, file, bytes_of(file)?, input)
+        self.description_of(file, bytes_of(file)?, input)
     }
 
-    /// The same for the bytes of that file, read so.
-    fn description_of(
-        &self,
-        reading: &Reading,
-        file: &Path,
-        bytes: Vec<u8>,
-        input: u16,
-    ) -> Result<Input, Trouble> {
-        let dictionary = &self.background.dictionary;
+    /// The same for the bytes of that file.
+    fn description_of(&self, file: &Path, bytes: Vec<u8>, input: u16) -> Result<Input, Trouble> {
+        let naming = Naming::All(&self.background.dictionary);
         let sort = Some(Sort::Description);
-        let read = reading.input_of(file, bytes, sort, input, Naming::All(dictionary))?;
-        let read = self.worded(read)?;
-        let unfolded = read.unfolded(dictionary);
+        self.unfolded(
+            file,
+            self.reading.input_of(file, bytes, sort, input, naming)?,
+        )
+    }
+
+    /// An accepted description with all words, once unfolded.
+    fn unfolded(&self, file: &Path, read: Input) -> Result<Input, Trouble> {
+        let unfolded = self.worded(read)?.unfolded(&self.background.dictionary);
         unfolded.map_err(|refusal| not_refused(file, refusal))
     }
 

@@ -7,7 +7,7 @@ use crate::args::{Content, To};
 use crate::blocks::{decode, encode};
 use crate::dictionary::Naming;
 use crate::entry::{Entry, Sort};
-use crate::input::{accepted, accepted_list, bytes_of, mistaken, named, text_of, title, Input};
+use crate::input::{accepted, accepted_list, all_mistaken, bytes_of, named, text_of, title, Input};
 use crate::json::Json;
 use crate::owl;
 use crate::pairs::{encode as encode_pairs, List};
@@ -39,15 +39,23 @@ pub(super) fn owl(context: &Context, c: &Path, services: &[&Path]) -> Result<Ans
         .chain(&services)
         .map(|input| words::entries(input.entries.len()))
         .collect();
+    let mut json = vec![
+        ("answer", Json::text("written")),
+        ("owl", Json::text(&question)),
+    ];
+    let (full, ending) = match context.options.fact {
+        true => (owl::in_fact(&question), "lisp"),
+        false => (question, "ofn"),
+    };
+    if context.options.fact {
+        json.push(("fact", Json::text(&full)));
+    }
     Ok(Answer {
         status: Status::Yes,
         line: format!("a question of {}", words::listed(&counts)),
-        json: vec![
-            ("answer", Json::text("written")),
-            ("owl", Json::text(&question)),
-        ],
-        full: question.into_bytes(),
-        ending: "ofn",
+        json,
+        full: full.into_bytes(),
+        ending,
         extras: Vec::new(),
         notes: names.settled().to_vec(),
     })
@@ -62,7 +70,10 @@ pub(super) fn from_owl(context: &Context, file: &Path) -> Result<Answer, Trouble
         true => owl::read_pairs(text, &context.reading.names),
         false => owl::read(text, class, &context.reading.names),
     };
-    let found = found.map_err(|mistake| mistaken(file, mistake, text))?;
+    let found = found.map_err(|mut all| {
+        let first = all.remove(0);
+        all_mistaken(file, first, text, all)
+    })?;
     let mut names = context.reading.names.clone();
     let words = found.words.placed(&named(file), text);
     names.join(&words).map_err(Trouble::Words)?;

@@ -1,8 +1,8 @@
-//! A description or specimen as text, and as blocks; and a list of pairs or a dictionary likewise.
+//! A description or specimen as text, and as blocks; and a list or a dictionary likewise.
 
 use std::path::Path;
 
-use super::{dictionary, entries_json, list, Alone, Answer, Context, Status, Written};
+use super::{dictionary, entries_json, list, services, Alone, Answer, Context, Status, Written};
 use crate::dictionary::Naming;
 use crate::input::Input;
 use crate::json::Json;
@@ -14,6 +14,7 @@ pub(super) fn show(context: &Context, file: &Path) -> Result<Answer, Trouble> {
         Alone::Entries(input) => input,
         Alone::Pairs(pairs) => return list::show(context, &pairs),
         Alone::Dictionary(of) => return dictionary::show(context, &of),
+        Alone::Services(of) => return services::show(context, &of),
     };
     let written = Written::of(&input);
     let (full, ending) = context.written(written)?;
@@ -33,6 +34,7 @@ pub(super) fn write(context: &Context, file: &Path) -> Result<Answer, Trouble> {
         Alone::Entries(input) => input,
         Alone::Pairs(pairs) => return Ok(list::write(&pairs)),
         Alone::Dictionary(of) => return Ok(dictionary::write(&of)),
+        Alone::Services(of) => return Ok(services::write(&of)),
     };
     let blocks = input.bytes.len() / crate::blocks::BLOCK;
     Ok(Answer {

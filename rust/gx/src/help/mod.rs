@@ -134,6 +134,7 @@ fn inputs(command: Command) -> &'static str {
         Command::Compare => "SUPPLIER SERVICE",
         Command::Owl => "SUPPLIER SERVICE...",
         Command::Catalogue => "SUPPLIER SERVICES...",
+        Command::Hierarchy => "SERVICES...",
         _ => "[FILE...]",
     }
 }
@@ -162,6 +163,10 @@ pub fn about(command: Command) -> (&'static str, &'static str) {
         Command::Catalogue => (
             "catalogue SUPPLIER SERVICES",
             "which services contain the supplier's description",
+        ),
+        Command::Hierarchy => (
+            "hierarchy SERVICES",
+            "the services from general to special, and which say the same",
         ),
         Command::Unfold => (
             "unfold FILE",

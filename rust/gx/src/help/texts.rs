@@ -5,15 +5,15 @@ use crate::args::Command;
 pub(super) fn detail(command: Command) -> &'static str {
     match command {
         Command::Show => SHOW,
-        Command::Write => "Reads a text and writes its blocks, or the bytes of a list of pairs or a dictionary, to standard output or into a file. Nothing is\nwritten where the library refuses them. Without --dictionary a description may name any description from 1 to 64.\n",
+        Command::Write => WRITE,
         Command::Check => CHECK,
         Command::Normal => NORMAL,
-        Command::Fit => "Answers whether the top item of the specimen fits the description; for a no it names the first entry that is not met and the item that
-does not meet it, with its path and line.\nWith --pairs a specimen is refused in which an item has both properties of a pair (12).\n",
+        Command::Fit => FIT,
         Command::Compare => COMPARE,
         Command::Catalogue => CATALOGUE,
+        Command::Hierarchy => HIERARCHY,
         Command::Unfold => UNFOLD,
-        Command::Owl => "Writes an ontology with the classes Supplier and Service, and SupplierOnly for what fits the first and not the second. The\nsupplier's description is contained in the service's exactly if a reasoner finds Supplier below Service, or SupplierOnly\nunsatisfiable. Property 7 is the class property_7, link 1 the object property link_1; words become labels. Links from 32768 up\nare functional. With --pairs the two properties of a pair are disjoint classes. With --dictionary each\ndescription is a class with its definition, description_1 and so on. Of several services, or all of a catalogue, the classes are\nService_1, SupplierOnly_1 and so on.\n\nKonclude says whether SupplierOnly is satisfiable (two workers: with one it may hang), and classifies a catalogue:\n    gx owl supplier.txt service.txt -o question.ofn\n    Konclude satisfiability -w 2 -i question.ofn -x 'urn:goltximen#SupplierOnly'\n    gx owl supplier.txt services/* -o all.ofn\n    Konclude classification -w 2 -i all.ofn -o classes.owx\nFaCT++ and HermiT read the file through the OWL API, as in Prot\u{e9}g\u{e9}: start the\nreasoner there and look whether SupplierOnly is below owl:Nothing.\n",
+        Command::Owl => OWL,
         Command::FromOwl => FROM_OWL,
     }
 }
@@ -22,6 +22,17 @@ const SHOW: &str = "\
 Shows blocks as text that 'gx write' reads back to the same blocks. An entry's number is written, as #12, only where entries do
 not stand in the order of their numbers; --numbers writes them all. Named entries stay as they are; with --dictionary they have
 the words of the dictionary.
+";
+
+const WRITE: &str = "\
+Reads a text and writes its blocks, or the bytes of a list of pairs, a dictionary or a list of services, to standard output or into
+a file. Nothing is written where the library refuses them. Without --dictionary a description may name any description from 1 to 64.
+";
+
+const FIT: &str = "\
+Answers whether the top item of the specimen fits the description; for a no it names the first entry that is not met and the item
+that does not meet it, with its path and line. With --pairs a specimen is refused in which an item has both properties of a pair
+(12).
 ";
 
 const CHECK: &str = "\
@@ -53,11 +64,48 @@ the supplier's description is contained in it with its owners alone, and the lib
 const CATALOGUE: &str = "\
 Answers for each service whether every item that fits the supplier's description fits the service's: a line with its file name, and
 'contained' or 'not contained'. 'gx compare' explains a no. Services are files, folders of files, or one file that is a list: the
-blocks of up to 64 services laid end to end, where each block numbered 1 begins one. A service that is refused stops none of the
+blocks of up to 64 services laid end to end, where each block numbered 1 begins one, or a text of them. A service that is refused stops none of the
 others. The library is asked once for 64 services. With --pairs and --dictionary the answers are those of 'gx compare' with them.
 --why tells of each no which entry fails first; --only contained tells the services alone that contain the description; with --any
 one such service is enough for a yes. --html writes a page with a table, index.html in that folder, in which each service leads to a
 page of its own.
+";
+
+const OWL: &str = "\
+Writes an ontology with the classes Supplier and Service, and SupplierOnly for what fits the first and not the second. The
+supplier's description is contained in the service's exactly if a reasoner finds Supplier below Service, or SupplierOnly
+unsatisfiable. Property 7 is the class property_7, link 1 the object property link_1; words become labels. Links from 32768 up
+are functional. With --pairs the two properties of a pair are disjoint classes. With --dictionary each
+description is a class with its definition, description_1 and so on. Of several services, or all of a catalogue, the classes are
+Service_1, SupplierOnly_1 and so on.
+
+Konclude says whether SupplierOnly is satisfiable (two workers: with one it may hang), and classifies a catalogue:
+    gx owl supplier.txt service.txt -o question.ofn
+    Konclude satisfiability -w 2 -i question.ofn -x 'urn:goltximen#SupplierOnly'
+    gx owl supplier.txt services/* -o all.ofn
+    Konclude classification -w 2 -i all.ofn -o classes.owx
+
+The program FaCT++ reads no OWL; --fact writes the same classes as it reads them. It says whether Supplier [= Service holds:
+    gx owl supplier.txt service.txt --fact -o question.lisp
+    printf '%s\\n' '[LeveLogger]' 'file = /dev/null' 'allowedLevel = 0' \\
+        '[Tuning]' '[Query]' 'TBox = question.lisp' \\
+        'Target = Supplier' 'Target2 = Service' > question.conf
+    FaCT++ question.conf
+Of several services, Target2 is Service_1 and so on.
+
+HermiT reads question.ofn through the OWL API, as in Prot\u{e9}g\u{e9}: start the reasoner there and look whether SupplierOnly is
+below owl:Nothing.
+";
+
+const HIERARCHY: &str = "\
+Ranks up to 64 services. A service stands below those that allow all that it allows, and more: general above special, a line for
+each class. Services that say the same are one class, with '=' between their names. A class directly below several stands below the
+first of them, and 'also below' names the others. Services are files, folders of files, or one file that is a list, as for gx
+catalogue. More than 64 are refused (8), and so is the whole where one of them is: what is missing could stand between two others.
+With --pairs the order is that among the records that keep the list. With --dictionary named entries are unfolded first.
+--csv writes a row for each service: its class, by the first service of it, its direct superiors, and a column for each service with
+1 where that contains it, else 0. --dot writes a graph for Graphviz, in which each class leads up to those directly above. --svg
+draws the classes in layers, --html writes a page with the tree, the drawing, and of each class what stands above and below it.
 ";
 
 const FROM_OWL: &str = "\
@@ -139,11 +187,17 @@ in at that place. A name that the dictionary does not have is refused (13), so i
 or goes deeper than 32 once unfolded (14), and so is a dictionary with more than 64 descriptions (8). A refusal of the dictionary
 has input 100, one of its n-th description input 100 + n.
 
-A list of pairs or a dictionary that is shown, written or checked is known by its heading, by the ending of its file, .pairs or
-.dictionary, or by --sort. After --pairs and --dictionary either may be text or bytes.
+A list of pairs or of services or a dictionary that is shown, written or checked is known by its heading, by the ending of its
+file, .pairs, .services or .dictionary, or by --sort. After --pairs and --dictionary either may be text or bytes.
 
-A list of services, for gx catalogue, is the blocks of up to 64 descriptions laid end to end, where each block numbered 1 begins
-one. A refusal of the list has input 2 (1, 8), one of its n-th service input 1 + n.
+A list of services, for gx catalogue and gx hierarchy, is the blocks of up to 64 descriptions laid end to end, where each block
+numbered 1 begins one, or a text like
+    services
+    service 1 [
+        has property 7 \"sealed\"
+    ]
+    service 2 []
+or, as at the desk, services: [1,7]; []. A refusal of the list has input 2 (1, 8), one of its n-th service input 1 + n.
 
 A names file has lines like
     property 7 \"sealed\"

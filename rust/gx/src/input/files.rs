@@ -70,7 +70,8 @@ pub fn title(path: &Path) -> String {
 /// They have a mistake.
 pub fn names_of(path: &Path, bytes: &[u8]) -> Result<Names, Trouble> {
     let text = text_of(path, bytes)?;
-    let names = Names::read(text).map_err(|mistake| mistaken(path, mistake, text))?;
+    let names = Names::read(text);
+    let names = names.map_err(|first| all_mistaken(path, first, text, Names::mistakes(text)))?;
     Ok(names.placed(&named(path), text))
 }
 
@@ -110,8 +111,7 @@ pub fn mistaken(path: &Path, mistake: Mistake, text: &str) -> Trouble {
 }
 
 /// The trouble that the mistakes of a text are, the first of them this one.
-pub fn all_mistaken(path: &Path, first: Mistake, text: &str, names: &Names) -> Trouble {
-    let mut later = crate::text::mistakes(text, names);
+pub fn all_mistaken(path: &Path, first: Mistake, text: &str, mut later: Vec<Mistake>) -> Trouble {
     later.retain(|mistake| mistake.at > first.at);
     let mut trouble = mistaken(path, first, text);
     if let Trouble::Mistake { more, .. } = &mut trouble {

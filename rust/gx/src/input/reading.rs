@@ -1,17 +1,18 @@
-//! The bytes of a file as an input, a list of pairs or a dictionary.
+//! The bytes of a file as an input, a list of pairs, a dictionary or a list of services.
 
 use std::path::Path;
 
 use super::{
-    accepted, accepted_dictionary, accepted_list, all_mistaken, bytes_of, mistaken, named, text_of,
-    title, Form, Input,
+    accepted, accepted_dictionary, accepted_list, accepted_services, all_mistaken, bytes_of,
+    mistaken, named, text_of, title, Form, Input,
 };
 use crate::blocks;
-use crate::dictionary::{self, Dictionary, Naming};
+use crate::dictionary::{self, Dictionary, Naming, Part};
 use crate::entry::Sort;
 use crate::names::Names;
 use crate::pairs::{self, List};
-use crate::text::{self, Mistake};
+use crate::services::Services;
+use crate::text::{self, Bracketed, Mistake};
 use crate::trouble::Trouble;
 
 /// How inputs are to be read.
@@ -89,7 +90,8 @@ impl Reading {
             Form::Text => {
                 let text = text_of(path, &bytes)?;
                 let parsed = text::parse_pairs(text, &names);
-                let parsed = parsed.map_err(|mistake| mistaken(path, mistake, text))?;
+                let all = || text::mistakes_of_pairs(text, &self.names);
+                let parsed = parsed.map_err(|first| all_mistaken(path, first, text, all()))?;
                 join(&mut names, parsed.words, path, text)?;
                 List {
                     title: title(path),
@@ -118,19 +120,75 @@ impl Reading {
                 names,
             },
             Form::Text => {
-                let text = text_of(path, &bytes)?;
-                let parsed = text::parse_dictionary(text, &names);
-                let parsed = parsed.map_err(|mistake| mistaken(path, mistake, text))?;
-                join(&mut names, parsed.words, path, text)?;
+                let parts = self.parts(path, &bytes, Bracketed::Dictionary, &mut names)?;
                 Dictionary {
                     title: title(path),
-                    bytes: dictionary::encode(&parsed.parts),
-                    parts: parsed.parts,
+                    bytes: dictionary::encode(&parts),
+                    parts,
                     names,
                 }
             }
         };
         accepted_dictionary(path, draft)
+    }
+
+    /// Reads the bytes of a file as a list of services, each of which may name these.
+    ///
+    /// # Errors
+    ///
+    /// The text has a mistake, or the library refuses the list or a service.
+    pub fn services_of(
+        &self,
+        path: &Path,
+        bytes: Vec<u8>,
+        naming: Naming<'_>,
+    ) -> Result<Services, Trouble> {
+        let services = self.unread_services_of(path, bytes)?;
+        for (number, input) in (1..=services.parts.len()).zip(2..) {
+            let read = accepted(path, services.draft(number), input, naming);
+            read.map_err(|trouble| trouble.within(&format!("service {number}")))?;
+        }
+        Ok(services)
+    }
+
+    /// The same where the library only says whether it refuses the list as a whole.
+    ///
+    /// # Errors
+    ///
+    /// The text has a mistake, or the library refuses the list.
+    pub fn unread_services_of(&self, path: &Path, bytes: Vec<u8>) -> Result<Services, Trouble> {
+        let mut names = self.names.clone();
+        let (parts, bytes) = match self.form_of(&bytes) {
+            Form::Blocks => (dictionary::decode(&bytes), bytes),
+            Form::Text => {
+                let parts = self.parts(path, &bytes, Bracketed::Services, &mut names)?;
+                let bytes = dictionary::encode(&parts);
+                (parts, bytes)
+            }
+        };
+        accepted_services(path, &bytes)?;
+        Ok(Services {
+            title: title(path),
+            parts,
+            bytes,
+            names,
+        })
+    }
+
+    /// The descriptions in brackets of a text; its words join the names.
+    fn parts(
+        &self,
+        path: &Path,
+        bytes: &[u8],
+        of: Bracketed,
+        names: &mut Names,
+    ) -> Result<Vec<Part>, Trouble> {
+        let text = text_of(path, bytes)?;
+        let parsed = text::parse_parts(text, names, of);
+        let all = || text::mistakes_of_parts(text, &self.names, of);
+        let parsed = parsed.map_err(|first| all_mistaken(path, first, text, all()))?;
+        join(names, parsed.words, path, text)?;
+        Ok(parsed.parts)
     }
 
     fn blocks(&self, path: &Path, bytes: Vec<u8>, sort: Option<Sort>) -> Input {
@@ -150,7 +208,8 @@ impl Reading {
     fn text(&self, path: &Path, bytes: &[u8], sort: Option<Sort>) -> Result<Input, Trouble> {
         let text = text_of(path, bytes)?;
         let parsed = text::parse(text, &self.names);
-        let parsed = parsed.map_err(|first| all_mistaken(path, first, text, &self.names))?;
+        let all = |first| all_mistaken(path, first, text, text::mistakes(text, &self.names));
+        let parsed = parsed.map_err(all)?;
         if let (Some(due), Some((said, at))) = (sort, parsed.sort) {
             if due != said {
                 let expected = format!("a {} here", due.word());

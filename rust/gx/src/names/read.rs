@@ -1,7 +1,7 @@
 //! A names file as names.
 
 use super::{clashing, Names, Place};
-use crate::text::{Lexer, Mistake, Sign, Token};
+use crate::text::{Lexer, Mistake, Sign, Token, MOST_MISTAKES};
 
 /// What a line of a names file gives a word to.
 #[derive(Clone, Copy, Debug, PartialEq, Eq)]
@@ -36,20 +36,44 @@ impl Names {
     pub fn read(text: &str) -> Result<Names, Mistake> {
         let mut names = Names::default();
         let mut lexer = Lexer::new(text);
-        loop {
-            let token = lexer.next_token()?;
-            let of = match &token.sign {
-                Sign::Line => continue,
-                Sign::End => return Ok(names),
-                Sign::Word(word) => Of::called(word),
-                _ => None,
-            };
-            let Some(of) = of else {
-                let expected = "'property', 'link' or 'description', a number and a word";
-                return Err(Mistake::new(token.at, expected, token.sign.named()));
-            };
-            names.line(&mut lexer, of)?;
+        while !names.next_line(&mut lexer)? {}
+        Ok(names)
+    }
+
+    /// The mistakes of a names file, where it has one: the first of each line, up to [`MOST_MISTAKES`].
+    pub fn mistakes(text: &str) -> Vec<Mistake> {
+        let mut names = Names::default();
+        let mut lexer = Lexer::new(text);
+        let mut found = Vec::new();
+        while found.len() < MOST_MISTAKES {
+            let before = lexer.clone();
+            match names.next_line(&mut lexer) {
+                Ok(true) => break,
+                Ok(false) => (),
+                Err(mistake) => {
+                    found.push(mistake);
+                    lexer = before;
+                    lexer.skip_line();
+                }
+            }
         }
+        found
+    }
+
+    /// Reads a line, or the end of one; whether the text has ended instead.
+    fn next_line(&mut self, lexer: &mut Lexer<'_>) -> Result<bool, Mistake> {
+        let token = lexer.next_token()?;
+        let of = match &token.sign {
+            Sign::Line => return Ok(false),
+            Sign::End => return Ok(true),
+            Sign::Word(word) => Of::called(word),
+            _ => None,
+        };
+        let Some(of) = of else {
+            let expected = "'property', 'link' or 'description', a number and a word";
+            return Err(Mistake::new(token.at, expected, token.sign.named()));
+        };
+        self.line(lexer, of).map(|()| false)
     }
 
     /// The rest of a line, after its first word.

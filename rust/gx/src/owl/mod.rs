@@ -18,11 +18,13 @@
 //! OWL speaks of all records and the library of finite ones; for this fragment the answers are the same, since the
 //! specimen of a no is finite.
 
+mod fact;
 mod lexer;
 mod other;
 mod read;
 mod write;
 
+pub use fact::in_fact;
 pub use read::{read, read_pairs, Found};
 pub use write::{question, questions, Asked};
 

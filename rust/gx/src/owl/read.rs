@@ -1,17 +1,18 @@
 //! A description from OWL: a class expression, or a class that an ontology defines by one.
 
+mod axioms;
 mod expression;
 mod names;
+mod passed;
 
 use std::collections::BTreeMap;
 
 use super::lexer::{tokens, Sign, Token};
 use super::{OWL, RDFS, SPACE};
-use crate::entry::{Entry, Property};
+use crate::entry::Entry;
 use crate::names::Names;
 use crate::pairs::Pair;
 use crate::text::{Mistake, Position};
-use names::local;
 
 /// What was found.
 #[derive(Clone, Debug)]
@@ -39,36 +40,28 @@ const A_FUNCTION: &str = "link_32768 to link_65535, which lead to one item only:
 ///
 /// # Errors
 ///
-/// The first mistake, or the first construct that descriptions do not have.
-pub fn read(text: &str, class: Option<&str>, names: &Names) -> Result<Found, Mistake> {
-    let mut reader = Reader::new(text, names)?;
-    if reader.is_ontology() {
-        reader.document()?;
-        let chosen = reader.chosen(class)?;
-        reader.only_functions()?;
-        reader.excluding()?;
-        reader.at = chosen;
-        reader.expression(0, 0)?;
-    } else {
-        reader.expression(0, 0)?;
-        reader.expect(&Sign::End, "the end of the text after the class expression")?;
-    }
-    Ok(reader.found())
+/// The mistakes, or constructs that descriptions do not have, up to [`MOST_MISTAKES`](crate::text::MOST_MISTAKES).
+pub fn read(text: &str, class: Option<&str>, names: &Names) -> Result<Found, Vec<Mistake>> {
+    let mut reader = Reader::new(text, names).map_err(|mistake| vec![mistake])?;
+    let read = match reader.is_ontology() {
+        true => reader.ontology(class),
+        false => reader.alone(),
+    };
+    reader.found(read)
 }
 
 /// Reads the properties that exclude each other in an ontology, whatever classes it defines.
 ///
 /// # Errors
 ///
-/// The first mistake, or the first axiom that is not taken.
-pub fn read_pairs(text: &str, names: &Names) -> Result<Found, Mistake> {
-    let mut reader = Reader::new(text, names)?;
-    if !reader.is_ontology() {
-        return reader.fault("an ontology: only that says which classes exclude each other");
-    }
-    reader.document()?;
-    reader.excluding()?;
-    Ok(reader.found())
+/// The mistakes, or axioms that are not taken.
+pub fn read_pairs(text: &str, names: &Names) -> Result<Found, Vec<Mistake>> {
+    let mut reader = Reader::new(text, names).map_err(|mistake| vec![mistake])?;
+    let read = match reader.is_ontology() {
+        true => reader.document().map(|()| reader.excluding()),
+        false => reader.fault("an ontology: only that says which classes exclude each other"),
+    };
+    reader.found(read)
 }
 
 struct Reader<'a> {
@@ -86,6 +79,8 @@ struct Reader<'a> {
     entries: Vec<Entry>,
     positions: Vec<Position>,
     pairs: Vec<Pair>,
+    /// The mistakes that were passed over.
+    passed: Vec<Mistake>,
 }
 
 impl<'a> Reader<'a> {
@@ -107,6 +102,7 @@ impl<'a> Reader<'a> {
             entries: Vec::new(),
             positions: Vec::new(),
             pairs: Vec::new(),
+            passed: Vec::new(),
         })
     }
 
@@ -114,13 +110,24 @@ impl<'a> Reader<'a> {
         self.next_is("Prefix") || self.next_is("Ontology")
     }
 
-    fn found(self) -> Found {
-        Found {
-            words: self.words(),
-            entries: self.entries,
-            positions: self.positions,
-            pairs: self.pairs,
-        }
+    /// A class expression by itself.
+    fn alone(&mut self) -> Result<(), Mistake> {
+        self.expression(0, 0)?;
+        self.expect(&Sign::End, "the end of the text after the class expression")
+    }
+
+    /// An ontology, and in it the expression of the class that is asked for.
+    fn ontology(&mut self, class: Option<&str>) -> Result<(), Mistake> {
+        self.document()?;
+        let chosen = match self.chosen(class) {
+            // It may be missing for the mistakes alone.
+            Err(_) if !self.passed.is_empty() => return Ok(()),
+            chosen => chosen?,
+        };
+        self.only_functions();
+        self.excluding();
+        self.at = chosen;
+        self.expression(0, 0)
     }
 
     /// The next sign; after the last there is only the end.
@@ -184,77 +191,12 @@ impl<'a> Reader<'a> {
             self.take();
         }
         while self.next().sign != Sign::Close {
-            self.axiom()?;
+            let begin = self.at;
+            let read = self.axiom();
+            self.passing(begin, read)?;
         }
         self.close()?;
         self.expect(&Sign::End, "the end of the text after the ontology")
-    }
-
-    fn axiom(&mut self) -> Result<(), Mistake> {
-        let word = match &self.next().sign {
-            Sign::Word(word) => word.clone(),
-            _ => return self.fault(AN_AXIOM),
-        };
-        match word.as_str() {
-            "Declaration" | "Annotation" => {
-                self.take();
-                self.pass_over()
-            }
-            "AnnotationAssertion" => self.annotation(),
-            "EquivalentClasses" => self.definition(),
-            "FunctionalObjectProperty" => {
-                self.take();
-                self.functional.push(self.at + 1);
-                self.pass_over()
-            }
-            "DisjointClasses" => {
-                self.take();
-                self.disjoint.push(self.at + 1);
-                self.pass_over()
-            }
-            _ => self.fault(AN_AXIOM),
-        }
-    }
-
-    /// Each two of the classes that are said to exclude each other. A class that is no property of ours is in no description, so
-    /// that it does not matter.
-    fn excluding(&mut self) -> Result<(), Mistake> {
-        for at in std::mem::take(&mut self.disjoint) {
-            self.at = at;
-            let mut earlier: Vec<Property> = Vec::new();
-            while self.next().sign != Sign::Close {
-                let iri = self.iri(&self.next().sign);
-                let iri = iri.filter(|iri| !self.is_defined(iri));
-                let Some(iri) = iri else {
-                    return self.fault(A_PLAIN_CLASS);
-                };
-                if let Some(property) = self.property_of(&iri) {
-                    self.pairs
-                        .extend(earlier.iter().map(|&one| Pair(one, property)));
-                    earlier.push(property);
-                }
-                self.take();
-            }
-        }
-        Ok(())
-    }
-
-    fn is_defined(&self, iri: &str) -> bool {
-        self.defined.iter().any(|(defined, _)| defined == iri)
-    }
-
-    /// That a link leads to one item only is taken where it is so of that link; else the description would mean something else.
-    /// Of an object property that is no link of ours it does not matter.
-    fn only_functions(&mut self) -> Result<(), Mistake> {
-        for at in std::mem::take(&mut self.functional) {
-            self.at = at;
-            let iri = self.iri(&self.next().sign);
-            let link = iri.and_then(|iri| self.link_of(&iri));
-            if link.is_some_and(|link| !link.leads_to_one()) {
-                return self.fault(A_FUNCTION);
-            }
-        }
-        Ok(())
     }
 
     /// Passes over a pair of brackets and what is in it.
@@ -271,63 +213,6 @@ impl<'a> Reader<'a> {
             self.at += 1;
         }
         Ok(())
-    }
-
-    /// A label is a word for what it labels; other annotations say nothing here.
-    fn annotation(&mut self) -> Result<(), Mistake> {
-        self.take();
-        let begin = self.at;
-        self.pass_over()?;
-        let parts: Vec<Sign> = self.tokens[begin + 1..self.at - 1]
-            .iter()
-            .map(|token| token.sign.clone())
-            .collect();
-        if let [what, subject, Sign::Text(label)] = parts.as_slice() {
-            if self.iri(what) == Some(format!("{RDFS}label")) {
-                if let Some(subject) = self.iri(subject) {
-                    self.labels.insert(subject, label.clone());
-                }
-            }
-        }
-        Ok(())
-    }
-
-    fn definition(&mut self) -> Result<(), Mistake> {
-        self.take();
-        let begin = self.at;
-        self.open()?;
-        let class = match self.iri(&self.next().sign) {
-            Some(iri) => iri,
-            None => return self.fault("a class that is defined"),
-        };
-        self.take();
-        self.defined.push((class, self.at));
-        self.at = begin;
-        self.pass_over()
-    }
-
-    /// Where the expression of the class begins that is asked for.
-    fn chosen(&self, class: Option<&str>) -> Result<usize, Mistake> {
-        let called = |iri: &str, name: &str| {
-            iri == name || local(iri) == name || self.labels.get(iri).is_some_and(|l| l == name)
-        };
-        let list: Vec<&(String, usize)> = match class {
-            Some(name) => self
-                .defined
-                .iter()
-                .filter(|(iri, _)| called(iri, name))
-                .collect(),
-            None => self.defined.iter().collect(),
-        };
-        match (list.as_slice(), class) {
-            ([(_, at)], _) => Ok(*at),
-            ([], None) => self.fault("an ontology that defines a class by EquivalentClasses"),
-            (_, Some(name)) => self.fault(format!("one definition of the class '{name}'")),
-            (_, None) => {
-                let names: Vec<&str> = list.iter().map(|(iri, _)| local(iri)).collect();
-                self.fault(format!("--class with one of {}", names.join(", ")))
-            }
-        }
     }
 
     /// The full IRI of a name.

@@ -34,7 +34,7 @@ pub struct Fitting<'a> {
 ///
 /// # Errors
 ///
-/// The description on it is not the one that was asked about.
+/// The description or the specimen on it is not the one that was asked about.
 pub fn fitting(sheet: Fitting<'_>) -> Result<String, Trouble> {
     let words = Words::apart(sheet.names);
     let kept = where_kept(sheet.list)
@@ -78,6 +78,7 @@ pub fn fitting(sheet: Fitting<'_>) -> Result<String, Trouble> {
     readback::checked(&body, "description", sheet.description, sheet.names)?;
     if let Some(failure) = sheet.unmet {
         body.push_str(&specimen::listing(failure, words));
+        readback::specimen(&body, failure, sheet.names)?;
     }
     body.push_str(&settled(sheet.names));
     body.push_str(&format!("<footer>\n{}</footer>\n", given(sheet.given)));

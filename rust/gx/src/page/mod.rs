@@ -5,6 +5,7 @@ mod all;
 mod description;
 mod fitting;
 mod folds;
+mod hierarchy;
 mod index;
 mod readback;
 mod specimen;
@@ -26,6 +27,7 @@ use crate::words::{self, Words, APART};
 use description::{listing, Marks};
 
 pub use fitting::{fitting, Fitting};
+pub use hierarchy::hierarchy;
 pub use index::{index, Row};
 
 /// What a page of a comparison is made of.
@@ -53,7 +55,7 @@ pub struct Sheet<'a> {
 ///
 /// # Errors
 ///
-/// A description on it is not the one that was compared.
+/// A description or a specimen on it is not the one that was compared.
 pub fn page(sheet: Sheet<'_>) -> Result<String, Trouble> {
     let (title, body) = match sheet.explained {
         Explained::Contained => ("Contained", contained(sheet)),
@@ -61,6 +63,9 @@ pub fn page(sheet: Sheet<'_>) -> Result<String, Trouble> {
     };
     for (id, input) in [("supplier", sheet.supplier), ("service", sheet.service)] {
         readback::checked(&body, id, input, sheet.names)?;
+    }
+    if let Explained::NotContained(failure) = sheet.explained {
+        readback::specimen(&body, failure, sheet.names)?;
     }
     let [supplier, service] = [sheet.supplier, sheet.service].map(|input| file_name(&input.title));
     let title = format!("{title}: {supplier} in {service}");

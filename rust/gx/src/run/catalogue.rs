@@ -72,7 +72,7 @@ impl Run {
     }
 
     /// The services that the arguments name: the files of folders, and files; one file alone may be a list.
-    fn services(&self, given: &[PathBuf]) -> Result<(Vec<Service>, Status), Trouble> {
+    pub(super) fn services(&self, given: &[PathBuf]) -> Result<(Vec<Service>, Status), Trouble> {
         if let [file] = given {
             if !file.is_dir() {
                 let services = self.context.services(file.clone())?;

@@ -2,6 +2,7 @@
 
 mod catalogue;
 mod folders;
+mod hierarchy;
 mod outputs;
 mod print;
 mod store;
@@ -80,6 +81,9 @@ fn done(command: Command, files: &[PathBuf], options: Options) -> u8 {
     if command == Command::Catalogue {
         return run.catalogue(files);
     }
+    if command == Command::Hierarchy {
+        return run.hierarchy(files);
+    }
     if many {
         return run.lines(files);
     }
@@ -104,6 +108,12 @@ struct Run {
 impl Run {
     fn options(&self) -> &Options {
         &self.context.options
+    }
+
+    /// Whether what is printed is an answer in words, and not data.
+    fn tells(&self) -> bool {
+        let data = self.options().csv || self.options().dot;
+        self.command.answers() && !data
     }
 
     fn to_terminal(&self) -> bool {
@@ -212,7 +222,7 @@ impl Run {
         let notes = answer.notes.iter();
         let notes: String = notes.map(|told| told.settled() + "\n").collect();
         let mut full = answer.full;
-        if self.command.answers() {
+        if self.tells() {
             let blank = if notes.is_empty() { "" } else { "\n" };
             let given = self.context.given.line();
             let text = painted(answer.status, &String::from_utf8_lossy(&full));
@@ -246,7 +256,7 @@ impl Run {
         );
         if self.options().json {
             print(self.object(trouble.json()).as_bytes());
-        } else if self.command.answers() && told {
+        } else if self.tells() && told {
             let lines = match self.alike || matches!(trouble, Trouble::Mistake { .. }) {
                 true => trouble.lines(),
                 false => trouble.titled_lines(),

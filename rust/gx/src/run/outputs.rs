@@ -6,6 +6,7 @@ use std::path::{Path, PathBuf};
 use super::folders::Job;
 use super::store::{identity, Identity};
 use super::Run;
+use crate::args::Command;
 use crate::input::named;
 use crate::shown::file_name;
 
@@ -51,7 +52,9 @@ impl Run {
                 .find(|(other, there)| other != one && there == path);
             other.map(|(other, _)| (*one, *other, file_name(&named(path))))
         };
-        let folders = files.iter().any(|file| file.is_dir()) || files.len() > 2;
+        // A hierarchy is one answer, however many files it is about.
+        let many = files.iter().any(|file| file.is_dir()) || files.len() > 2;
+        let folders = many && self.command != Command::Hierarchy;
         let (one, other, file) = outputs.iter().find_map(same).filter(|_| !folders)?;
         Some(format!("{one} and {other} would both write {file}"))
     }
@@ -104,7 +107,15 @@ fn replaced(option: &str, path: &Path, input: &Path) -> String {
 /// How the files may end that an option writes into a folder.
 fn endings(option: &str) -> &'static [&'static str] {
     match option {
-        "--out" => &["txt", "blocks", "pairs", "dictionary", "ofn"],
+        "--out" => &[
+            "txt",
+            "blocks",
+            "pairs",
+            "dictionary",
+            "services",
+            "ofn",
+            "lisp",
+        ],
         "--html" => &["html"],
         "--svg" => &["svg"],
         _ => &["blocks"],

@@ -11,8 +11,8 @@ const DEEP: usize = 12;
 const DEEP_INDENTS: f64 = 420.0;
 const MARGIN: f64 = 12.0;
 const GAP: f64 = 16.0;
-const LINE: f64 = 20.0;
-const PADDING: f64 = 12.0;
+pub(super) const LINE: f64 = 20.0;
+pub(super) const PADDING: f64 = 12.0;
 /// How far the sheets of a group of several items stand apart.
 const SHEET: f64 = 4.0;
 /// The most characters of a line.
@@ -110,7 +110,7 @@ fn cut(text: &str) -> String {
 }
 
 /// About how wide a line is: fonts differ, so it is taken rather too wide.
-fn width_of(line: &Written) -> f64 {
+pub(super) fn width_of(line: &Written) -> f64 {
     let size = match line.class {
         "gx-title" => 17.6,
         "gx-note" => 15.8,
@@ -209,7 +209,15 @@ fn boxed(node: &Node) -> String {
             node.height
         ));
     }
-    for (at, line) in node.lines.iter().enumerate() {
+    out.push_str(&words(&node.lines, node.x, node.y));
+    out.push_str("</g>\n");
+    out
+}
+
+/// The lines of a box whose upper left corner is here.
+pub(super) fn words(lines: &[Written], x: f64, y: f64) -> String {
+    let mut out = String::new();
+    for (at, line) in lines.iter().enumerate() {
         let shown = cut(&line.text);
         let full = match shown == line.text {
             true => String::new(),
@@ -218,11 +226,10 @@ fn boxed(node: &Node) -> String {
         out.push_str(&format!(
             "<text class=\"{}\" x=\"{}\" y=\"{}\">{full}{}</text>\n",
             line.class,
-            node.x + PADDING,
-            node.y + 0.5 * PADDING + LINE * at as f64 + 16.0,
+            x + PADDING,
+            y + 0.5 * PADDING + LINE * at as f64 + 16.0,
             escaped(&shown)
         ));
     }
-    out.push_str("</g>\n");
     out
 }

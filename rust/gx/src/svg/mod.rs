@@ -1,12 +1,16 @@
 //! The drawing of a specimen: a box for the top item and for each group, with counts and properties, and the path to the place
-//! where the entry fails marked by thick lines, a sign and words.
+//! where the entry fails marked by thick lines, a sign and words. And the drawing of a hierarchy, in layers.
 
 mod boxes;
+mod hasse;
+mod layers;
 mod plan;
 
 use crate::explain::Failure;
 use crate::words::Words;
 use boxes::{rendered, Look, Node, Written};
+
+pub use hasse::{hierarchy, hierarchy_inside};
 
 /// The style of a drawing, also of one inside a page.
 pub(crate) const STYLE: &str = "\

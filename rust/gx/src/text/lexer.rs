@@ -118,17 +118,19 @@ impl<'a> Lexer<'a> {
         Ok(())
     }
 
-    /// Passes over the rest of the line, and says how many brackets it leaves open, with these before.
-    pub fn skip_line(&mut self, mut open: usize) -> usize {
+    /// Passes over the rest of the line, and says how many places it closes that were open before, and how many it leaves open.
+    pub fn skip_line(&mut self) -> (usize, usize) {
+        let (mut closed, mut open) = (0, 0);
         while let Some(sign) = self.rest.chars().next().filter(|&sign| sign != '\n') {
             match sign {
                 '[' => open += 1,
-                ']' => open = open.saturating_sub(1),
+                ']' if open > 0 => open -= 1,
+                ']' => closed += 1,
                 _ => (),
             }
             self.take();
         }
-        open
+        (closed, open)
     }
 
     /// The next sign.

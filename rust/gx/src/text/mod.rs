@@ -1,4 +1,4 @@
-//! Descriptions, specimens, lists of pairs and dictionaries as text.
+//! Descriptions, specimens, lists of pairs, dictionaries and lists of services as text.
 //!
 //! ```text
 //! every link 1 "sample" [
@@ -32,6 +32,8 @@
 //!     at least 2 link 3 "layer"
 //! ]
 //! ```
+//!
+//! A list of services likewise, after the heading `services`: `service 1 [ .. ]`.
 
 mod lexer;
 mod mistake;
@@ -40,7 +42,10 @@ mod write;
 
 pub use lexer::{Lexer, Sign, Token};
 pub use mistake::{Mistake, Position};
-pub use parse::{is_headed, mistakes, parse, parse_dictionary, parse_pairs, MOST_MISTAKES};
-pub use parse::{Parsed, ParsedDictionary, ParsedPairs, DICTIONARY, EXCLUDES, PAIRS};
-pub use write::{description, desk, desk_dictionary, desk_pairs, dictionary};
-pub use write::{entry, pair, pairs, property, quoted, text, Numbers};
+pub use parse::{is_headed, parse, parse_dictionary, parse_pairs, parse_parts, parse_services};
+pub use parse::{mistakes, mistakes_of_pairs, mistakes_of_parts, MOST_MISTAKES};
+pub use parse::{
+    Bracketed, Parsed, ParsedPairs, ParsedParts, DICTIONARY, EXCLUDES, PAIRS, SERVICES,
+};
+pub use write::{description, desk, desk_dictionary, desk_pairs, desk_services, dictionary};
+pub use write::{entry, pair, pairs, property, quoted, services, text, Numbers};

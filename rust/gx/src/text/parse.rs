@@ -12,8 +12,9 @@ use super::mistake::{Mistake, Position};
 use crate::entry::{Entry, Sort};
 use crate::names::Names;
 
-pub use dictionary::{parse_dictionary, ParsedDictionary, DICTIONARY};
-pub use mistakes::{mistakes, MOST_MISTAKES};
+pub use dictionary::{parse_dictionary, parse_parts, parse_services};
+pub use dictionary::{Bracketed, ParsedParts, DICTIONARY, SERVICES};
+pub use mistakes::{mistakes, mistakes_of_pairs, mistakes_of_parts, MOST_MISTAKES};
 use rows::numbered;
 
 pub use pairs::{parse_pairs, ParsedPairs, EXCLUDES, PAIRS};
@@ -93,22 +94,30 @@ struct Parser<'a> {
     open: Vec<(usize, Position)>,
     /// The second of two entries that are written as one.
     second: Option<Entry>,
+    /// Whether a mistake was passed over.
+    passed: bool,
 }
 
 impl<'a> Parser<'a> {
     fn new(text: &'a str, names: &'a Names) -> Result<Parser<'a>, Mistake> {
-        let mut lexer = Lexer::new(text);
-        let next = lexer.next_token()?;
-        Ok(Parser {
-            lexer,
-            next,
+        let mut parser = Parser::beginning(text, names);
+        parser.take()?;
+        Ok(parser)
+    }
+
+    /// Before the first sign, as after the end of a line.
+    fn beginning(text: &'a str, names: &'a Names) -> Parser<'a> {
+        Parser {
+            lexer: Lexer::new(text),
+            next: Token::line(),
             names,
             learnt: Names::default(),
             rows: Vec::new(),
             stop: None,
             open: Vec::new(),
             second: None,
-        })
+            passed: false,
+        }
     }
 
     fn take(&mut self) -> Result<Token, Mistake> {

@@ -1,6 +1,6 @@
-//! Entries as text, pairs, and dictionaries.
+//! Entries as text, pairs, dictionaries and lists of services.
 
-use super::parse::{DICTIONARY, EXCLUDES, PAIRS};
+use super::parse::{DICTIONARY, EXCLUDES, PAIRS, SERVICES};
 use crate::dictionary::Part;
 use crate::entry::{Entry, Link, Named, Property, Says, Sort};
 use crate::names::Names;
@@ -67,12 +67,29 @@ pub fn pair(Pair(one, other): Pair, names: &Names) -> String {
 
 /// A dictionary as text, its descriptions in brackets after the heading.
 pub fn dictionary(parts: &[Part], names: &Names, numbers: Numbers) -> String {
-    let mut out = format!("{DICTIONARY}\n");
+    let begin = |number| description(Named(number), names);
+    format!("{DICTIONARY}\n{}", bracketed(parts, names, numbers, begin))
+}
+
+/// A list of services as text, in the same manner.
+pub fn services(parts: &[Part], names: &Names, numbers: Numbers) -> String {
+    let begin = |number| format!("service {number}");
+    format!("{SERVICES}\n{}", bracketed(parts, names, numbers, begin))
+}
+
+/// Descriptions in brackets, each after what its number begins with.
+fn bracketed(
+    parts: &[Part],
+    names: &Names,
+    numbers: Numbers,
+    begin: impl Fn(u16) -> String,
+) -> String {
+    let mut out = String::new();
     for (number, part) in (1..).zip(parts) {
         let tree = Tree::new(&part.entries);
         let mut writer = Writer::new(&part.entries, &tree, names, numbers);
         writer.place(0, 1);
-        out.push_str(&description(Named(number), names));
+        out.push_str(&begin(number));
         match part.entries.is_empty() {
             true => out.push_str(" []\n"),
             false => out.push_str(&format!(" [\n{}]\n", writer.out)),
@@ -83,6 +100,15 @@ pub fn dictionary(parts: &[Part], names: &Names, numbers: Numbers) -> String {
 
 /// A dictionary in desk notation, on one line.
 pub fn desk_dictionary(parts: &[Part]) -> String {
+    desk_bracketed(DICTIONARY, parts)
+}
+
+/// A list of services in desk notation, on one line.
+pub fn desk_services(parts: &[Part]) -> String {
+    desk_bracketed(SERVICES, parts)
+}
+
+fn desk_bracketed(heading: &str, parts: &[Part]) -> String {
     let written: Vec<String> = parts
         .iter()
         .map(|part| {
@@ -93,7 +119,7 @@ pub fn desk_dictionary(parts: &[Part]) -> String {
             format!("[{}]", writer.out)
         })
         .collect();
-    format!("{DICTIONARY}: {}", written.join("; "))
+    format!("{heading}: {}", written.join("; "))
         .trim_end()
         .into()
 }

@@ -1,12 +1,10 @@
-//! Nothing is shown that a reader could take for something else: words that clash, nothing to do, signs that turn text around,
-//! names of files that are lines, and texts that would not be read back.
+//! Nothing is shown that a reader could take for something else: words that clash, nothing to do, signs that turn text around, and
+//! names of files that are lines.
 
-use gx::entry::{Entry, Property, Sort};
-use gx::input::Input;
+use gx::blocks;
+use gx::entry::Sort;
 use gx::names::Names;
-use gx::text::{self, Numbers, Position};
-use gx::trouble::Trouble;
-use gx::{blocks, page, readback};
+use gx::text::{self, Numbers};
 
 use crate::support::Folder;
 
@@ -348,83 +346,4 @@ fn only_a_group_or_a_heading_makes_a_specimen() {
             )
         )
     );
-}
-
-/// A description whose word no text can have.
-fn unreadable() -> Input {
-    let mut names = Names::default();
-    let bad = names.name_property(Property(7), "a\nb", Position::default(), &Names::default());
-    assert!(bad.is_ok());
-    let entries = vec![Entry {
-        kind: 1,
-        name: 7,
-        ..Entry::default()
-    }];
-    Input {
-        title: "d".into(),
-        sort: Sort::Description,
-        bytes: blocks::encode(&entries),
-        sent: 1,
-        entries,
-        names,
-        positions: Vec::new(),
-        origins: Vec::new(),
-    }
-}
-
-#[test]
-fn what_is_shown_is_read_back() {
-    let input = unreadable();
-    let written = text::text(
-        input.sort,
-        &input.entries,
-        &input.names,
-        Numbers::WhereNeeded,
-    );
-    let back = |text: &str| {
-        readback::entries(
-            text.into(),
-            input.sort,
-            &input.entries,
-            &Names::default(),
-            "d",
-        )
-    };
-    for wrong in [
-        written.as_str(),
-        "has property 8",
-        "lacks property 7",
-        "has property 7; has property 7",
-        "specimen; has property 7",
-    ] {
-        let Err(trouble @ Trouble::Fault { .. }) = back(wrong) else {
-            panic!("{wrong}");
-        };
-        assert_eq!(trouble.status().code(), 70);
-        assert!(trouble
-            .lines()
-            .starts_with("d: an error of gx, not of the input: "));
-    }
-    assert_eq!(back("has property 7").unwrap(), "has property 7");
-}
-
-#[test]
-fn what_a_page_shows_is_read_back() {
-    let input = unreadable();
-    let plain = Names::default();
-    let explained = gx::explain::Explained::Contained;
-    let sheet = page::Sheet {
-        explained: &explained,
-        list: &Default::default(),
-        supplier: &input,
-        service: &input,
-        names: &plain,
-        whole: false,
-        all: None,
-        given: &Default::default(),
-    };
-    assert!(page::page(sheet).is_ok());
-    let names = &input.names;
-    let trouble = page::page(page::Sheet { names, ..sheet }).unwrap_err();
-    assert_eq!(trouble.status().code(), 70);
 }

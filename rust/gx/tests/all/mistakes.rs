@@ -6,7 +6,8 @@ use gx::dictionary::Part;
 use gx::entry::Sort;
 use gx::names::Names;
 use gx::owl::{question, read};
-use gx::text::{desk, dictionary, mistakes, parse, parse_dictionary, text, Mistake, Numbers};
+use gx::text::{desk, dictionary, parse, parse_dictionary, text, Bracketed, Mistake, Numbers};
+use gx::text::{mistakes, mistakes_of_pairs, mistakes_of_parts};
 
 use crate::support::{ours, Folder};
 
@@ -258,6 +259,95 @@ fn up_to_twenty_are_told_in_one_run() {
     assert_eq!(mistakes("1,7\n", &Names::default()), []);
 }
 
+/// The lines and columns at which mistakes are told of this file.
+fn places(told: &str, file: &str) -> Vec<String> {
+    let lines = told.lines().map(|line| line.trim_start_matches("gx: "));
+    let lines = lines.filter_map(|line| line.strip_prefix(file)?.strip_prefix(':'));
+    let place = |line: &str| line.split(": ").next().map(String::from);
+    lines.filter_map(place).collect()
+}
+
+#[test]
+fn many_mistakes_of_lists_dictionaries_names_and_owl() {
+    let folder = Folder::new("many-mistakes");
+    let is = |name: &str, text: &str, args: &[&str], due: &[&str]| {
+        folder.put(name, text);
+        let ran = folder.gx(args);
+        let told = ran.text() + &ran.err;
+        assert_eq!(
+            (ran.status, places(&told, name).as_slice()),
+            (
+                2,
+                &due.iter().map(|at| at.to_string()).collect::<Vec<_>>()[..]
+            ),
+            "{told}"
+        );
+    };
+    folder.put("text", "1,7");
+    let pairs = "pairs\n7,8\n7,\nfoo excludes\n8,9\nproperty 7 excludes property 8 x\n";
+    is(
+        "p.pairs",
+        pairs,
+        &["check", "p.pairs"],
+        &["3:3", "4:1", "6:32"],
+    );
+    is(
+        "p.pairs",
+        pairs,
+        &["check", "text", "--pairs", "p.pairs"],
+        &["3:3", "4:1", "6:32"],
+    );
+    let dictionary = "dictionary\ndescription 1 [1,7\n1,\nhas x]\ndescription 2 [2,]\nfoo\ndescriptoin 3 [\n1,]\n[\n1,1\n]\n9 [";
+    let due = ["3:3", "4:5", "5:18", "6:1", "7:1", "8:3", "12:1"];
+    is("d.dictionary", dictionary, &["check", "d.dictionary"], &due);
+    is(
+        "d.dictionary",
+        dictionary,
+        &["check", "text", "--dictionary", "d.dictionary"],
+        &due,
+    );
+    let services = dictionary
+        .replace("dictionary", "services")
+        .replace("description", "service");
+    let due = ["3:3", "4:5", "5:14", "6:1", "7:1", "8:3", "12:1"];
+    is("services", &services, &["check", "services"], &due);
+    is(
+        "services",
+        &services,
+        &["catalogue", "text", "services"],
+        &due,
+    );
+    let names =
+        "property 7 \"sealed\"\nprop 8\nlink 0 \"x\"\nlink 9\nproperty 8 \"sealed\"\nlink 4 \"a";
+    is(
+        "n.names",
+        names,
+        &["check", "text", "--names", "n.names"],
+        &["2:1", "3:6", "4:7", "5:12", "6:10"],
+    );
+    let owl = "Ontology(\nSubClassOf(:property_1 :property_2)\nEquivalentClasses(:A ObjectIntersectionOf(\n\
+               ObjectOneOf(:a)\n:property_0\nObjectAllValuesFrom(:link_1 ObjectIntersectionOf(:x ObjectMinCardinality(70000 :link_2)))\n))\n\
+               DisjointClasses(:A :property_1)\nFunctionalObjectProperty(:link_7)\n)";
+    let due = ["2:1", "4:1", "5:1", "6:50", "6:74", "8:17", "9:26"];
+    is("a.ofn", owl, &["from-owl", "a.ofn"], &due);
+    let ran = folder.gx(&["from-owl", "a.ofn", "--json"]);
+    assert_eq!(ran.text().matches("\"expected\":").count(), due.len());
+    // No more than twenty, and a class that names itself twice ends.
+    let many = format!("ObjectIntersectionOf({})", ":x\n".repeat(100));
+    let due: Vec<String> = (1..=20)
+        .map(|line| format!("{line}:{}", if line == 1 { 22 } else { 1 }))
+        .collect();
+    is(
+        "b.ofn",
+        &many,
+        &["from-owl", "b.ofn"],
+        &due.iter().map(String::as_str).collect::<Vec<_>>(),
+    );
+    let twice = "Ontology(EquivalentClasses(:description_1 ObjectIntersectionOf(:description_1 :description_1)))";
+    folder.put("c.ofn", twice);
+    assert_eq!(folder.gx(&["from-owl", "c.ofn"]).status, 2);
+}
+
 #[test]
 fn what_is_missing_is_hinted() {
     let folder = Folder::new("hints");
@@ -316,8 +406,13 @@ fn spoilt_texts_are_mistakes_or_texts() {
             gx::text::mistakes(&spoilt, &names).pop(),
             parse(&spoilt, &names).err(),
             parse_dictionary(&spoilt, &names).err(),
-            read(&spoilt, Some("Service"), &names).err(),
+            mistakes_of_pairs(&spoilt, &names).pop(),
+            mistakes_of_parts(&spoilt, &names, Bracketed::Dictionary).pop(),
+            read(&spoilt, Some("Service"), &names)
+                .err()
+                .and_then(|mut all| all.pop()),
             Names::read(&spoilt).err(),
+            Names::mistakes(&spoilt).pop(),
         ] {
             // Where a mistake is told, it can be shown.
             mistakes += mistake.map_or(0, |mistake| mistake.shown_in(&spoilt).len().min(1));

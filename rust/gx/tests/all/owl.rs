@@ -201,7 +201,7 @@ const OTHERS: &[(&str, usize, usize, &str, &str)] = &[
 #[test]
 fn other_constructs_are_named() {
     for &(owl, line, column, expected, found) in OTHERS {
-        let mistake = read(owl, None, &Names::default()).unwrap_err();
+        let mistake = read(owl, None, &Names::default()).unwrap_err().remove(0);
         let told = format!("{owl}: {mistake}");
         assert_eq!(
             (mistake.at.line, mistake.at.column),
@@ -266,7 +266,7 @@ fn functional_links_are_read_harmlessly() {
         "FunctionalObjectProperty(:link_9)",
         "FunctionalObjectProperty(s:y)",
     ] {
-        let mistake = read(&ontology(axiom), None, &names).unwrap_err();
+        let mistake = read(&ontology(axiom), None, &names).unwrap_err().remove(0);
         assert!(mistake.expected.contains("one item only"), "{mistake}");
     }
 }
@@ -275,14 +275,16 @@ fn functional_links_are_read_harmlessly() {
 fn named_definitions_are_not_taken() {
     let text =
         "Ontology(EquivalentClasses(:A :property_1) EquivalentClasses(:property_1 owl:Nothing))";
-    let mistake = read(text, Some("A"), &Names::default()).unwrap_err();
+    let mistake = read(text, Some("A"), &Names::default())
+        .unwrap_err()
+        .remove(0);
     assert!(mistake.expected.contains("named definitions"), "{mistake}");
 }
 
 #[test]
 fn deep_nesting_is_a_mistake_and_no_crash() {
     let text = "ObjectAllValuesFrom(:link_1 ".repeat(100_000);
-    let mistake = read(&text, None, &Names::default()).unwrap_err();
+    let mistake = read(&text, None, &Names::default()).unwrap_err().remove(0);
     assert!(mistake.expected.contains("deep"), "{mistake}");
     assert!(parse(&"5,1 [".repeat(70_000), &Names::default()).is_err());
 }
@@ -316,10 +318,12 @@ fn other_syntaxes_are_recognised() {
         assert_eq!((ran.status, ran.out.len()), (2, 0));
     }
     let help = folder.gx(&["owl", "--help"]).text();
-    assert!(
-        help.contains("\n    Konclude satisfiability -w 2 -i question.ofn -x"),
-        "{help}"
-    );
+    for line in [
+        "\n    Konclude satisfiability -w 2 -i question.ofn -x",
+        "\n    FaCT++ question.conf\n",
+    ] {
+        assert!(help.contains(line), "{help}");
+    }
 }
 
 #[test]

@@ -379,7 +379,7 @@ fn disjoint_classes() {
         "DisjointClasses(:property_1 ObjectComplementOf(:property_2))",
         "DisjointClasses(:A :property_1)",
     ] {
-        let mistake = pairs_in(wrong).unwrap_err();
+        let mistake = pairs_in(wrong).unwrap_err().remove(0);
         assert!(
             mistake.expected.contains("a class by its name"),
             "{mistake}"

@@ -11,7 +11,7 @@ use differential::excluding::{self, with_implied_lacks};
 use differential::naming::{laid, named, Dictionary};
 use gx::library::{compare, Compared, Under};
 use gx::names::Names;
-use gx::owl::question;
+use gx::owl::{in_fact, question};
 use gx::pairs;
 use reference::notation::entry;
 use reference::{encode, Entry};
@@ -273,7 +273,7 @@ fn konclude_agrees() {
 #[test]
 fn fact_agrees() {
     agree("FaCT++", |folder, text| {
-        folder.put("question.lisp", in_lisp(text));
+        folder.put("question.lisp", in_fact(text));
         let conf = "[LeveLogger]\nfile = /dev/null\nallowedLevel = 0\n[Tuning]\n[Query]\nTBox = question.lisp\nTarget = Supplier\nTarget2 = Service\n";
         folder.put("question.conf", conf);
         let said = printed("FaCT++", &["question.conf"], folder)?;
@@ -288,40 +288,70 @@ fn fact_agrees() {
     });
 }
 
-/// The axioms of `gx owl` in the notation of FaCT++, word by word.
-fn in_lisp(owl: &str) -> String {
-    let from = owl.find("EquivalentClasses(:Supplier").unwrap();
-    let to = owl.find("EquivalentClasses(:SupplierOnly").unwrap();
-    let mut lisp = owl[from..to].to_string();
-    for (functional, word) in [
-        ("EquivalentClasses(", "(equal_c "),
-        ("ObjectIntersectionOf(", "(and "),
-        ("ObjectComplementOf(", "(not "),
-        ("ObjectMinCardinality(", "(atleast "),
-        ("ObjectMaxCardinality(", "(atmost "),
-        ("ObjectAllValuesFrom(", "(all "),
-        ("owl:Thing", "*TOP*"),
-        ("owl:Nothing", "*BOTTOM*"),
-        (":", ""),
-    ] {
-        lisp = lisp.replace(functional, word);
-    }
-    let mut declared = String::new();
-    for line in owl[..from].lines() {
-        for (functional, word) in [
-            ("Declaration(ObjectProperty(:link_", "(defprimrole link_"),
-            ("Declaration(Class(:property_", "(defprimconcept property_"),
-            ("FunctionalObjectProperty(:link_", "(functional link_"),
+/// The command lines of the help, by a shell.
+#[test]
+fn the_command_lines_of_the_help() {
+    let folder = Folder::new("reasoners-help");
+    let bin = std::path::Path::new(env!("CARGO_BIN_EXE_gx"));
+    let path = std::env::var("PATH").unwrap_or_default();
+    let path = format!("{}:{path}", bin.parent().unwrap().display());
+    let help = folder.gx(&["owl", "--help"]).text();
+    let lines: Vec<&str> = help
+        .lines()
+        .filter_map(|line| line.strip_prefix("    "))
+        .collect();
+    let from = |begin: &str| {
+        lines
+            .iter()
+            .position(|line| line.starts_with(begin))
+            .unwrap()
+    };
+    std::fs::create_dir(folder.path().join("services")).unwrap();
+    folder
+        .put("supplier.txt", "1,7; 3,1,2")
+        .put("services/a.txt", "1,7")
+        .put("services/b.txt", "1,8");
+    for (service, contained) in [("services/a.txt", true), ("services/b.txt", false)] {
+        folder.put("service.txt", folder.get(service));
+        for (program, first, says) in [
+            (
+                "Konclude",
+                "gx owl supplier.txt service.txt -o",
+                ["is not satisfiable", "is satisfiable"],
+            ),
+            (
+                "FaCT++",
+                "gx owl supplier.txt service.txt --fact",
+                ["does holds", "does NOT holds"],
+            ),
         ] {
-            if let Some(number) = line.strip_prefix(functional) {
-                declared.push_str(&format!("{word}{})\n", number.trim_end_matches(')')));
+            let all = &lines[from(first)..];
+            let last = all
+                .iter()
+                .position(|line| line.starts_with(program))
+                .unwrap();
+            if !installed(program) {
+                continue;
+            }
+            let made = Command::new("sh")
+                .arg("-c")
+                .arg(all[..last].join("\n"))
+                .current_dir(folder.path())
+                .env("PATH", &path)
+                .status();
+            assert!(made.unwrap().success());
+            let words: Vec<&str> = all[last]
+                .split(' ')
+                .map(|word| word.trim_matches('\''))
+                .collect();
+            if let Some(said) = printed(program, &words[1..], &folder) {
+                assert!(
+                    said.contains(says[usize::from(!contained)]),
+                    "{program}: {said}"
+                );
             }
         }
-        if let Some(classes) = line.strip_prefix("DisjointClasses(") {
-            declared.push_str(&format!("(disjoint {}\n", classes.replace(':', "")));
-        }
     }
-    declared + &lisp
 }
 
 #[test]
@@ -333,7 +363,7 @@ fn the_notation_of_fact() {
         &entries("3,32768,2"),
         &Names::default(),
     );
-    let lisp = in_lisp(&text);
+    let lisp = in_fact(&text);
     let declared = "(defprimconcept property_7)\n(defprimconcept property_8)\n(defprimrole link_2)\n(defprimrole link_32768)\n\
                     (functional link_32768)\n(disjoint property_7 property_8)\n(equal_c Supplier\n";
     assert!(lisp.starts_with(declared), "{lisp}");

@@ -139,6 +139,7 @@ fn each_answer_for_programs_is_one_of_the_schema() {
         .put("wrong", "hass\nat lest 1 core")
         .put("refused", "1,0")
         .put("p.pairs", "sealed excludes property 8")
+        .put("l", "services: [1,7]; []")
         .put("x.dictionary", "[1,7]; [9,1; 3,1,1]");
     let with = ["--names", "n", "--dictionary", "x.dictionary", "--json"];
     let mut answers = Vec::new();
@@ -146,6 +147,7 @@ fn each_answer_for_programs_is_one_of_the_schema() {
         &["show", "c"][..],
         &["show", "p.pairs"],
         &["show", "x.dictionary"],
+        &["show", "l"],
         &["write", "d", "-o", "out"],
         &["check", "c", "--pairs", "p.pairs"],
         &["check", "wrong"],
@@ -161,7 +163,10 @@ fn each_answer_for_programs_is_one_of_the_schema() {
         &["compare", "e", "f"],
         &["compare", "none", "f"],
         &["catalogue", "c", "d", "e", "refused", "--why"],
+        &["hierarchy", "c", "d", "c"],
+        &["hierarchy", "c", "refused", "none"],
         &["owl", "c", "d"],
+        &["owl", "c", "d", "--fact"],
     ] {
         let ran = folder.gx(&[args, &with].concat());
         for line in ran.whole().lines() {
@@ -184,6 +189,7 @@ fn each_answer_for_programs_is_one_of_the_schema() {
         "not contained",
         "contained",
         "written",
+        "hierarchy",
     ] {
         assert!(answers.contains(&Some(Text(due.into()))), "{due}");
     }

@@ -11,6 +11,7 @@ use crate::input::{not_refused, Input};
 use crate::json::Json;
 use crate::names::Names;
 use crate::pairs::List;
+use crate::readback;
 use crate::specimen;
 use crate::text;
 use crate::tree::Tree;
@@ -42,7 +43,7 @@ pub(super) fn of_inputs(
     };
     let mut answer = match &explained {
         Explained::Contained => contained(list),
-        Explained::NotContained(failure) => not_contained(failure, &supplier, &service, &names),
+        Explained::NotContained(failure) => not_contained(failure, &supplier, &service, &names)?,
     };
     if let Some(all) = &all {
         all::tell(&mut answer, all, &supplier, &service, &names);
@@ -119,7 +120,12 @@ fn where_kept(list: &List) -> String {
     }
 }
 
-fn not_contained(failure: &Failure, c: &Input, d: &Input, names: &Names) -> Answer {
+fn not_contained(
+    failure: &Failure,
+    c: &Input,
+    d: &Input,
+    names: &Names,
+) -> Result<Answer, Trouble> {
     let words = Words::new(names);
     let asks = failure.asks(words);
     let line = format!("not contained, entry {}: {asks}", failure.entry);
@@ -140,15 +146,15 @@ fn not_contained(failure: &Failure, c: &Input, d: &Input, names: &Names) -> Answ
         ),
         ("specimen", entries_json(&failure.specimen.entries, names)),
     ]);
-    Answer {
+    Ok(Answer {
         status: Status::No,
         line,
-        full: full(failure, c, d, words).into_bytes(),
+        full: full(failure, c, d, words)?.into_bytes(),
         ending: "txt",
         json,
         extras: Vec::new(),
         notes: Vec::new(),
-    }
+    })
 }
 
 /// Where the entry stands, what it asks, and what is said there, for programs.
@@ -182,7 +188,7 @@ fn origin_json(input: &Input, entry: usize) -> Vec<(&'static str, Json)> {
     ]
 }
 
-fn full(failure: &Failure, c: &Input, d: &Input, words: Words<'_>) -> String {
+fn full(failure: &Failure, c: &Input, d: &Input, words: Words<'_>) -> Result<String, Trouble> {
     let mut out = format!(
         "not contained\n\nEntry {} of the service's description{} fails:\n    {}\n",
         failure.entry,
@@ -198,10 +204,12 @@ fn full(failure: &Failure, c: &Input, d: &Input, words: Words<'_>) -> String {
     out.push_str(&format!(
         "\nThe entry in the service's description{unfolded}:\n"
     ));
-    out.push_str(&surroundings(failure, d, words));
+    let around = surroundings(failure, d, words);
+    out.push_str(&readback::surroundings(around, d, words.names())?);
     out.push_str("\nA specimen that fits the supplier's description and not the service's:\n");
-    out.push_str(&specimen_lines(failure, words));
-    out
+    let lines = specimen_lines(failure, words);
+    out.push_str(&readback::specimen(lines, failure, words)?);
+    Ok(out)
 }
 
 /// The numbers of the supplier's entries that say it.

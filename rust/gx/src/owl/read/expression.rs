@@ -84,7 +84,9 @@ impl Reader<'_> {
         self.take();
         self.open()?;
         while self.next().sign != Sign::Close {
-            self.expression(owner, depth + 1)?;
+            let begin = self.at;
+            let read = self.expression(owner, depth + 1);
+            self.passing(begin, read)?;
         }
         self.close()
     }

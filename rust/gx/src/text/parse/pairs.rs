@@ -37,26 +37,34 @@ pub fn parse_pairs(text: &str, names: &Names) -> Result<ParsedPairs, Mistake> {
     parser.stop = Some(EXCLUDES);
     let mut parsed = ParsedPairs::default();
     let headed = parser.headed(PAIRS)?;
-    loop {
-        parser.skip_lines()?;
-        let at = parser.next.at;
-        match parser.next.sign {
-            Sign::End if parsed.pairs.is_empty() && !headed => {
-                return parser.expected("a pair, or 'pairs' for a list without pairs")
-            }
-            Sign::End => break,
-            _ if parsed.pairs.len() == MOST => {
-                return Err(Mistake::new(at, "at most 65,535 pairs", "one more"))
-            }
-            _ => parsed.pairs.push(parser.pair()?),
-        }
-        parsed.positions.push(at);
-    }
+    while !parser.next_pair(&mut parsed, headed)? {}
     parsed.words = parser.learnt;
     Ok(parsed)
 }
 
 impl Parser<'_> {
+    /// The next pair; whether the text has ended instead.
+    pub(super) fn next_pair(
+        &mut self,
+        parsed: &mut ParsedPairs,
+        headed: bool,
+    ) -> Result<bool, Mistake> {
+        self.skip_lines()?;
+        let at = self.next.at;
+        match self.next.sign {
+            Sign::End if parsed.pairs.is_empty() && !headed => {
+                return self.expected("a pair, or 'pairs' for a list without pairs")
+            }
+            Sign::End => return Ok(true),
+            _ if parsed.pairs.len() == MOST => {
+                return Err(Mistake::new(at, "at most 65,535 pairs", "one more"))
+            }
+            _ => parsed.pairs.push(self.pair()?),
+        }
+        parsed.positions.push(at);
+        Ok(false)
+    }
+
     /// `property 7 excludes property 8`, or `7,8` as at the desk.
     fn pair(&mut self) -> Result<Pair, Mistake> {
         let pair = match self.next.sign {

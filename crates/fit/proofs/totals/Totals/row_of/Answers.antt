@@ -4,24 +4,25 @@ use mathlib.Core.Path.{◌∙◌, ◌≡◌, ap, refl, sym}
 use native.Mathlib.Omega.{arith}
 use Rattle.base.proofs.ChainLaws.{last-here}
 use Rattle.base.specs.Chain.{last_where}
+use Rattle.fit.proofs.index.BucketLaws.{masked_is}
 use Rattle.fit.proofs.index.BucketWalk.{falls_bucket, walk-at, walk-first, walk-on, walk-tells}
 use Rattle.fit.proofs.totals.RowLaws.{pair-below, pair-bucket, pair-passes, pair-skips}
 use Rattle.fit.specs.code.Rows.{pair_bucket, pairs_of}
 use Rattle.fit.proofs.totals.Totals.row_of.Goals.{In-Some}
 use Rattle.fit.proofs.totals.Totals.row_of.Goals as goal
 
-pub hash-requires : goal.hash-requires
-hash-requires c = (omega (arith, c.args.self.now.kept.index.below), c.requires)
-
 pub of_bucket-r-items-requires : goal.of_bucket-r-items-requires
-of_bucket-r-items-requires c = falls_bucket c.args.self.now.kept.index c.hash.ensures.1
+of_bucket-r-items-requires c =
+    let t = c.args.self.now in
+    falls_bucket t.kept.index (masked_is t.most c.args.owner 7 c.args.l.0 (omega (arith, t.kept.index.below)) t.masked c.masked.ensures).1
 
 pub loop-r-init : goal.loop-r-init
 loop-r-init c =
     let t = c.args.self.now in
     let p = c.pair_of-pair in
-    let bucket : pair_bucket t.most p.result ≡ c.hash.result =
-    ap (pair_bucket t.most) p.ensures.0 ∙ pair-bucket t.most c.args.owner c.args.l.0 p.ensures.2 ∙ sym c.hash.ensures.0 in
+    let told = masked_is t.most c.args.owner 7 c.args.l.0 (omega (arith, t.kept.index.below)) t.masked c.masked.ensures in
+    let bucket : pair_bucket t.most p.result ≡ c.masked.result =
+    ap (pair_bucket t.most) p.ensures.0 ∙ pair-bucket t.most c.args.owner c.args.l.0 p.ensures.2 ∙ sym told.0 in
     let b = c.of_bucket-r-items.ensures in
     let first = b.2 ∙ ap (λ (x : ℕ). get_or t.links.now x 0) (sym bucket) in
     let below = pair-below t.most p.result (omega (arith, t.kept.index.below)) in

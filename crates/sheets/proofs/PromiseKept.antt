@@ -1,0 +1,120 @@
+-- What is promised of reading a sheet: accepted exactly where it is as a description and each entry is in the profile;
+-- any refusal but 19 is that of the description; and 19 exactly at the lowest entry outside the profile.
+-- Assumes nothing.
+use Rattle.std.proofs.Common.{◌≡◌, ◌≢◌, ◌↔◌, ℕ, List, length, Ok, sym, refl, ◌∙◌, arith}
+use Rattle.base.proofs.Missing.{not-true}
+use Rattle.base.proofs.Tests.{bool_cases, both_ways}
+use Rattle.blocks.proofs.Refusing.FirstFault.{clean-none, first-append, none-clean}
+use Rattle.blocks.proofs.Refusing.Readings.{accepted-finding, refused-finding}
+use Rattle.blocks.proofs.RoundTrip.RefusalNumbers.{description-number}
+use Rattle.blocks.specs.Entries.{entries_of, form_ok, nth}
+use Rattle.blocks.specs.Faults.{Clean, Fault, Faulty, entry_faults, entry_rows, faults, first}
+use Rattle.blocks.specs.Frame.{plain, total_in}
+use Rattle.blocks.specs.Owners.{depth_ok, owner_ok}
+use Rattle.blocks.specs.Reading.{reading_of}
+use Rattle.blocks.specs.Refusals.{refused}
+use Rattle.blocks.specs.declared.Cause.{Cause}
+use Rattle.blocks.specs.declared.Cause.TheVariants.{Depth, Form, Owner, Profile}
+use Rattle.blocks.specs.declared.Entry.{Entry}
+use Rattle.blocks.specs.declared.Schema.TheVariants.{Description}
+use Rattle.narrow.proofs.Sheets.FurtherRow.{Further, found-outside, nothing-exactly, others-same, outside-found, with_all, without}
+use Rattle.narrow.specs.Profile.{Sheet}
+use Rattle.reading.proofs.BlocksRead.{plain_faults}
+use Rattle.sheets.proofs.Profiles.{profile-test, test-profile}
+use Rattle.sheets.specs.Promise.{LowestOutside, SheetRead}
+use Rattle.sheets.specs.Sheet.{sheet_faults, sheet_ok, sheet_reading}
+
+-- no line of an entry of a description is number 19
+never-outside : (es : List Entry) (j q : ℕ) → first (entry_rows Description es j) ≡ Faulty Profile q → ⊥
+unfolding first
+never-outside es j q e =
+    bool_cases (form_ok Description (nth es j))
+    (λ a. bool_cases (owner_ok Description es j)
+    (λ b. bool_cases (depth_ok es j)
+    (λ d. let w : Clean ≡ Faulty Profile q = rw (a, b, d) at e in cc)
+    (λ d. let w : Faulty Depth j ≡ Faulty Profile q = rw (a, b, d) at e in cc))
+    (λ b. let w : Faulty Owner j ≡ Faulty Profile q = rw (a, b) at e in cc))
+    (λ a. let w : Faulty Form j ≡ Faulty Profile q = rw a at e in cc)
+
+module _ (s : List ℕ) where
+  abbrev es : List Entry
+  es = entries_of s
+
+  abbrev front : List Fault
+  front = plain_faults Description s
+
+  abbrev R : ℕ → List Fault
+  R = entry_rows Description es
+
+  -- the lines of a sheet are those of a description with one more at each entry
+  sheet-lines : first (sheet_faults s) ≡ first (with_all front R (sheet_ok es) Profile (length es))
+  unfolding sheet_faults
+  sheet-lines = refl
+
+  plain-lines : first (faults Description s) ≡ first (without front R (sheet_ok es) Profile (length es))
+  unfolding faults entry_faults
+  plain-lines = refl
+
+  -- nor is one of the blocks
+  never-block : (q : ℕ) → first front ≡ Faulty Profile q → ⊥
+  unfolding reading_of faults
+  never-block q c =
+      let r : reading_of Description 1 s ≡ refused Profile 1 q =
+      rw (first-append front (entry_faults Description es 1 (length es)), c) in
+      let n = description-number 1 s r in
+      omega arith
+
+  pub sheet-exactly : (n : ℕ) → (sheet_reading s ≡ Ok n) ↔ ((reading_of Description 1 s ≡ Ok n) × Sheet es)
+  unfolding sheet_reading reading_of
+  sheet-exactly n = (
+    λ e.
+        let f = accepted-finding 1 (total_in plain s) (first (sheet_faults s)) e in
+        let g = (nothing-exactly front R (sheet_ok es) Profile (length es)).0 (sym sheet-lines ∙ f.1) in
+        (rw (plain-lines, g.0) (rw f.0), λ j a b. test-profile es j (g.1 j a b)),
+    λ h.
+        let f = accepted-finding 1 (total_in plain s) (first (faults Description s)) h.0 in
+        let g = (nothing-exactly front R (sheet_ok es) Profile (length es)).1
+        (sym plain-lines ∙ f.1, λ j a b. profile-test es j (h.1 j a b)) in
+        rw (sheet-lines, g) (rw f.0),
+  )
+
+  pub other-than-nineteen : (k : Cause) (i p : ℕ) → k ≢ Profile → sheet_reading s ≡ refused k i p
+      → reading_of Description 1 s ≡ refused k i p
+  unfolding sheet_reading reading_of
+  other-than-nineteen k i p z e =
+      let f = refused-finding 1 (total_in plain s) (first (sheet_faults s)) e in
+      let g = others-same front R (sheet_ok es) Profile (length es) (sym sheet-lines ∙ f.1) z in
+      rw (plain-lines, g, f.0)
+
+  pub nineteen-found : (i p : ℕ) → (sheet_reading s ≡ refused Profile i p) ↔ ((i ≡ 1) × LowestOutside s p)
+  unfolding sheet_reading
+  nineteen-found i p = (
+    λ e.
+        let f = refused-finding 1 (total_in plain s) (first (sheet_faults s)) e in
+        let g = found-outside front R (sheet_ok es) Profile (length es) never-block (never-outside es)
+        (sym sheet-lines ∙ f.1) in
+        let u = g.1.0 in (
+          f.0,
+          record {
+            low = u.from;
+            high = g.1.1;
+            outside = λ h. both_ways (profile-test es p h) u.applies;
+            before = λ j a b. test-profile es j (u.before j a b);
+            blocks = clean-none front g.0;
+            entries = λ j a b. clean-none (R j) (u.others j a b);
+          },
+        ),
+    λ h.
+        let u = h.1 in
+        let f : Further R (sheet_ok es) Profile 1 p = record {
+          from = u.low;
+          applies = not-true (λ t. u.outside (test-profile es p t));
+          others = λ j a b. none-clean (R j) (u.entries j a b);
+          before = λ j a b. profile-test es j (u.before j a b);
+        } in
+        let g = outside-found front R (sheet_ok es) Profile (length es) (none-clean front u.blocks) f u.high in
+        rw (sheet-lines, g, h.0),
+  )
+
+  pub sheet-read : SheetRead s
+  sheet-read = record { accepted = sheet-exactly; others = other-than-nineteen; outside = nineteen-found }
