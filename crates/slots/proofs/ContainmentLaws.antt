@@ -1,6 +1,6 @@
 -- Laws of the table of containment: a service cut out of its list, services read in turn, a row, rows in turn, and what stands before them.
 -- Assumes nothing.
-use Prim.Native.Nat.{◌%◌, ◌*◌, ◌+◌, ◌<◌, ◌≤◌, suc, ℕ}
+use Prim.Native.Nat.{◌*◌, ◌+◌, ◌<◌, ◌≤◌, suc, ℕ}
 use lib.ListN.{drop, get_or, length, length-drop, length-map, length-set, set, take}
 use lib.Seq.{drop-cons, get_or-set_other, get_or-set_same, length-take-le, take_all}
 use mathlib.Core.Bool.{Bool}
@@ -9,7 +9,7 @@ use mathlib.Core.Path.{◌∙◌, ◌≡◌, ap, refl, sym}
 use native.Mathlib.Omega.{arith}
 use Rattle.std.proofs.lemmas.List.{map_more}
 use Rattle.base.proofs.Parts.{high_is, high_of}
-use Rattle.base.proofs.StoresLaws.{stored-none, stored_one, stored-then}
+use Rattle.base.proofs.StoresLaws.{stored_one, stored-then}
 use Rattle.base.proofs.Tests.{eq-cases}
 use Rattle.base.specs.Range.{bit}
 use Rattle.base.proofs.Lists.{get_d-map-in}

@@ -10,6 +10,8 @@ pub mod TableSearch
 pub mod PlacesInTable
 -- The next entry of a pass: its owner was passed before.
 pub mod NextEntry
+-- What is known of tables as they are lent is known of them as their owner finds them.
+pub mod LentAgain
 -- A list that is cut: how many services it has, and that these are few.
 pub mod CutLaws
 -- The table of containment: services cut out and read in turn, a row, rows in turn, and what stands in a cell.

@@ -10,7 +10,7 @@ pub mod Standing
 pub mod TablePlaces
 -- One pass over the entries of a service, which checks and judges them.
 pub mod Pass
--- Slots that are lent, and a supplier: what stands in their tables.
+-- A workspace, slots that are lent, and a supplier: what stands in their tables.
 pub mod Lent
 -- What judging a list of descriptions is told, and what each step of it does.
 pub mod Judging

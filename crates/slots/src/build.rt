@@ -1,7 +1,7 @@
 // The first pass: the entries of a description, first to last, entered into their slots. An 'every' entry leads to the place below its
 // slot, so that entries of one owner and link merge.
 ghost use Rattle.std.specs.Prelude.{◌≡◌, ◌≤◌, ◌<◌, length};
-ghost use Rattle.slots.specs.code.Tables.{Built, Readable, Workspace, bounds_base, bounds_times, built_slots, high_kind, high_part, low_kind, low_part, no_bound};
+ghost use Rattle.slots.specs.code.Tables.{Built, Cleared, Readable, bounds_base, bounds_times, built_slots, high_kind, high_part, low_kind, low_part, no_bound};
 
 use crate::slots::{enter, entry_key};
 use blocks::{Entry, entries_in_order, kinds};
@@ -53,7 +53,7 @@ pub(crate) fn build<const BUCKETS: usize>(
     head: &mut [u16; BUCKETS],
     node: &mut [u16],
 ) -> usize
-    requires { Readable d.now total × (total < length table.old) × Workspace total next.old head.old node.old }
+    requires { Readable d.now total × (total < length table.old) × Cleared total next.old head.old node.old }
     ensures { Built (built_slots d.now) d.now result table.old table.new next.new head.new }
 {
     let mut used: usize = 0;

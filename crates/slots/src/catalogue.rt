@@ -11,9 +11,12 @@ ghost use Rattle.slots.specs.Catalogue.{answers_after, cut_reading, list_reading
 ghost use Rattle.slots.specs.code.Lent.{HeldIn};
 ghost use Rattle.slots.specs.code.Judging.{JudgesAll, JudgesListed, JudgesSupplied, bytes_read, service_judged};
 
+use crate::accepted::Accepted;
 use crate::failing::Supplier;
 use crate::filling::chained_slots;
 use crate::service::judge_plain;
+use crate::slots::Slots;
+use crate::workspace::Workspace;
 use blocks::sizes::BLOCK;
 use blocks::{Cause, Refusal, Schema};
 use lists::{Parts, parts_in};
@@ -54,7 +57,11 @@ fn judge_service(
     };
     let m = dictionary.unfold_into(d, input, &mut scratch.buffer)?;
     let end = bytes_for(m);
-    let failing = supplier.judge(&scratch.buffer[..end], usize::from(m), &mut scratch.states);
+    let service = Accepted {
+        bytes: &scratch.buffer[..end],
+        total: usize::from(m),
+    };
+    let failing = supplier.judge(service, &mut scratch.states);
     Ok(failing.is_none())
 }
 
@@ -80,19 +87,17 @@ fn judge_parts(
     Ok(n as u16)
 }
 
-// Slots and settles the supplier's description, which is accepted, with n entries, and judges a list of at most 64 services by its slots. Here and in
-// `judge_cut` the clause that n entries are read from c is of two values that have different makers: c is sent, or stands in a buffer.
+// Slots and settles the supplier's description and judges a list of at most 64 services by its slots.
 fn judge_all(
     exclusions: Exclusions<'_>,
     names: Names<'_>,
-    c: &[u8],
-    n: usize,
+    c: Accepted<'_>,
     list: &[u8],
     answers: &mut [u8; 64],
 ) -> Result<u16, Refusal>
-    requires { Ruled (under exclusions.pairs.now) × (reading_of Schema.Description 1 c.now ≡ Ok n)
-        × (length (parts_of list.now) ≤ 64) }
-    ensures { JudgesAll exclusions.entry.pairs.now (bytes_read names.entry.read) c.now list.now answers.old result answers.new }
+    requires { Ruled (under exclusions.pairs.now) × (length (parts_of list.now) ≤ 64) }
+    ensures { JudgesAll exclusions.entry.pairs.now (bytes_read names.entry.read) c.entry.bytes.now list.now
+        answers.old result answers.new }
 {
     let mut table = [0u64; 1009];
     let mut next = [0u16; 1009];
@@ -100,10 +105,19 @@ fn judge_all(
     let mut node = [0u16; 1009];
     let mut bad = [0u8; 1009];
     let mut full = [0u8; 1009];
-    let used = chained_slots(
-        exclusions, c, n, &mut table, &mut next, &mut head, &mut node, &mut bad, &mut full,
-    );
-    let supplier = Supplier::new(exclusions, &table, &next, &head, used, &bad);
+    let next = &mut next[..];
+    let head = &mut head;
+    let mut work = Workspace {
+        next: &mut *next,
+        head: &mut *head,
+        node: &mut node,
+        bad: &mut bad,
+        full: &mut full,
+    };
+    let used = chained_slots(exclusions, c, &mut table, &mut work);
+    let top = work.bad[0];
+    let slots = Slots::of(&table, next, head, used);
+    let supplier = Supplier::new(exclusions, slots, top);
     let mut scratch = Scratch {
         buffer: [0; 8192],
         states: [0; 1009],
@@ -139,16 +153,16 @@ pub(crate) fn count_services(list: &[u8]) -> Result<u16, Refusal>
 fn judge_cut(
     exclusions: Exclusions<'_>,
     names: Names<'_>,
-    c: &[u8],
-    n: usize,
+    c: Accepted<'_>,
     list: &[u8],
     answers: &mut [u8; 64],
 ) -> Result<u16, Refusal>
-    requires { Ruled (under exclusions.pairs.now) × (reading_of Schema.Description 1 c.now ≡ Ok n) }
-    ensures { JudgesListed exclusions.entry.pairs.now (bytes_read names.entry.read) c.now list.now answers.old result answers.new }
+    requires { Ruled (under exclusions.pairs.now) }
+    ensures { JudgesListed exclusions.entry.pairs.now (bytes_read names.entry.read) c.entry.bytes.now list.now
+        answers.old result answers.new }
 {
     count_services(list)?;
-    judge_all(exclusions, names, c, n, list, answers)
+    judge_all(exclusions, names, c, list, answers)
 }
 
 // Reads the supplier's description, under a list of pairs that is accepted and indexed.
@@ -164,19 +178,20 @@ fn judge_supplied(
 {
     let Some(dictionary) = names.read else {
         let n = reading::read(c, Schema::Named(0), 1)?;
-        return judge_cut(exclusions, names, c, usize::from(n), list, answers);
+        let sent = Accepted {
+            bytes: c,
+            total: usize::from(n),
+        };
+        return judge_cut(exclusions, names, sent, list, answers);
     };
     let mut buffer = [0u8; 8192];
     let n = dictionary.unfold_into(c, 1, &mut buffer)?;
     let end = bytes_for(n);
-    judge_cut(
-        exclusions,
-        names,
-        &buffer[..end],
-        usize::from(n),
-        list,
-        answers,
-    )
+    let unfolded = Accepted {
+        bytes: &buffer[..end],
+        total: usize::from(n),
+    };
+    judge_cut(exclusions, names, unfolded, list, answers)
 }
 
 // Reads a list of pairs, a dictionary, the supplier's description and a list of services, and stores a byte for each service, from the front

@@ -11,9 +11,12 @@ ghost use Rattle.slots.specs.Containment.{contained_row, contained_rows, plain_l
 ghost use Rattle.slots.specs.code.Lent.{HeldIn};
 ghost use Rattle.slots.specs.code.Services.{ServicesRead, no_service};
 
+use crate::accepted::Accepted;
 use crate::catalogue::count_services;
 use crate::failing::Supplier;
 use crate::filling::chained_slots;
+use crate::slots::Slots;
+use crate::workspace::Workspace;
 use blocks::{Refusal, Schema};
 use lists::{Parts, part_length};
 use pairs::{Exclusions, INDEX_BYTES};
@@ -53,6 +56,17 @@ impl<'a> Services<'a> {
     {
         usize::from(self.of[i].total)
     }
+
+    // The service as one that is accepted.
+    fn get(self, i: usize) -> Accepted<'a>
+        requires { i < self.count }
+        ensures { (result.bytes.now ≡ get_or (parts_of self.entry.list.now) i [])
+            × (result.total ≡ (get_or self.entry.of.now i no_service).total) }
+    {
+        let bytes = self.part(i);
+        let total = self.total(i);
+        Accepted { bytes, total }
+    }
 }
 
 // Reads the services of a list in turn, as inputs 2, 3 and so on: how many there are, or the first refusal.
@@ -85,7 +99,7 @@ fn judge_row<const BUCKETS: usize>(
         → table.new ≡ stored table.old at (contained_row (under supplier.entry.exclusions.pairs.now) (parts_of services.entry.list.now) c) }
 {
     for j in 0..services.count {
-        let failing = supplier.judge(services.part(j), services.total(j), states);
+        let failing = supplier.judge(services.get(j), states);
         table[at + j] = u8::from(failing.is_none());
     }
 }
@@ -102,24 +116,25 @@ fn slot_row_within<const N: usize, const BUCKETS: usize>(
     ensures { table.new ≡ stored table.old (64 * i) (contained_row (under exclusions.entry.pairs.now) (parts_of services.entry.list.now)
         (get_or (parts_of services.entry.list.now) i [])) }
 {
-    let mut slots = [0u64; N];
+    let mut slotted = [0u64; N];
     let mut next = [0u16; N];
     let mut head = [0u16; BUCKETS];
     let mut node = [0u16; N];
     let mut bad = [0u8; N];
     let mut full = [0u8; N];
-    let used = chained_slots(
-        exclusions,
-        services.part(i),
-        services.total(i),
-        &mut slots,
-        &mut next,
-        &mut head,
-        &mut node,
-        &mut bad,
-        &mut full,
-    );
-    let supplier = Supplier::new(exclusions, &slots, &next, &head, used, &bad);
+    let next = &mut next[..];
+    let head = &mut head;
+    let mut work = Workspace {
+        next: &mut *next,
+        head: &mut *head,
+        node: &mut node,
+        bad: &mut bad,
+        full: &mut full,
+    };
+    let used = chained_slots(exclusions, services.get(i), &mut slotted, &mut work);
+    let top = work.bad[0];
+    let slots = Slots::of(&slotted, next, head, used);
+    let supplier = Supplier::new(exclusions, slots, top);
     judge_row(supplier, services, states, table, 64 * i)
 }
 

@@ -1,5 +1,5 @@
 // The first entry of a second description that the normal form of a first does not hold, in a table of slots that the caller lends.
-ghost use Rattle.std.specs.Prelude.{◌≡◌, List, ◌<◌, ◌≤◌, ℕ, get_or, length, unwrap_or, IfSome};
+ghost use Rattle.std.specs.Prelude.{◌≡◌, List, ◌<◌, ◌≤◌, ℕ, length, unwrap_or, IfSome};
 ghost use Rattle.blocks.specs.Reading.{reading_of};
 ghost use Rattle.blocks.specs.declared.Schema.{Schema};
 ghost use Rattle.base.specs.Range.{bit};
@@ -8,11 +8,13 @@ ghost use Rattle.passes.specs.code.Slots.{inconsistent};
 ghost use Rattle.pairs.specs.Pairs.{pair_count, under};
 ghost use Rattle.slots.specs.Holding.{failing_in, holding_by, holding_of};
 ghost use Rattle.slots.specs.code.Standing.{JudgedBy, Judges, table_judged};
-ghost use Rattle.slots.specs.code.Tables.{Kept, Tabled, slots_of};
+ghost use Rattle.slots.specs.code.Tables.{Tabled, slots_of};
 
 use crate::Unheld;
+use crate::accepted::Accepted;
 use crate::filling::chained_slots;
 use crate::slots::Slots;
+use crate::workspace::Workspace;
 use blocks::{Cause, Refusal, Schema};
 use pairs::{Exclusions, INDEX_BYTES};
 
@@ -41,76 +43,68 @@ pub(crate) struct Supplier<'a, const BUCKETS: usize> {
 impl<'a, const BUCKETS: usize> Supplier<'a, BUCKETS> {
     ghost use Rattle.slots.specs.code.Lent.{HeldIn};
 
-    // The supplier whose settled slots stand in these tables, of which the last marks the places that are impossible. They come apart: what is
-    // known of them as Slots is known once all of them are written.
-    pub(crate) fn new(
-        exclusions: Exclusions<'a>,
-        table: &'a [u64],
-        next: &'a [u16],
-        head: &'a [u16; BUCKETS],
-        used: usize,
-        bad: &[u8],
-    ) -> Self
-        requires { Ruled (under exclusions.pairs.now) × Kept table.now next.now head.now used × (used ≤ 1008) × (0 < length bad.now) }
-        ensures held { (b : Background) → (c : List ℕ) → Tabled b c used table.now → get_or bad.now 0 0 ≡ bit (inconsistent 1 (slots_of b c) 0)
-            → (result.slots.used ≡ used) × HeldIn b c result }
-        ensures list { result.exclusions ≡ exclusions.entry }
+    // The supplier whose slots these are, settled, and whose top has this mark: 1 where it is impossible, else 0.
+    pub(crate) fn new(exclusions: Exclusions<'a>, slots: Slots<'a, BUCKETS>, bad: u8) -> Self
+        requires { Ruled (under exclusions.pairs.now) }
+        ensures held { (b : Background) → (c : List ℕ) → Tabled b c slots.entry.used slots.entry.table.now
+            → bad ≡ bit (inconsistent 1 (slots_of b c) 0) → HeldIn b c result }
+        ensures same { (result.exclusions ≡ exclusions.entry) × (result.slots ≡ slots.entry) }
     {
-        let slots = Slots {
-            table,
-            next,
-            head,
-            used,
-        };
         Supplier {
             exclusions,
             slots,
-            impossible: bad[0] != 0,
+            impossible: bad != 0,
         }
     }
 
-    // The first entry of a description with m entries that does not hold by the supplier; none where nothing fits it. This is all that
+    // The first entry of a description that does not hold by the supplier; none where nothing fits it. This is all that
     // judges, and it leaves the slots: they serve for many descriptions. The states are a slice, since they come in each size of tables.
-    pub(crate) fn judge(self, d: &[u8], m: usize, states: &mut [u16]) -> Option<usize>
-        requires { (reading_of Schema.Description 2 d.now ≡ Ok m) × (m < length states.old) }
+    pub(crate) fn judge(self, d: Accepted<'_>, states: &mut [u16]) -> Option<usize>
+        requires { d.total < length states.old }
         ensures { (unwrap_or result 0 ≤ 1008) × IfSome result (λ n. 1 ≤ n)
             × ((c : List ℕ) → HeldIn (under self.entry.exclusions.pairs.now) c self.entry
-            → unwrap_or result 0 ≡ failing_in (under self.entry.exclusions.pairs.now) c d.now) }
+            → unwrap_or result 0 ≡ failing_in (under self.entry.exclusions.pairs.now) c d.entry.bytes.now) }
     {
         if self.impossible {
             return None;
         }
         self.slots
-            .first_failing_entry(self.exclusions, d, m, states)
+            .first_failing_entry(self.exclusions, d.bytes, d.total, states)
     }
 }
 
-// Slots and settles the first description and judges the second by its slots, where both are accepted, with n and m entries, fewer than N.
-// All tables but that of the slots are its own. That n and m are read from c and d is a clause, here and below, since each is handed on from where it
-// was read to where it is used, beside bytes that stay the caller's.
+// Slots and settles the first description and judges the second by its slots, where both have fewer than N entries. All
+// tables but that of the slots are its own.
 fn judge<const N: usize, const BUCKETS: usize>(
     exclusions: Exclusions<'_>,
-    c: &[u8],
-    n: usize,
-    d: &[u8],
-    m: usize,
+    c: Accepted<'_>,
+    d: Accepted<'_>,
     table: &mut [u64],
 ) -> Result<Option<Unheld>, Refusal>
-    requires { Ruled (under exclusions.pairs.now) × (reading_of Schema.Description 1 c.now ≡ Ok n) × (reading_of Schema.Description 2 d.now ≡ Ok m) × (n < length table.old)
-        × (n < N) × (m < N) × (N ≤ 1009) × (61 ≤ BUCKETS) × (BUCKETS ≤ 4093) }
-    ensures { Judges (under exclusions.entry.pairs.now) c.now d.now table.old result table.new }
+    requires { Ruled (under exclusions.pairs.now) × (c.total < length table.old) × (c.total < N) × (d.total < N)
+        × (N ≤ 1009) × (61 ≤ BUCKETS) × (BUCKETS ≤ 4093) }
+    ensures { Judges (under exclusions.entry.pairs.now) c.entry.bytes.now d.entry.bytes.now table.old result table.new }
 {
     let mut next = [0u16; N];
     let mut head = [0u16; BUCKETS];
     let mut node = [0u16; N];
     let mut bad = [0u8; N];
     let mut full = [0u8; N];
-    let used = chained_slots(
-        exclusions, c, n, table, &mut next, &mut head, &mut node, &mut bad, &mut full,
-    );
+    let next = &mut next[..];
+    let head = &mut head;
+    let mut work = Workspace {
+        next: &mut *next,
+        head: &mut *head,
+        node: &mut node,
+        bad: &mut bad,
+        full: &mut full,
+    };
+    let used = chained_slots(exclusions, c, table, &mut work);
+    let top = work.bad[0];
+    let slots = Slots::of(table, next, head, used);
+    let supplier = Supplier::new(exclusions, slots, top);
     let mut states = [0u16; N];
-    let supplier = Supplier::new(exclusions, table, &next, &head, used, &bad);
-    let e = supplier.judge(d, m, &mut states);
+    let e = supplier.judge(d, &mut states);
     Ok(answer_of(e, used))
 }
 
@@ -118,44 +112,45 @@ fn judge<const N: usize, const BUCKETS: usize>(
 // of four, take smaller tables, which are sooner cleared.
 fn judge_read(
     exclusions: Exclusions<'_>,
-    c: &[u8],
-    n: usize,
-    d: &[u8],
-    m: usize,
+    c: Accepted<'_>,
+    d: Accepted<'_>,
     table: &mut [u64],
 ) -> Result<Option<Unheld>, Refusal>
-    requires { Ruled (under exclusions.pairs.now) × (reading_of Schema.Description 1 c.now ≡ Ok n) × (reading_of Schema.Description 2 d.now ≡ Ok m) }
-    ensures { Judges (under exclusions.entry.pairs.now) c.now d.now table.old result table.new }
+    requires { Ruled (under exclusions.pairs.now) }
+    ensures { Judges (under exclusions.entry.pairs.now) c.entry.bytes.now d.entry.bytes.now table.old result table.new }
 {
-    if table.len() <= n {
+    if table.len() <= c.total {
         return Err(Refusal {
             cause: Cause::Room,
             input: 0,
             place: 0,
         });
     }
-    if n < 64 && m < 64 {
-        return judge::<64, 251>(exclusions, c, n, d, m, table);
+    if c.total < 64 && d.total < 64 {
+        return judge::<64, 251>(exclusions, c, d, table);
     }
-    if n < 253 && m < 253 {
-        return judge::<253, 4093>(exclusions, c, n, d, m, table);
+    if c.total < 253 && d.total < 253 {
+        return judge::<253, 4093>(exclusions, c, d, table);
     }
-    judge::<1009, 4093>(exclusions, c, n, d, m, table)
+    judge::<1009, 4093>(exclusions, c, d, table)
 }
 
-// Reads the second description, where the first is accepted, with n entries.
+// Reads the second description, where the first is accepted.
 fn second_failing(
     exclusions: Exclusions<'_>,
-    c: &[u8],
-    n: usize,
+    c: Accepted<'_>,
     d: &[u8],
     table: &mut [u64],
 ) -> Result<Option<Unheld>, Refusal>
-    requires { Ruled (under exclusions.pairs.now) × (reading_of Schema.Description 1 c.now ≡ Ok n) }
-    ensures { Judges (under exclusions.entry.pairs.now) c.now d.now table.old result table.new }
+    requires { Ruled (under exclusions.pairs.now) }
+    ensures { Judges (under exclusions.entry.pairs.now) c.entry.bytes.now d.now table.old result table.new }
 {
     let m = reading::read(d, Schema::Description, 2)?;
-    judge_read(exclusions, c, n, d, usize::from(m), table)
+    let second = Accepted {
+        bytes: d,
+        total: usize::from(m),
+    };
+    judge_read(exclusions, c, second, table)
 }
 
 // Reads the first description, under a list of pairs that is accepted and indexed.
@@ -169,7 +164,11 @@ fn failing_indexed(
     ensures { Judges (under exclusions.entry.pairs.now) c.now d.now table.old result table.new }
 {
     let n = reading::read(c, Schema::Description, 1)?;
-    second_failing(exclusions, c, usize::from(n), d, table)
+    let first = Accepted {
+        bytes: c,
+        total: usize::from(n),
+    };
+    second_failing(exclusions, first, d, table)
 }
 
 // The same where the list is accepted.

@@ -1,32 +1,36 @@
 // The slots of a description, built and settled, in tables that the caller lends.
 ghost use Rattle.std.specs.Prelude.{◌≡◌, ◌<◌, ◌≤◌, length};
-ghost use Rattle.blocks.specs.Reading.{reading_of};
 ghost use Rattle.pairs.specs.Pairs.{pair_count, under};
-ghost use Rattle.slots.specs.code.Tables.{Blank, Chained, Exact, Readable, Settled, Workspace};
+ghost use Rattle.slots.specs.code.Lent.{ChainedIn, Ready, SameTables};
+ghost use Rattle.slots.specs.code.Tables.{Blank, Exact, Settled};
 ghost use Rattle.slots.specs.code.Standing.{FilledBy, Fills, bad_after, full_after, room_in, slotting_of, table_after};
 
+use crate::accepted::Accepted;
 use crate::build::build;
 use crate::restrict::restrict_slots;
 use crate::settle::settle;
+use crate::workspace::Workspace;
 use blocks::{Cause, Refusal, Schema};
 use pairs::{Exclusions, INDEX_BYTES};
 
-// The slots of a description with `total` entries, settled, with the chains that find them; returns their number.
+// The slots of a description, settled, with the chains that find them; returns their number. Each table of the workspace
+// has a name first: several are lent to one pass.
 pub(crate) fn chained_slots<const BUCKETS: usize>(
     exclusions: Exclusions<'_>,
-    d: &[u8],
-    total: usize,
+    d: Accepted<'_>,
     table: &mut [u64],
-    next: &mut [u16],
-    head: &mut [u16; BUCKETS],
-    node: &mut [u16],
-    bad: &mut [u8],
-    full: &mut [u8],
+    work: &mut Workspace<'_, BUCKETS>,
 ) -> usize
-    requires { Readable d.now total × (total < length table.old) × Workspace total next.old head.old node.old × Blank total bad.old × Blank total full.old }
-    ensures { Chained (under exclusions.entry.pairs.now) d.now result table.old table.new next.new head.new bad.new full.new }
+    requires { (BUCKETS ≤ 4093) × (d.total < length table.old) × Ready d.total work.old }
+    ensures chained { ChainedIn (under exclusions.entry.pairs.now) d.entry.bytes.now result table.old table.new work.new }
+    ensures same { SameTables work.old work.new }
 {
-    let used = build(d, total, table, next, head, node);
+    let next = &mut *work.next;
+    let head = &mut *work.head;
+    let node = &mut *work.node;
+    let bad = &mut *work.bad;
+    let full = &mut *work.full;
+    let used = build(d.bytes, d.total, table, next, head, node);
     restrict_slots(exclusions, table, next, head, used);
     settle(table, bad, full, used);
     used
@@ -35,58 +39,63 @@ pub(crate) fn chained_slots<const BUCKETS: usize>(
 // The slots of a description of fewer than N entries, settled, with tables of their own for what only the passes need.
 fn settled_within<const N: usize, const BUCKETS: usize>(
     exclusions: Exclusions<'_>,
-    d: &[u8],
-    total: usize,
+    d: Accepted<'_>,
     table: &mut [u64],
     bad: &mut [u8],
     full: &mut [u8],
 ) -> usize
-    requires { Readable d.now total × (total < N) × (N ≤ 1009) × (61 ≤ BUCKETS) × (BUCKETS ≤ 4093) × (total < length table.old) × Blank total bad.old × Blank total full.old }
-    ensures { Settled (under exclusions.entry.pairs.now) d.now result table.new bad.new full.new × Exact table.old table.new result }
+    requires { (d.total < N) × (N ≤ 1009) × (61 ≤ BUCKETS) × (BUCKETS ≤ 4093)
+        × (d.total < length table.old) × Blank d.total bad.old × Blank d.total full.old }
+    ensures { Settled (under exclusions.entry.pairs.now) d.entry.bytes.now result table.new bad.new full.new
+        × Exact table.old table.new result }
 {
     let mut next = [0u16; N];
     let mut head = [0u16; BUCKETS];
     let mut node = [0u16; N];
-    chained_slots(
-        exclusions, d, total, table, &mut next, &mut head, &mut node, bad, full,
-    )
+    let mut work = Workspace {
+        next: &mut next,
+        head: &mut head,
+        node: &mut node,
+        bad,
+        full,
+    };
+    chained_slots(exclusions, d, table, &mut work)
 }
 
-// The slots of a description with `total` entries, settled; returns their number. Those of one block, and of four, take smaller tables, which
+// The slots of a description, settled; returns their number. Those of one block, and of four, take smaller tables, which
 // are sooner cleared.
 fn settled_slots(
     exclusions: Exclusions<'_>,
-    d: &[u8],
-    total: usize,
+    d: Accepted<'_>,
     table: &mut [u64],
     bad: &mut [u8],
     full: &mut [u8],
 ) -> usize
-    requires { Readable d.now total × (total < length table.old) × Blank total bad.old × Blank total full.old }
-    ensures { Settled (under exclusions.entry.pairs.now) d.now result table.new bad.new full.new × Exact table.old table.new result }
+    requires { (d.total < length table.old) × Blank d.total bad.old × Blank d.total full.old }
+    ensures { Settled (under exclusions.entry.pairs.now) d.entry.bytes.now result table.new bad.new full.new
+        × Exact table.old table.new result }
 {
-    if total < 64 {
-        return settled_within::<64, 251>(exclusions, d, total, table, bad, full);
+    if d.total < 64 {
+        return settled_within::<64, 251>(exclusions, d, table, bad, full);
     }
-    if total < 253 {
-        return settled_within::<253, 4093>(exclusions, d, total, table, bad, full);
+    if d.total < 253 {
+        return settled_within::<253, 4093>(exclusions, d, table, bad, full);
     }
-    settled_within::<1009, 4093>(exclusions, d, total, table, bad, full)
+    settled_within::<1009, 4093>(exclusions, d, table, bad, full)
 }
 
-// Fills the tables with the slots of an accepted description with `total` entries; or 7 where one of them is too short for it.
+// Fills the tables with the slots of an accepted description; or 7 where one of them is too short for it.
 fn fill_accepted(
     exclusions: Exclusions<'_>,
-    d: &[u8],
-    total: usize,
+    d: Accepted<'_>,
     table: &mut [u64],
     bad: &mut [u8],
     full: &mut [u8],
 ) -> Result<u16, Refusal>
-    requires { reading_of Schema.Description 1 d.now ≡ Ok total }
-    ensures { Fills (under exclusions.entry.pairs.now) d.now table.old bad.old full.old result table.new bad.new full.new }
+    ensures { Fills (under exclusions.entry.pairs.now) d.entry.bytes.now table.old bad.old full.old result
+        table.new bad.new full.new }
 {
-    if table.len().min(bad.len().min(full.len())) <= total {
+    if table.len().min(bad.len().min(full.len())) <= d.total {
         return Err(Refusal {
             cause: Cause::Room,
             input: 0,
@@ -95,7 +104,7 @@ fn fill_accepted(
     }
     bad.fill(0);
     full.fill(0);
-    Ok(settled_slots(exclusions, d, total, table, bad, full) as u16)
+    Ok(settled_slots(exclusions, d, table, bad, full) as u16)
 }
 
 // The same for any description, under a list of pairs that is accepted and indexed.
@@ -109,7 +118,11 @@ fn fill_indexed(
     ensures { Fills (under exclusions.entry.pairs.now) d.now table.old bad.old full.old result table.new bad.new full.new }
 {
     let n = reading::read(d, Schema::Description, 1)?;
-    fill_accepted(exclusions, d, usize::from(n), table, bad, full)
+    let accepted = Accepted {
+        bytes: d,
+        total: usize::from(n),
+    };
+    fill_accepted(exclusions, accepted, table, bad, full)
 }
 
 // The same where the list is accepted.

@@ -11,6 +11,7 @@
 // The contracts cite specs/: Holding and Catalogue say what is answered; the others mirror the code. What slots are, on lists, is said in `passes`.
 #![tactic(auto)]
 
+mod accepted;
 mod build;
 mod catalogue;
 mod containment;
@@ -22,6 +23,7 @@ mod service;
 mod settle;
 mod slots;
 mod states;
+mod workspace;
 
 pub use catalogue::judge_list;
 pub use containment::contained_table;

@@ -66,7 +66,26 @@ pub(crate) struct Slots<'a, const BUCKETS: usize> {
     ghost hashed: { length head.now ≡ BUCKETS },
 }
 
-impl<const BUCKETS: usize> Slots<'_, BUCKETS> {
+impl<'a, const BUCKETS: usize> Slots<'a, BUCKETS> {
+    // The slots that stand in these tables, which come apart until all of them are written.
+    pub(crate) fn of(
+        table: &'a [u64],
+        next: &'a [u16],
+        head: &'a [u16; BUCKETS],
+        used: usize,
+    ) -> Self
+        requires { Kept table.now next.now head.now used × (used ≤ 1008) }
+        ensures { (result.table.now ≡ table.now) × (result.next.now ≡ next.now) × (result.head.now ≡ head.now)
+            × (result.used ≡ used) }
+    {
+        Slots {
+            table,
+            next,
+            head,
+            used,
+        }
+    }
+
     // The slot of a key. A chain that holds all 1,008 slots costs some microseconds a look, which only keys chosen for it reach.
     pub(crate) fn search(self, key: u64) -> Option<usize>
         ensures { (unwrap_or result 0 ≡ last_where (λ j. key_in (get_or self.entry.table.now j 0)) key self.entry.used) × IfSome result (λ s. 1 ≤ s) }

@@ -19,7 +19,7 @@ use Rattle.logic.specs.Place.{kind_of}
 use Rattle.meaning.specs.Description.{row_of}
 use Rattle.meaning.specs.Owned.{Owned}
 use Rattle.passes.specs.code.Slots.{at_top, build, high, is_link, leading, low, position, slots, tighten}
-use Rattle.slots.specs.code.Tables.{Blank, Building, Built, Entered, Exact, Kept, Nodes, Workspace, built_slots, hash_of, high_in, high_kind, key_in, leads_to, link_kind, low_kind, slots_from, slots_in}
+use Rattle.slots.specs.code.Tables.{Blank, Building, Built, Entered, Exact, Kept, Nodes, Cleared, built_slots, hash_of, high_in, high_kind, key_in, leads_to, link_kind, low_kind, slots_from, slots_in}
 
 -- ---- kinds by number
 
@@ -191,7 +191,7 @@ kept-starts {t} {next} {head} e f g m =
 nodes-start : {k : ℕ} {node : List ℕ} → Blank k node → Nodes node 0
 nodes-start b = record { top = b.zero' 0; small = λ j. omega (arith, b.zero' j) }
 
-pub building-starts : {d t next head node : List ℕ} {total : ℕ} → total ≡ length (entries_of d) → total < length t → Workspace total next head node → Building d 0 0 t next head node
+pub building-starts : {d t next head node : List ℕ} {total : ℕ} → total ≡ length (entries_of d) → total < length t → Cleared total next head node → Building d 0 0 t next head node
 building-starts {d} {t} {next} {head} {node} e r w =
     record {
       few = omega arith;

@@ -1,11 +1,10 @@
 -- Laws of judging a list: a description that is sent, one service, the services in turn, the list, and what stands before it.
 -- Assumes nothing.
-use Prim.Native.Nat.{◌%◌, ◌*◌, ◌+◌, ◌<◌, ◌≤◌, suc, ℕ}
+use Prim.Native.Nat.{◌*◌, ◌+◌, ◌<◌, ◌≤◌, suc, ℕ}
 use lib.Dec.{eqb}
 use mathlib.Core.Bool.{Bool}
 use lib.ListN.{length, set, take}
 use mathlib.Core.List.{List, [], ◌++◌, ◌∷◌, append_assoc, append-nil}
-use mathlib.Core.Logic.{◌≢◌}
 use mathlib.Core.Path.{◌∙◌, ◌≡◌, ap, refl, sym}
 use native.Mathlib.Omega.{arith}
 use Rattle.std.proofs.lemmas.List.{length_push}
@@ -31,7 +30,6 @@ use Rattle.blocks.specs.declared.Refusal.{Refusal}
 use Rattle.unfolding.proofs.BufferLaws.{at-buffer, buffer-plain, sent-itself, sent-plain}
 use Rattle.unfolding.proofs.CallLaws.{dictionary-goes, dictionary-stops}
 use Rattle.unfolding.specs.Answer.{unfold_at, unfolded_at}
-use Rattle.blocks.specs.declared.Cause.TheVariants.{Count, Length}
 
 -- ---- a description that is sent
 

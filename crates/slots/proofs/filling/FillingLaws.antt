@@ -28,19 +28,24 @@ use Rattle.passes.specs.code.Slots.{inconsistent, nonempty, settled}
 use Rattle.slots.proofs.FailingLaws.{accepted-few}
 use Rattle.slots.proofs.PassLaws.{blank-zeros}
 use Rattle.slots.specs.code.Standing.{FilledBy, FilledUnder, Fills, bad_after, bad_under, full_after, full_under, room_in, slots_stored, slotting_of, slotting_under, table_after, table_under}
-use Rattle.slots.specs.code.Tables.{Exact, Settled, Tabled, Workspace, high_in, high_number, high_part, key_in, low_part, marks_from, no_bound, slot_in, slot_number, slot_word, slots_from, slots_of}
+use Rattle.slots.specs.code.Tables.{Blank, Cleared, Exact, Settled, Tabled, high_in, high_number, high_part, key_in, low_part, marks_from, no_bound, slot_in, slot_number, slot_word, slots_from, slots_of}
 use Rattle.blocks.specs.declared.Cause.TheVariants.{Room}
 
 -- ---- cleared tables
 
-pub workspace-zeros : (n k m : ℕ) → n < k → 61 ≤ m → m ≤ 4093 → Workspace n (replicate k 0) (replicate m 0) (replicate k 0)
-workspace-zeros n k m h l b =
+pub cleared-zeros : (n k m : ℕ) → n < k → 61 ≤ m → m ≤ 4093 → Cleared n (replicate k 0) (replicate m 0) (replicate k 0)
+cleared-zeros n k m h l b =
     record {
       nexts = rw (length-replicate {A = ℕ} k 0) h;
       heads = blank-zeros 60 m (omega arith);
       most = rw (length-replicate {A = ℕ} m 0) b;
       nodes = blank-zeros n k h;
     }
+
+-- and what a workspace of such tables is told to be
+pub ready-zeros : (n k m : ℕ) → n < k → 61 ≤ m → m ≤ 4093
+    → Cleared n (replicate k 0) (replicate m 0) (replicate k 0) × Blank n (replicate k 0) × Blank n (replicate k 0)
+ready-zeros n k m h l b = (cleared-zeros n k m h l b, blank-zeros n k h, blank-zeros n k h)
 
 -- ---- a table of slots
 

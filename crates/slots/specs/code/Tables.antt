@@ -72,7 +72,7 @@ pub record Blank (k : ℕ) (l : List ℕ) : Type 0 where
 
 -- what the passes over n entries need beside the table of slots: numbers for the chains, whatever they are, a blank head for each bucket, of
 -- which there are 61 to 4,093, and a blank number for each entry
-pub record Workspace (n : ℕ) (next head node : List ℕ) : Type 0 where
+pub record Cleared (n : ℕ) (next head node : List ℕ) : Type 0 where
   pub nexts : n < length next
   pub heads : Blank 60 head
   pub most : length head ≤ 4093

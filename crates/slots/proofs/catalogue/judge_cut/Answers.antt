@@ -9,10 +9,10 @@ use Rattle.slots.proofs.catalogue.judge_cut.Goals as goal
 pub returns-in_err-count_services : goal.returns-in_err-count_services
 returns-in_err-count_services c =
     let p = err_from_is_err_and c.from_residual.result c.from_residual.ensures.1 in
-    rw (p.1, p.2) (list-refused c.args.exclusions.pairs.now (bytes_read c.args.names.read) c.args.c.now c.args.list.now c.args.answers.now (sym c.count_services.ensures ∙ c.in_err-count_services.was))
+    rw (p.1, p.2) (list-refused c.args.exclusions.pairs.now (bytes_read c.args.names.read) c.args.c.bytes.now c.args.list.now c.args.answers.now (sym c.count_services.ensures ∙ c.in_err-count_services.was))
 
 pub judge_all-requires : goal.judge_all-requires
-judge_all-requires c = (c.requires.0, c.requires.1, cut-few c.args.list.now (sym c.count_services.ensures ∙ c.in_ok-count_services.was))
+judge_all-requires c = (c.requires, cut-few c.args.list.now (sym c.count_services.ensures ∙ c.in_ok-count_services.was))
 
 pub returns : goal.returns
-returns c = list-judged c.args.exclusions.pairs.now (bytes_read c.args.names.read) c.args.c.now c.args.list.now c.args.answers.now (sym c.count_services.ensures ∙ c.in_ok-count_services.was) c.judge_all.ensures
+returns c = list-judged c.args.exclusions.pairs.now (bytes_read c.args.names.read) c.args.c.bytes.now c.args.list.now c.args.answers.now (sym c.count_services.ensures ∙ c.in_ok-count_services.was) c.judge_all.ensures

@@ -37,19 +37,26 @@ returns-in_err-m c =
     let r = stands (goal.at.returns-in_err-m c).After-unfold_into in
     rw (c.in-Some.is, p.1, p.2) (λ s H. service-refused c.args.supplier.exclusions.pairs.now D.bytes.now D.accepted s c.args.input c.args.d.now r.0 c.in_err-m.was)
 
-pub shared_ref_as_front-judge : goal.shared_ref_as_front-judge
-shared_ref_as_front-judge c =
-    let r = stands (goal.at.shared_ref_as_front-judge c).After-unfold_into in
+pub shared_ref_as_front-service : goal.shared_ref_as_front-service
+shared_ref_as_front-service c =
+    let r = stands (goal.at.shared_ref_as_front-service c).After-unfold_into in
     let e = sym r.0 ∙ c.in_ok-m.was in
     omega (arith, c.bytes_for-end.ensures.0, blocks-room _ (unfolded-few c.in-Some.dictionary.bytes.now c.args.input c.args.d.now e))
+
+pub invariant_of-service : goal.invariant_of-service
+invariant_of-service c =
+    let D = c.in-Some.dictionary.bytes.now in
+    let r = stands (goal.at.invariant_of-service c).After-unfold_into in
+    let same = r.1 _ _ c.in_ok-m.was c.bytes_for-end.ensures.0 in
+    let p = (sent-accepted D c.args.input c.args.d.now (sym r.0 ∙ c.in_ok-m.was) 1).0 in
+    record { read = ap (reading_of Description 1) same ∙ p ∙ ap Ok (sym c.from.ensures) }
 
 pub judge-failing-requires : goal.judge-failing-requires
 judge-failing-requires c =
     let D = c.in-Some.dictionary.bytes.now in
     let r = stands (goal.at.judge-failing-requires c).After-unfold_into in
-    let same = r.1 _ _ c.in_ok-m.was c.bytes_for-end.ensures.0 in
-    let p = (sent-accepted D c.args.input c.args.d.now (sym r.0 ∙ c.in_ok-m.was) 2).0 in
-    (omega arith, (ap (reading_of Description 2) same ∙ p ∙ ap Ok (sym c.from.ensures), omega (arith, c.from.ensures, (accepted-few 2 _ p).1)))
+    let p = (sent-accepted D c.args.input c.args.d.now (sym r.0 ∙ c.in_ok-m.was) 1).0 in
+    (omega arith, omega (arith, c.from.ensures, (accepted-few 1 _ p).1))
 
 pub returns : goal.returns
 returns c =

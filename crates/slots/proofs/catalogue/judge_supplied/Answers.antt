@@ -24,11 +24,11 @@ stands c =
     let u = c.unfold_into.ensures in
     read-buffered c.in-Some.dictionary.bytes.now 1 c.args.c.now (rw c.in-Some.is at c.args.names.some) _ (omega arith) u.0 u.1
 
-pub judge_cut-requires : goal.judge_cut-requires
-judge_cut-requires c =
+pub invariant_of-sent : goal.invariant_of-sent
+invariant_of-sent c =
     let e = sym (read-nameless 1 c.args.c.now c.read.ensures) ∙ c.in_ok-n.was in
     let same = sym (sent-itself [] c.args.c.now refl) in
-    (c.requires, ap (reading_of Description 1) same ∙ (sent-accepted [] 1 c.args.c.now e 1).0 ∙ ap Ok (sym c.from.ensures))
+    record { read = ap (reading_of Description 1) same ∙ (sent-accepted [] 1 c.args.c.now e 1).0 ∙ ap Ok (sym c.from.ensures) }
 
 pub returns-in_default : goal.returns-in_default
 returns-in_default c =
@@ -60,15 +60,15 @@ ends c =
 pub slice_bounds-buffer-end : goal.slice_bounds-buffer-end
 slice_bounds-buffer-end c = ends (goal.at.slice_bounds-buffer-end c).After-bytes_for-end
 
-pub slice_bounds-judge_cut-end : goal.slice_bounds-judge_cut-end
-slice_bounds-judge_cut-end c = sym (length-take-le c.bytes_for-end.result c.unfold_into.new.out (ends (goal.at.slice_bounds-judge_cut-end c).After-bytes_for-end))
+pub slice_bounds-unfolded-end : goal.slice_bounds-unfolded-end
+slice_bounds-unfolded-end c = sym (length-take-le c.bytes_for-end.result c.unfold_into.new.out (ends (goal.at.slice_bounds-unfolded-end c).After-bytes_for-end))
 
-pub judge_cut-requires-2 : goal.judge_cut-requires-2
-judge_cut-requires-2 c =
+pub invariant_of-unfolded : goal.invariant_of-unfolded
+invariant_of-unfolded c =
     let D = c.in-Some.dictionary.bytes.now in
-    let r = stands (goal.at.judge_cut-requires-2 c).After-unfold_into in
+    let r = stands (goal.at.invariant_of-unfolded c).After-unfold_into in
     let same = r.1 _ _ c.in_ok-n-2.was c.bytes_for-end.ensures.0 in
-    (c.requires, ap (reading_of Description 1) same ∙ (sent-accepted D 1 c.args.c.now (sym r.0 ∙ c.in_ok-n-2.was) 1).0 ∙ ap Ok (sym c.from-2.ensures))
+    record { read = ap (reading_of Description 1) same ∙ (sent-accepted D 1 c.args.c.now (sym r.0 ∙ c.in_ok-n-2.was) 1).0 ∙ ap Ok (sym c.from-2.ensures) }
 
 pub returns : goal.returns
 returns c =

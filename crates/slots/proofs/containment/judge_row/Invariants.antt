@@ -1,6 +1,6 @@
 -- `judge_row` meets its contract: the bytes of the services passed stand in the table.
-use Prim.Native.Nat.{◌≤◌, ℕ}
-use lib.ListN.{length, take}
+use Prim.Native.Nat.{ℕ}
+use lib.ListN.{take}
 use mathlib.Core.List.{List, map}
 use mathlib.Core.Path.{◌≡◌}
 use Rattle.base.specs.Stores.{stored}

@@ -1,6 +1,5 @@
 -- `judge_services` meets its contract: the list is cut, its services are read, and their rows are stored.
 use mathlib.Core.Path.{◌∙◌, sym}
-use native.Mathlib.Omega.{arith}
 use Rattle.std.proofs.lemmas.Result.{err_from_is_err_and}
 use Rattle.slots.proofs.CutLaws.{cut-few}
 use Rattle.slots.proofs.ContainmentLaws.{list-cut, services-refused, services-tabled}

@@ -1,26 +1,35 @@
 -- `slot_row_within` meets its contract: its own tables are cleared and long enough, and the slots of the service then stand in them.
+use borrow.Author.Rules.{rules}
 use lib.ListN.{length-replicate}
 use Prim.Native.Nat.{◌<◌, ℕ}
-use mathlib.Core.Path.{◌∙◌, ap}
 use native.Mathlib.Omega.{arith}
-use Rattle.blocks.specs.Reading.{reading_of}
-use Rattle.blocks.specs.declared.Schema.TheVariants.{Description}
-use Rattle.slots.proofs.FailingLaws.{accepted-few}
-use Rattle.slots.proofs.PassLaws.{blank-zeros}
-use Rattle.slots.proofs.filling.FillingLaws.{workspace-zeros}
+use Rattle.slots.proofs.LentAgain.{kept-again}
+use Rattle.slots.proofs.filling.FillingLaws.{ready-zeros}
 use Rattle.slots.proofs.containment.slot_row_within.Goals as goal
 
 pub chained_slots-used-requires : goal.chained_slots-used-requires
 chained_slots-used-requires g c =
     let a = c.requires in
-    let few = accepted-few 2 _ (ap (reading_of Description 2) c.part.ensures ∙ c.total.ensures.1) in
-    let short : c.total.result < g.row.N = omega (arith, a.2, c.total.ensures.0) in (
+    let short : c.get.result.total < g.row.N = omega (arith, a.2, c.get.ensures.1) in (
       omega arith,
       (
-        few,
+        a.5,
         omega (arith, short, length-replicate {A = ℕ} g.row.N 0),
-        workspace-zeros _ g.row.N g.row.BUCKETS short a.4 a.5,
-        blank-zeros _ g.row.N short,
-        blank-zeros _ g.row.N short,
+        ready-zeros _ g.row.N g.row.BUCKETS short a.4 a.5,
       ),
     )
+
+pub bounds-work-0 : goal.bounds-work-0
+bounds-work-0 g c = omega (arith, c.chained_slots-used.ensures.same.5, length-replicate {A = ℕ} g.row.N 0, c.requires.2)
+
+pub of-slots-requires : goal.of-slots-requires
+of-slots-requires g c =
+    let s = c.chained_slots-used.ensures.chained in
+    (omega arith, (omega arith, (kept-again s.kept (search rules) (search rules), s.settled'.tabled.few)))
+
+pub returns : goal.returns
+returns g c =
+    let s = c.chained_slots-used.ensures.chained in
+    let r = c.of-slots.ensures in
+    let held = c.new-supplier.ensures.held _ _ (rw (r.0, r.3) s.settled'.tabled) (s.settled'.bads 0) in
+    rw (← c.get.ensures.0) ((rw c.new-supplier.ensures.same.0 at c.judge_row.ensures) _ held)

@@ -1,28 +1,32 @@
 -- `judge` meets its contract: its own tables are cleared and long enough, and what is found by the slots of the first is answered.
+use Prim.Native.Nat.{ℕ}
+use lib.ListN.{length-replicate}
 use native.Mathlib.Omega.{arith}
-use Rattle.slots.proofs.FailingLaws.{accepted-few}
-use Rattle.slots.proofs.PassLaws.{blank-zeros}
+use borrow.Author.Rules.{rules}
+use Rattle.blocks.specs.declared.Schema.TheVariants.{Description}
+use Rattle.names.proofs.Legality.AcceptedReadings.{any-input}
+use Rattle.slots.proofs.LentAgain.{kept-again}
 use Rattle.slots.proofs.failing.JudgingLaws.{judging-found}
-use Rattle.slots.proofs.filling.FillingLaws.{workspace-zeros}
+use Rattle.slots.proofs.filling.FillingLaws.{ready-zeros}
 use Rattle.slots.proofs.failing.judge.Goals as goal
 
 pub chained_slots-used-requires : goal.chained_slots-used-requires
 chained_slots-used-requires g c =
-    let a = c.requires in
-    let few = accepted-few 1 _ a.1 in (
-      omega arith,
-      (
-        few,
-        a.3,
-        workspace-zeros _ _ _ a.4 a.7 a.8,
-        blank-zeros _ _ a.4,
-        blank-zeros _ _ a.4,
-      ),
-    )
+    let a = c.requires in (omega arith, (a.6, a.1, ready-zeros _ _ _ a.2 a.5 a.6))
+
+pub bounds-work-0 : goal.bounds-work-0
+bounds-work-0 g c = omega (arith, c.chained_slots-used.ensures.same.5, length-replicate {A = ℕ} g.row.N 0, c.requires.2)
+
+pub of-slots-requires : goal.of-slots-requires
+of-slots-requires g c =
+    let s = c.chained_slots-used.ensures.chained in
+    (omega arith, (omega arith, (kept-again s.kept (search rules) (search rules), s.settled'.tabled.few)))
 
 pub returns : goal.returns
 returns g c =
     let a = c.requires in
-    let s = c.chained_slots-used.ensures in
-    let held = c.new-supplier.ensures.held _ _ s.settled'.tabled (s.settled'.bads 0) in
-    judging-found a.0.lawful _ a.1 a.2 a.3 s ((rw c.new-supplier.ensures.list at c.judge-e.ensures.2) _ held.1) c.answer_of.ensures
+    let s = c.chained_slots-used.ensures.chained in
+    let r = c.of-slots.ensures in
+    let held = c.new-supplier.ensures.held _ _ (rw (r.0, r.3) s.settled'.tabled) (s.settled'.bads 0) in
+    judging-found a.0.lawful _ c.args.c.read (any-input Description 1 2 _ c.args.d.read) a.1 s
+    ((rw c.new-supplier.ensures.same.0 at c.judge-e.ensures.2) _ held) c.answer_of.ensures

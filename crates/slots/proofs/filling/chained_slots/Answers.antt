@@ -3,30 +3,35 @@ use native.Mathlib.Omega.{arith}
 use Rattle.pairs.specs.Pairs.{under}
 use Rattle.passes.proofs.SlotLists.RestrictLaws.{under-early}
 use Rattle.passes.proofs.SlotLists.SlotLaws.{slots-early}
+use Rattle.slots.proofs.FailingLaws.{accepted-few}
 use Rattle.slots.proofs.PassLaws.{blank-less, built-placed, settled-from}
 use Rattle.slots.proofs.restrict.RestrictLaws.{built-restricted}
 use Rattle.slots.proofs.states.BoundLaws.{settled-exact, settled-kept}
 use Rattle.slots.proofs.filling.chained_slots.Goals as goal
 
+pub build-used-requires : goal.build-used-requires
+build-used-requires g c = let a = c.requires in (omega (arith, a.0), (accepted-few 1 _ c.args.d.read, a.1, a.2.0))
+
 pub restrict_slots-requires : goal.restrict_slots-requires
 restrict_slots-requires g c =
     let built = c.build-used.ensures in
-    let a = c.requires in
-    (omega (arith, a.2.most, c.told-head), (built.kept, omega (arith, built.few, a.0.0, a.0.1), built-placed (slots-early _) built))
+    let few = accepted-few 1 _ c.args.d.read in
+    (omega (arith, c.requires.0), (built.kept, omega (arith, built.few, few.0, few.1), built-placed (slots-early _) built))
 
 pub settle-requires : goal.settle-requires
 settle-requires g c =
     let a = c.requires in
+    let few = accepted-few 1 _ c.args.d.read in
     let r = built-restricted c.restrict_slots.ensures c.build-used.ensures in (
       r.kept.room,
       built-placed (under-early (under _) _) r,
-      blank-less (omega (arith, r.few, a.0.0)) a.3,
-      blank-less (omega (arith, r.few, a.0.0)) a.4,
+      blank-less (omega (arith, r.few, few.0)) a.2.1,
+      blank-less (omega (arith, r.few, few.0)) a.2.2,
     )
 
-pub returns : goal.returns
-returns g c =
-    let a = c.requires in
+pub returns-clause-chained : goal.returns-clause-chained
+returns-clause-chained g c =
+    let few = accepted-few 1 _ c.args.d.read in
     let r = built-restricted c.restrict_slots.ensures c.build-used.ensures in
     let s = c.settle.ensures in
-    record { settled' = settled-from r s (omega (arith, a.0.0, a.0.1)); exact = settled-exact r.exact s; kept = settled-kept r.kept s }
+    record { settled' = settled-from r s (omega (arith, few.0, few.1)); exact = settled-exact r.exact s; kept = settled-kept r.kept s }
