@@ -13,8 +13,8 @@ use Rattle.blocks.specs.declared.Schema.TheVariants.{Description}
 use Rattle.narrow.specs.Profile.{InProfile, Sheet}
 use Rattle.sheets.specs.Sheet.{sheet_reading}
 
--- entry p of s is the lowest outside the profile, and no other line applies to the blocks, to an entry before it, or to
--- itself
+-- [W4] entry p of s is the lowest outside the profile, and no other line applies to the blocks, to an entry before it,
+-- or to itself
 pub record LowestOutside (s : List ℕ) (p : ℕ) : Type 0 where
   pub low : 1 ≤ p
   pub high : p ≤ length (entries_of s)
@@ -26,10 +26,10 @@ pub record LowestOutside (s : List ℕ) (p : ℕ) : Type 0 where
 
 -- what reading s as a sheet answers
 pub record SheetRead (s : List ℕ) : Type 0 where
-  -- it is accepted exactly where it is as a description, with as many entries, and each is in the profile
+  -- [W2] it is accepted exactly where it is as a description, with as many entries, and each is in the profile
   pub accepted : (n : ℕ) → (sheet_reading s ≡ Ok n) ↔ ((reading_of Description 1 s ≡ Ok n) × Sheet (entries_of s))
-  -- any refusal but 19 is that of the description
+  -- [W3] any refusal but 19 is that of the description
   pub others : (k : Cause) (i p : ℕ) → k ≢ Profile → sheet_reading s ≡ refused k i p
       → reading_of Description 1 s ≡ refused k i p
-  -- it is refused with 19 exactly at the lowest entry outside the profile, where no line applies sooner
+  -- [R19, W4] it is refused with 19 exactly at the lowest entry outside the profile, where no line applies sooner
   pub outside : (i p : ℕ) → (sheet_reading s ≡ refused Profile i p) ↔ ((i ≡ 1) × LowestOutside s p)
