@@ -90,16 +90,16 @@
  *
  *     gx_read_description    2,232 bytes
  *     gx_read_specimen      26,568 bytes
- *     gx_fit                57,544 bytes
- *     gx_fit_counted        57,496 bytes
- *     gx_normal             56,664 bytes
- *     gx_compare            53,896 bytes
+ *     gx_fit                50,248 bytes
+ *     gx_fit_counted        50,200 bytes
+ *     gx_normal             56,760 bytes
+ *     gx_compare            53,992 bytes
  *     gx_unfold             22,008 bytes
- *     gx_fit_with           66,904 bytes
- *     gx_normal_with        65,992 bytes
- *     gx_compare_with       71,480 bytes
- *     gx_catalogue          65,288 bytes
- *     gx_hierarchy          32,552 bytes
+ *     gx_fit_with           59,608 bytes
+ *     gx_normal_with        66,088 bytes
+ *     gx_compare_with       71,576 bytes
+ *     gx_catalogue          65,400 bytes
+ *     gx_hierarchy          32,632 bytes
  *
  * The library calls memset and memcpy; a program that binds them at their first call took up to 1,072 bytes more there. A
  * thread with 128 KiB of stack has room for each call.
