@@ -10,5 +10,5 @@ mod reader;
 mod rules;
 mod single;
 
-pub use reader::{read, read_blocks, read_description, read_specimen};
+pub use reader::{read, read_blocks, read_description, read_specimen, read_stored_blocks};
 pub use rules::{entry_refusal, level_under, owner_level};
