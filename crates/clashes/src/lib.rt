@@ -7,5 +7,7 @@
 mod clash;
 mod given;
 mod reader;
+mod sound;
 
 pub use reader::read_specimen;
+pub use sound::SoundBlocks;
