@@ -7,7 +7,7 @@ use mathlib.Core.Logic.{◌⊎◌, inl, inr}
 use mathlib.Core.Path.{◌∙◌, ◌≡◌, ap, sym}
 use native.Mathlib.Omega.{arith}
 use Rattle.base.proofs.Tests.{ge-ltb, lt-cases, lt-ltb}
-use Rattle.blocks.proofs.Refusing.Readings.{reading-cases}
+use Rattle.blocks.proofs.Refusing.Readings.{reading-cases, readings-cases}
 use Rattle.blocks.proofs.RoundTrip.Accepting.{accepted-by-none, none-of-accepted, refused-by-first}
 use Rattle.blocks.specs.Entries.{entries_of}
 use Rattle.blocks.specs.Faults.{faults}
@@ -21,6 +21,7 @@ use Rattle.logic.specs.Background.{Background, standing}
 use Rattle.pairs.proofs.Under.{empty-read, empty-standing}
 use Rattle.meaning.specs.NormalEntries.{normal_entries}
 use Rattle.normal.specs.Answer.{normalise_of, normalise_under, normalised_of, normalised_under, output_after, returned}
+use Rattle.normal.specs.code.Formed.{form_reading, form_under}
 use Rattle.pairs.specs.Pairs.{pairs_reading, under}
 use Rattle.blocks.specs.declared.Cause.{Cause}
 use Rattle.blocks.specs.declared.Cause.TheVariants.{Room}
@@ -137,3 +138,29 @@ module _ (P d out : List ℕ) where
 -- [S11] an empty list is none
 pub empty-list : (d out : List ℕ) → (normalise_of [] d out ≡ normalise_under standing d out) × (normalised_of [] d out ≡ normalised_under standing d out)
 empty-list d out = (list_read [] d out empty-read ∙ rw empty-standing, list-output [] d out empty-read ∙ rw empty-standing)
+
+-- ---- by the rows of the normal form
+
+-- they are as many as the normal form has entries
+pub form-read : (P d : List ℕ) {n m : ℕ} → pairs_reading P ≡ Ok n → reading_of Description 1 d ≡ Ok m
+    → form_reading P d ≡ Ok (length (normal_entries (under P) (entries_of d)))
+unfolding form_reading form_under
+form-read P d l q = rw (form_reading, l, form_under, q)
+
+-- where they are refused, normalising is refused for the same reason, and the output stays
+pub form-refused : (P d out : List ℕ) {x : Refusal} → form_reading P d ≡ Err x → (normalise_of P d out ≡ Err x) × (normalised_of P d out ≡ out)
+unfolding form_reading form_under
+form-refused P d out {x} e =
+    readings-cases (pairs_reading P) (reading_of Description 1 d)
+    (λ k i p q.
+    let g : form_reading P d ≡ refused k i p = rw (form_reading, q) in
+    let r = list-refused P d out q in
+    (r ∙ sym g ∙ e, refused-unchanged P d out r))
+    (λ n k i p l q.
+    let g : form_reading P d ≡ refused k i p = rw (form_reading, l, form_under, q) in
+    let r = list_read P d out l ∙ input-refused (under P) d out q in
+    (r ∙ sym g ∙ e, refused-unchanged P d out r))
+    (λ n m l q.
+    let g = form-read P d l q in
+    let z : ◌≡◌ {A = ℕ} 0 1 = cc in
+    absurd (omega arith))

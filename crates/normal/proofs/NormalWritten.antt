@@ -1,9 +1,9 @@
 -- The packed entries of a normal form, written to the output, give the output that the answer promises.
 -- Assumes nothing.
-use Prim.Native.Nat.{◌+◌, ◌≤◌, ℕ}
-use lib.ListN.{length, length-map, take}
+use Prim.Native.Nat.{◌+◌, ◌<◌, ◌≤◌, ℕ}
+use lib.ListN.{length, length-append, length-map, take}
 use lib.Seq.{length-take-le, take_all}
-use mathlib.Core.List.{List, [], ◌∷◌, map}
+use mathlib.Core.List.{List, [], ◌++◌, ◌∷◌, map}
 use mathlib.Core.Path.{◌∙◌, ◌≡◌, ap, refl, sym}
 use native.Mathlib.Omega.{arith}
 use Rattle.base.proofs.Tests.{le-leb, leb-self}
@@ -17,20 +17,28 @@ use Rattle.blocks.specs.declared.Schema.TheVariants.{Description}
 use Rattle.logic.specs.Background.{Background, LawfulBackground}
 use Rattle.logic.specs.Layout.{write}
 use Rattle.logic.specs.Normal.{nf}
-use Rattle.logic.specs.Place.{Atom, Place}
+use Rattle.logic.specs.Place.{Atom}
 use Rattle.logic.specs.Tree.{Row}
 use Rattle.meaning.proofs.NormalForms.NormalEntriesLaws.{normal-fewer}
 use Rattle.meaning.proofs.NormalForms.NormalLegal.{normal-bounded}
 use Rattle.meaning.specs.Description.{place_of}
 use Rattle.meaning.specs.NormalEntries.{normal_entries}
 use Rattle.meaning.specs.RowEntries.{row_entry}
-use Rattle.normal.proofs.AnswerLaws.{Ready, normalised}
+use Rattle.normal.proofs.AnswerLaws.{Ready, form-read, list-output, list_read, normalised, refused-unchanged, too_short}
 use Rattle.normal.proofs.PromiseKept.{form-room}
 use Rattle.normal.proofs.emit.PushLaws.{pushed-total}
 use Rattle.normal.proofs.tables.PassRows.{front_length, front-settled, rows_few, rows-normal}
-use Rattle.normal.specs.Answer.{normalise_under, normalised_under, output_after}
+use Rattle.normal.specs.Answer.{normalise_of, normalise_under, normalised_of, normalised_under, output_after}
+use Rattle.normal.specs.code.Formed.{FormHeld, FormRows, form_reading}
+use Rattle.blocks.specs.Reading.{Reading}
+use Rattle.blocks.specs.Refusals.{refused}
+use Rattle.blocks.specs.declared.Cause.TheVariants.{Room}
+use Rattle.pairs.proofs.Under.{ruled-under}
+use Rattle.pairs.specs.Pairs.{under}
+use Rattle.pairs.specs.Promise.{ListRead}
+use Rattle.std.proofs.lemmas.List.{take-append-le}
 use Rattle.normal.specs.code.Emitted.{Lent, Pushed, Roomy, row_number, table_rows}
-use Rattle.std.specs.Prelude.{Ok}
+use Rattle.std.specs.Prelude.{Err, Ok}
 use Rattle.slots.proofs.PassLaws.{all-bounded}
 use Rattle.slots.specs.code.Standing.{Standing}
 use Rattle.slots.specs.code.TablePlaces.{used_in}
@@ -51,13 +59,11 @@ module _ {b : Background} (law : LawfulBackground b) (d out : List ℕ) (r : Rea
   abbrev form : List Entry
   form = normal_entries b (entries_of d)
 
-  -- a table whose first n numbers are the packed rows of the normal form: as many are written as were answered, and they are its blocks
-  pub normal-written : (rows : List ℕ) (n : ℕ) → n ≤ length rows → take n rows ≡ map row_number (write (nf b (place_of (entries_of d) 0)))
+  -- a table whose first n numbers are the packed entries of the normal form: as many are written as were answered, and they are its blocks
+  pub normal-written : (rows : List ℕ) (n : ℕ) → n ≤ length rows → take n rows ≡ map packed form
       → (normalise_under b d out ≡ Ok n) × (written out rows n ≡ normalised_under b d out)
-  unfolding normal_entries normalised_under
-  normal-written rows n h e =
-      let t : Place = nf b (place_of (entries_of d) 0) in
-      let packs : take n rows ≡ map packed form = e ∙ rows-packed (write t) in
+  unfolding normalised_under
+  normal-written rows n h packs =
       let size : n ≡ length form = sym (length-take-le n rows h) ∙ ap length packs ∙ length-map form packed in
       let input = sound-of-accepted Description 1 d r.read in
       let bound = normal-bounded b (entries_of d) input.entries small (omega (arith, entries-limit input.blocks)) in
@@ -66,6 +72,44 @@ module _ {b : Background} (law : LawfulBackground b) (d out : List ℕ) (r : Rea
         written-front out rows n h ∙ ap (λ (q : List ℕ). written out q n) packs ∙ ap (written out (map packed form)) size
             ∙ written-encodes out form bound few (form-room law d out r) ∙ sym (ap (output_after b d out) (normalised b d out r)),
       )
+
+-- rows that stand in a table are written as answered
+pub form-written : {P d rows : List ℕ} {k : ℕ} (out : List ℕ) → FormRows P d k rows → length d ≤ length out
+    → (normalise_of P d out ≡ Ok k) × (written out rows k ≡ normalised_of P d out)
+form-written {P} {d} {rows} {k} out F l =
+    let r : Ready d out = record { total = F.total; read = F.read; room = l } in
+    let law = (ruled-under P F.list.list_read).lawful in
+    let w = normal-written law d out r (all-bounded d F.bounded) rows k F.room F.held in
+    (list_read P d out F.list.list_read ∙ w.0, w.1 ∙ sym (list-output P d out F.list.list_read))
+
+-- into an output that is shorter, nothing
+pub form-short : {P d rows : List ℕ} {k : ℕ} (out : List ℕ) → FormRows P d k rows → length out < length d
+    → (normalise_of P d out ≡ refused Room 0 0) × (normalised_of P d out ≡ out)
+form-short {P} {d} out F l =
+    let e = list_read P d out F.list.list_read ∙ too_short (under P) d out F.read l in
+    (e, refused-unchanged P d out e)
+
+-- they are as many as were answered
+pub form_counted : {P d rows : List ℕ} {k : ℕ} → FormRows P d k rows → form_reading P d ≡ Ok k
+form_counted {P} {d} {rows} {k} F =
+    form-read P d F.list.list_read F.read
+    ∙ ap Ok (sym (length-map (normal_entries (under P) (entries_of d)) packed) ∙ ap length (sym F.held) ∙ length-take-le k rows F.room)
+
+-- and stand in a table that has more
+pub form-front : {P d rows : List ℕ} {k : ℕ} (more : List ℕ) → FormRows P d k rows → FormRows P d k (rows ++ more)
+form-front {rows = rows} {k = k} more F =
+    record {
+      list = F.list;
+      total = F.total;
+      read = F.read;
+      bounded = F.bounded;
+      room = omega (arith, F.room, length-append rows more);
+      held = take-append-le k rows more F.room ∙ F.held;
+    }
+
+pub held-front : (P d : List ℕ) (r : Reading) (rows more : List ℕ) → FormHeld P d r rows → FormHeld P d r (rows ++ more)
+held-front P d (Ok k) rows more F = form-front more F
+held-front P d (Err e) rows more F = tt
 
 -- ---- an accepted description, whose slots stand in the tables
 
@@ -113,8 +157,15 @@ module _ {b : Background} (law : LawfulBackground b) {d : List ℕ} {used : ℕ}
     pub rows-held : {last before order rows₀ below : List ℕ} → Roomy d t bad full last before order rows₀ below → r ≤ length rows₀
     rows-held R = omega (arith, pushed-total (table_rows front bad full) P, standing-few R)
 
-    -- they are written as answered
-    pub rows_written : (out : List ℕ) → r ≤ w → length d ≤ length out → (normalise_under b d out ≡ Ok r) × (written out rows r ≡ normalised_under b d out)
-    rows_written out m l =
-        normal-written law d out (record { total = S.total; read = S.read; room = l }) (all-bounded d S.slots-settled.tabled.bounded) rows r (omega (arith, m, P.size))
-        (P.held ∙ ap (map row_number) rows_are)
+    -- they are those of the normal form
+    pub rows-stand : {P : List ℕ} → b ≡ under P → ListRead P → r ≤ w → length rows ≡ w → FormRows P d r rows
+    unfolding normal_entries
+    rows-stand e l m z =
+        record {
+          list = l;
+          total = S.total;
+          read = S.read;
+          bounded = S.slots-settled.tabled.bounded;
+          room = omega (arith, m, z);
+          held = rw (← e) (P.held ∙ ap (map row_number) rows_are ∙ rows-packed (write (nf b (place_of (entries_of d) 0))));
+        }

@@ -15,15 +15,12 @@ use Rattle.std.specs.Prelude.{Err, Ok}
 use Rattle.blocks.specs.Refusals.{refused}
 use Rattle.blocks.specs.declared.Refusal.{Refusal}
 use Rattle.blocks.specs.declared.Schema.TheVariants.{Description}
-use Rattle.normal.proofs.AnswerLaws.{input-refused, list_read, list-refused}
-use Rattle.normal.specs.Answer.{normalise_of}
-use Rattle.pairs.proofs.Under.{ruled-under}
+use Rattle.normal.specs.code.Formed.{form_reading, form_under}
 use Rattle.pairs.specs.Pairs.{pairs_reading, under}
-use Rattle.pairs.specs.Promise.{ListRead}
-use Rattle.normal.specs.code.Emitted.{Roomy, Stands}
+use Rattle.normal.specs.code.Emitted.{Roomy}
 use Rattle.slots.proofs.FailingLaws.{accepted-few}
 use Rattle.slots.proofs.PassLaws.{blank-zeros}
-use Rattle.slots.specs.code.Standing.{Standing, room_in, slotting_of, slotting_under}
+use Rattle.slots.specs.code.Standing.{room_in, slotting_of, slotting_under}
 use Rattle.slots.specs.code.Tables.{slots_of}
 
 -- cleared tables of n rows and as many slots
@@ -61,25 +58,43 @@ module _ {d t bad full last before order rows below : List ℕ} (R : Roomy d t b
       → Roomy d t' bad' full' last before order rows below
   roomy-again e f g = record { entries = R.entries; slots-room = e ∙ R.slots-room; bad-room = f ∙ R.bad-room; full-room = g ∙ R.full-room; lent = R.lent }
 
+  -- a table of as many rows has room too
+  pub roomy-lent : {rows' : List ℕ} → length rows' ≡ length rows → Roomy d t bad full last before order rows' below
+  roomy-lent e =
+      let l = R.lent in
+      record {
+        entries = λ n a. omega (arith, R.entries n a, e);
+        slots-room = omega (arith, R.slots-room, e);
+        bad-room = omega (arith, R.bad-room, e);
+        full-room = omega (arith, R.full-room, e);
+        lent = record {
+          cleared = l.cleared;
+          lasts = omega (arith, l.lasts, e);
+          befores = omega (arith, l.befores, e);
+          orders = omega (arith, l.orders, e);
+          some-row = omega (arith, l.some-row, e);
+          few-rows = omega (arith, l.few-rows, e);
+          belows = rw e l.belows;
+        };
+      }
+
   -- where there is room, what is refused is refused by the list or by reading
-  pub roomy-refused : (P out : List ℕ) {r : Reading} {x : Refusal} → r ≡ slotting_of P (room_in t bad full) d → r ≡ Err x → normalise_of P d out ≡ Err x
-  unfolding slotting_of slotting_under
-  roomy-refused P out {r} {x} e f =
+  pub roomy-refused : (P : List ℕ) {r : Reading} {x : Refusal} → r ≡ slotting_of P (room_in t bad full) d → r ≡ Err x → form_reading P d ≡ Err x
+  unfolding slotting_of slotting_under form_reading form_under
+  roomy-refused P {r} {x} e f =
       let given : slotting_of P (room_in t bad full) d ≡ Err x = sym e ∙ f in
       readings-cases (pairs_reading P) (reading_of Description 1 d)
       (λ k i p q.
       let s : slotting_of P (room_in t bad full) d ≡ refused k i p = rw (slotting_of, q) in
-      list-refused P d out q ∙ sym s ∙ given)
+      let g : form_reading P d ≡ refused k i p = rw (form_reading, q) in
+      g ∙ sym s ∙ given)
       (λ n k i p l q.
       let s : slotting_of P (room_in t bad full) d ≡ refused k i p = rw (slotting_of, l, slotting_under, q) in
-      list_read P d out l ∙ input-refused (under P) d out q ∙ sym s ∙ given)
+      let g : form_reading P d ≡ refused k i p = rw (form_reading, l, form_under, q) in
+      g ∙ sym s ∙ given)
       (λ n m l q.
       let more : length (entries_of d) < room_in t bad full = omega (arith, R.entries m q, R.slots-room, R.bad-room, R.full-room, (accepted-few 1 d q).0) in
       let there : ltb (length (entries_of d)) (room_in t bad full) ≡ true = lt-ltb more in
       let s : slotting_of P (room_in t bad full) d ≡ Ok (length (slots_of (under P) d)) = rw (slotting_of, l, slotting_under, q, there) in
       let z : ◌≡◌ {A = ℕ} 0 1 = cc in
       absurd (omega arith))
-
--- tables that were filled hold the slots under some lawful background
-pub filled-stands : {P d t bad full : List ℕ} {used : ℕ} → ListRead P × Standing (under P) d used t bad full → Stands d used t bad full
-filled-stands {P} s = record { background = under P; lawful = (ruled-under P s.0.list_read).lawful; stands = s.1 }

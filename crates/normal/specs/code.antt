@@ -4,3 +4,5 @@
 pub mod ClassRuns
 -- The rows of a place as plain lists, and the tables of the walk, as the code keeps them.
 pub mod Emitted
+-- The rows of a normal form in a table that is lent.
+pub mod Formed

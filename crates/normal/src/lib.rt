@@ -14,5 +14,5 @@ mod settled;
 mod tables;
 mod walk;
 
-pub use output::normalise;
+pub use output::{form_rows, normalise};
 pub use settled::Workspace;

@@ -1,5 +1,5 @@
 // The last two passes over settled slots, in tables that are lent.
-ghost use Rattle.std.specs.Prelude.{[], ◌<◌, ◌≤◌, length};
+ghost use Rattle.std.specs.Prelude.{◌≡◌, [], ◌<◌, ◌≤◌, length};
 ghost use Rattle.slots.specs.code.TablePlaces.{used_in};
 ghost use Rattle.normal.specs.code.ClassRuns.{Runnable, place_cells};
 ghost use Rattle.normal.specs.code.Emitted.{Lent, Pushed, all_rows, keep_in, table_rows};
@@ -9,13 +9,13 @@ use crate::walk::write_rows;
 use blocks::kinds;
 
 // Puts settled slots on the chains of their runs and writes the rows of all places; returns their number. Each table of the workspace has a name
-// first: of these some are lent to be read and others to be written, at once.
+// first: of these some are lent to be read and others to be written, at once. The rows stay where they were lent, so that who lent them finds them.
 fn chained_rows(table: &[u64], full: &[u8], work: &mut Workspace) -> usize
     requires { Runnable table.now × (length table.now ≤ length full.now)
         × Lent (used_in table.now) work.old.last.now work.old.before.now work.old.order.now work.old.rows.now work.old.below.now
         × (length (all_rows (keep_in full.now) (place_cells table.now (used_in table.now))) ≤ length work.old.rows.now) }
     ensures { Pushed (length work.old.rows.now) [] 0 (all_rows (keep_in full.now) (place_cells table.now (used_in table.now)))
-        work.new.rows.now result }
+        work.new.rows.now result × (work.new.rows.ghost_name ≡ work.old.rows.ghost_name) }
 {
     let last = &mut *work.last;
     let before = &mut *work.before;
@@ -38,7 +38,8 @@ pub(crate) fn normal_rows(table: &[u64], bad: &[u8], full: &[u8], work: &mut Wor
     requires { Runnable table.now × (0 < length bad.now) × (length table.now ≤ length full.now)
         × Lent (used_in table.now) work.old.last.now work.old.before.now work.old.order.now work.old.rows.now work.old.below.now
         × (length (table_rows table.now bad.now full.now) ≤ length work.old.rows.now) }
-    ensures { Pushed (length work.old.rows.now) [] 0 (table_rows table.now bad.now full.now) work.new.rows.now result }
+    ensures { Pushed (length work.old.rows.now) [] 0 (table_rows table.now bad.now full.now) work.new.rows.now result
+        × (work.new.rows.ghost_name ≡ work.old.rows.ghost_name) }
 {
     if bad[0] != 0 {
         work.rows[0] = u64::from(kinds::NOTHING);

@@ -6,7 +6,6 @@ use Rattle.std.specs.Prelude as code
 use Rattle.blocks.specs.Entries.{packed}
 use Rattle.blocks.specs.Reading.{reading_of}
 use Rattle.blocks.specs.declared.Schema.TheVariants.{Description}
-use Rattle.logic.specs.Background.{Background, LawfulBackground}
 use Rattle.logic.specs.Filling.{Filled, Joined}
 use Rattle.logic.specs.Layout.{done, job}
 use Rattle.logic.specs.Normal.{at_most}
@@ -19,7 +18,6 @@ use Rattle.normal.specs.declared.emit.AtomKind.TheVariants as kinds
 use Rattle.normal.specs.declared.settled.Slots.{Slots}
 use Rattle.passes.specs.code.Pipeline.{walk}
 use Rattle.passes.specs.code.Slots.{Cell, cell, is_link, same_class, value}
-use Rattle.slots.specs.code.Standing.{Standing}
 use Rattle.slots.specs.code.TablePlaces.{used_in}
 use Rattle.slots.specs.code.Tables.{Blank}
 
@@ -140,12 +138,6 @@ pub record Lent (used : ℕ) (last before order rows below : List ℕ) : Type 0 
   pub some-row : 1 ≤ length rows
   pub few-rows : length rows ≤ 1008
   pub belows : Blank (length rows) below
-
--- the slots of a description stand in the tables under some lawful background
-pub record Stands (d : List ℕ) (used : ℕ) (t bad full : List ℕ) : Type 0 where
-  pub background : Background
-  pub lawful : LawfulBackground background
-  pub stands : Standing background d used t bad full
 
 -- All tables have room for an input: where it is accepted, its entries are no more than there are rows.
 pub record Roomy (d t bad full last before order rows below : List ℕ) : Type 0 where

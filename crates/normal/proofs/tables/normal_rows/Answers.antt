@@ -10,4 +10,4 @@ use Rattle.normal.proofs.tables.normal_rows.Goals as goal
 pub returns-then-bad-ne0 : goal.returns-then-bad-ne0
 unfolding packed
 returns-then-bad-ne0 c =
-    rw (ne_eqb c.if-bad-ne0.true) (filled-anew {a = c.args.work.now.rows.now} [] (filled-one refl (omega (arith, c.requires.3.some-row)) c.from.ensures))
+    (rw (ne_eqb c.if-bad-ne0.true) (filled-anew {a = c.args.work.now.rows.now} [] (filled-one refl (omega (arith, c.requires.3.some-row)) c.from.ensures)), refl)
