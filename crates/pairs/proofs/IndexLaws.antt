@@ -19,7 +19,7 @@ use Rattle.pairs.specs.code.Index.{PairsIndexed, beside_at, bucket_of, indexed_t
 
 -- ---- filling
 
-bucket-below : (p : ℕ) → bucket_of p < 256
+pub bucket-below : (p : ℕ) → bucket_of p < 256
 bucket-below p = omega arith
 
 -- one number more

@@ -8,6 +8,8 @@ pub mod Excluding
 pub mod IndexLaws
 -- A property and what stands beside it in a list: those exclude it.
 pub mod Partners
+-- Pairs as bits: how they gather along a chain, and what they say of properties.
+pub mod SidesLaws
 -- The background of a list: lawful, which records keep it, and that of the empty list.
 pub mod Under
 -- Lists of pairs by examples.

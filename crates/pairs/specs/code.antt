@@ -4,3 +4,5 @@
 pub mod Search
 -- The properties that a list names by number, and the index by which they are found.
 pub mod Index
+-- Pairs as bits.
+pub mod Sides

@@ -3,11 +3,13 @@
 ghost use Rattle.std.specs.Prelude.{◌≡◌, ◌+◌, ◌*◌, ◌<◌, ◌≤◌, length, take, eqb, get_or, true, [], List, ◌≢◌, replicate, unwrap_or, IfSome};
 ghost use Rattle.std.proofs.Props.{props};
 ghost use Rattle.base.specs.Chain.{OnChain};
+ghost use Rattle.pairs.specs.code.Sides.{Marks};
 ghost use Rattle.pairs.specs.code.Index.{PairsIndexed, beside_at, bucket_of, indexed_to, named_at, named_count, partners};
 ghost use Rattle.std.specs.Iterator.{YieldsFirstBy, item_count};
 
 use crate::index::{INDEX_BYTES, bucket, index_pairs, number_beside};
 use crate::list::named_at;
+use crate::sides::Sides;
 use blocks::Property;
 
 // A list has 64 pairs at most; up to 3 bytes past them are no whole pair.
@@ -64,6 +66,23 @@ impl<'a> Exclusions<'a> {
             of: p,
             next: self.link(bucket(p)),
         }
+    }
+
+    /// The pairs in which a property stands, as their first and as their second: it goes once along the chain of its bucket, which has at
+    /// most 128 numbers.
+    pub fn sides(self, p: Property) -> Sides
+        ensures { Marks self.entry.pairs.now (λ q. eqb q p.0) result }
+    {
+        let mut sides = Sides::none();
+        let mut next = self.link(bucket(p));
+        // It follows links, and counts nothing.
+        while let Some(k) = next {
+            if named_at(self.pairs, usize::from(k)) == p {
+                sides = sides.join(Sides::of_number(k));
+            }
+            next = self.link(256 + usize::from(k));
+        }
+        sides
     }
 
     // The property beside that of number k, with which it makes a pair.

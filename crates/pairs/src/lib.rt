@@ -9,7 +9,9 @@ mod exclusions;
 mod index;
 mod list;
 mod reader;
+mod sides;
 
 pub use exclusions::{Excluders, Exclusions};
 pub use index::INDEX_BYTES;
 pub use reader::read_pairs;
+pub use sides::Sides;

@@ -1,5 +1,3 @@
--- The level of an entry's owner, and what it says.
-pub mod OwnerLevels
 -- The pass over the entries of a sheet, by the table of levels.
 pub mod SheetLaws
 -- Reading the blocks of a sheet before its entries: what that says of the whole.

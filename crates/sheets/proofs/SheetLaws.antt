@@ -5,8 +5,7 @@ use Rattle.std.proofs.Common.{◌≡◌, ℕ, zero, suc, ◌+◌, ◌-◌, ◌<�
 use Rattle.base.proofs.RangeLaws.{none_left, one_left}
 use Rattle.base.proofs.Tests.{bool_cases, both_ways, iff-eq, tests}
 use Rattle.blocks.proofs.Refusing.FirstFault.{clean-none, first-append, first-front, step, step-found, step-more}
-use Rattle.blocks.proofs.Refusing.LevelLaws.{entries-end, entries-found, entries-more}
-use Rattle.sheets.proofs.OwnerLevels.{level-cases}
+use Rattle.blocks.proofs.Refusing.LevelLaws.{entries-end, entries-found, entries-more, level-cases}
 use Rattle.blocks.specs.Entries.{nth}
 use Rattle.blocks.specs.Faults.{Clean, Faulty, entry_rows, fault, first, rows_from}
 use Rattle.blocks.specs.Owners.{depth_of, owner_of}

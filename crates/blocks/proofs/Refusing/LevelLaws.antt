@@ -68,7 +68,7 @@ level-of-owner σ es zero h = absurd (h refl)
 level-of-owner σ es (suc k) h = refl
 
 -- A level of 0: the owner is refused. Any other: it stands earlier, and the level is one more than the entry's depth.
-level-cases : {A : Type 0} (σ : Schema) (es : List Entry) (t : List ℕ) (n : ℕ) {l : ℕ} → Levels σ es t n → 1 ≤ n → l ≡ level_by t n (owner_of es n)
+pub level-cases : {A : Type 0} (σ : Schema) (es : List Entry) (t : List ℕ) (n : ℕ) {l : ℕ} → Levels σ es t n → 1 ≤ n → l ≡ level_by t n (owner_of es n)
     → (l ≡ 0 → owner_ok σ es n ≡ false → A) → (l ≢ 0 → owner_ok σ es n ≡ true → owner_of es n < n → l ≡ suc (depth_of es n) → A) → A
 unfolding level_by owner_ok
 level-cases σ es t n {l} T one e refused allowed =
