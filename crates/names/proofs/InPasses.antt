@@ -1,4 +1,4 @@
--- Unfolding in passes.
+-- Names replaced in steps.
 
 -- Unfolding goes by the numbers of owners only: entries in a row, entries that are written later, and entries that stood later.
 pub mod MovedUnfolding
@@ -6,5 +6,5 @@ pub mod MovedUnfolding
 pub mod UnfoldTwice
 -- Names replaced by what stands for the same change nothing, once all are unfolded.
 pub mod Replaced
--- Unfolding in passes is unfolding; and no pass needs more room than what is unfolded.
+-- A description without the names in it that stand for nothing stands for the same, and needs no more room.
 pub mod PassStages

@@ -8,11 +8,13 @@ pub mod Measuring
 pub mod KnownLaws
 -- The descriptions of a dictionary, read in turn: how far reading has come, one description more, and the end.
 pub mod DictionaryRead
--- Laws of a pass that replaces names, one for each way through it.
+-- Laws of going over entries whose names are replaced, one for each way through it.
 pub mod ReplaceLaws
 -- What the calls write, and what they answer.
 pub mod CallLaws
--- Laws of the passes.
+-- Laws of unfolding: descriptions found in the bytes, and what they stand for.
 pub mod PassLaws
 -- What stands in a buffer of 16 blocks that a description was unfolded to.
 pub mod BufferLaws
+-- Descriptions that are opened: what their entries are there, and what they give.
+pub mod OpenLaws

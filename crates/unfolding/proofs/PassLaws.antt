@@ -1,15 +1,15 @@
--- Laws of the passes: the description that a name stands for, found in the dictionary's bytes, and the stages from one pass to the next.
+-- Laws of unfolding: the description that a name stands for, found in the dictionary's bytes, and what it stands for.
 -- Assumes nothing.
 use Prim.Native.Nat.{◌*◌, ◌+◌, ◌-◌, ◌/◌, ◌<◌, ◌≤◌, suc, zero, ℕ}
-use lib.Dec.{eqb, leb, ltb}
+use lib.Dec.{eqb}
 use lib.ListN.{drop, get_or, length, length-map, take}
-use mathlib.Core.Bool.{◌&&◌, false, true}
+use mathlib.Core.Bool.{false, true}
 use mathlib.Core.List.{List, [], ◌∷◌}
 use mathlib.Core.Path.{◌∙◌, ◌≡◌, ap, refl, subst, sym}
 use native.Mathlib.Omega.{arith}
 use Rattle.base.proofs.Lists.{get_d-map-in}
 use Rattle.base.proofs.Parts.{high_is, high_of}
-use Rattle.base.proofs.Tests.{and_left, eq-cases, eq-eqb, tests}
+use Rattle.base.proofs.Tests.{eq-cases, eq-eqb, tests}
 use Rattle.blocks.proofs.Format.EntryBytes.{length-entries}
 use Rattle.blocks.proofs.Format.Lengths.{few-blocks, some_block}
 use Rattle.blocks.proofs.RoundTrip.Faithful.{entries-limit, entries-whole}
@@ -24,17 +24,17 @@ use Rattle.lists.proofs.PartLaws.{part_at, start-within}
 use Rattle.lists.specs.Parts.{first_length, parts_of, start_of}
 use Rattle.names.proofs.Dictionary.ByAllValues.{Given, described-given, each-given-more, given-name}
 use Rattle.names.proofs.Dictionary.ContentsUnfold.{described-forms, described-owners, given-same}
-use Rattle.names.proofs.Entries.EachEntry.{numbers-of-each}
-use Rattle.names.proofs.InPasses.PassStages.{stage-last, stage-lower, stage-next, stage-room, zero-empty}
+use Rattle.names.proofs.Entries.EachEntry.{each-of-numbers, numbers-of-each}
+use Rattle.names.proofs.InPasses.PassStages.{emptied-stage, stage-last, stage-lower}
 use Rattle.names.specs.Measures.{size_nth}
 use Rattle.std.specs.List.{list_any}
 use Rattle.names.specs.NamedReading.{dictionary_of}
 use Rattle.names.specs.Promise.{FormsOk, LegalNamed, OwnersOk}
 use Rattle.names.specs.Unfold.{described, in_turn, noted, unfolded, unfolded_by}
 use Rattle.names.specs.code.Passes.{Stage, inside, kept_by}
-use Rattle.unfolding.proofs.RowLaws.{greatest-bounds, greatest-least, greatest-none, greatest-some}
+use Rattle.unfolding.proofs.RowLaws.{greatest-bounds, greatest-none}
 use Rattle.unfolding.specs.code.Known.{Ready, Sized, size_in, start_in}
-use Rattle.unfolding.specs.code.Replacing.{NamesFew, NamesOf}
+use Rattle.unfolding.specs.code.Replacing.{NamesFew}
 use Rattle.unfolding.specs.code.Rows.{greatest_name}
 use Rattle.unfolding.specs.declared.tables.Described.{Described}
 use Rattle.unfolding.specs.declared.tables.Tables.{Tables}
@@ -109,7 +109,7 @@ module _ (D : List ℕ) {t : Tables} (R : Ready D t) (n : ℕ) (lo : 1 ≤ n) (h
         let m : length (entries_of part) ≤ 1008 = entries-limit cut-sound in
         (t, (rw t (entries-whole cut-sound), omega arith))
 
--- ---- stages
+-- ---- names that are given
 
 -- names up to a number are names up to a larger one
 given-upto : (k m : ℕ) → k ≤ m → (es : List Entry) → Given k es → Given m es
@@ -119,28 +119,11 @@ given-upto k (suc m) h es g =
     (λ q. rw q at g)
     (λ q. each-given-more m es (given-upto k m (omega arith) es g))
 
--- a name that is given is one of them
-given-some : (k : ℕ) (e : Entry) → name_given k e ≡ true → is_named e ≡ true → (1 ≤ e.name) × (e.name ≤ k)
-unfolding name_given
-given-some k e h q =
-    let f : (ltb 0 e.name && leb e.name k) ≡ true = rw q at h in
-    let y = and_left (ltb 0 e.name) (leb e.name k) f in
-    (omega tests, given-name k e h q)
-
 given-few : (es : List Entry) → Given 64 es → NamesFew es
 given-few es g n lo hi q = given-name 64 (nth es n) (numbers-of-each (λ e. name_given 64 e ≡ true) es g n lo hi) q
 
--- names that are left are those of descriptions
-stage-names : {K : List (List Entry)} {whole es : List Entry} {r : ℕ} → Stage K whole r es → r ≤ length K → NamesOf (length K) es
-stage-names {K} {whole} {es} G h n lo hi q =
-    let l = G.left n lo hi q in
-    let some : 1 ≤ (nth es n).name = eq-cases (nth es n).name 0
-    (λ z. absurd (omega (arith, subst (λ (x : ℕ). 1 ≤ size_nth K x) z l.0, zero-empty K)))
-    (λ z. omega arith) in
-    (some, omega (arith, l.1))
-
 module _ {K : List (List Entry)} {of : List Described} (Z : Sized K of) where
-  -- ---- what a pass puts in
+  -- ---- what is put in
 
   module _ (n : ℕ) (hi : n ≤ length K) where
     described-few : Given 64 (described K n)
@@ -155,47 +138,25 @@ module _ {K : List (List Entry)} {of : List Described} (Z : Sized K of) where
     unfolding unfolded kept_by
     inside-same q = rw q (given-same (kept_by (size_in of)) (kept_by (size_nth K)) 64 (λ x h. rw (Z.sizes x h)) (λ j. j) 1 0 (described K n) described-few)
 
-  -- ---- from pass to pass
+  -- ---- what is unfolded
 
-  -- what a pass asks, and what it leaves
-  pub record Opens (whole : List Entry) (es : List Entry) (r : ℕ) : Type 0 where
-    pub owner : OwnersOk es
-    pub names : NamesOf (length K) es
-    pub stage : Stage K whole (r - 1) (unfolded (inside K) es)
-    pub room : length (unfolded (inside K) es) ≤ length whole
+  module _ (es : List Entry) (N : LegalNamed (length K) es) where
+    legal-few : Given 64 es
+    legal-few = given-upto (length K) 64 Z.few es (each-of-numbers (λ e. name_given (length K) e ≡ true) es N.name)
 
-  -- the first
-  pub opens-first : {es : List Entry} → LegalNamed (length K) es → Opens (unfolded_by K es) es (length K)
-  opens-first {es} N =
-      let G = stage-next K Z.each (length K) es N.form N.owner (λ n lo hi q. given-name (length K) (nth es n) (N.name n lo hi) q) in
-      record {
-        owner = N.owner;
-        names = λ n lo hi q. given-some (length K) (nth es n) (N.name n lo hi) q;
-        stage = G;
-        room = stage-room K (unfolded_by K es) (length K - 1) (unfolded (inside K) es) G;
-      }
+    -- it can be put in
+    pub legal-ready : FormsOk es × (OwnersOk es × NamesFew es)
+    legal-ready = (N.form, (N.owner, given-few es legal-few))
 
-  -- the next
-  pub opens-next : {whole es : List Entry} {r : ℕ} → Stage K whole r es → r ≤ length K → Opens whole es r
-  opens-next {whole} {es} {r} G h =
-      let H = stage-next K Z.each r es G.form G.owner (λ n lo hi q. (G.left n lo hi q).1) in
-      let I = subst (λ (w : List Entry). Stage K w (r - 1) (unfolded (inside K) es)) G.same H in
-      record { owner = G.owner; names = stage-names G h; stage = I; room = stage-room K whole (r - 1) (unfolded (inside K) es) I }
+    -- without names that stand for nothing it stands for the same
+    pub legal-stage : Stage K (unfolded_by K es) (length K) (unfolded (kept_by (size_in of)) es)
+    unfolding unfolded kept_by
+    legal-stage =
+        let same = given-same (kept_by (size_in of)) (kept_by (size_nth K)) 64 (λ x h. rw (Z.sizes x h)) (λ j. j) 1 0 es legal-few in
+        rw same (emptied-stage K (length K) es N.form N.owner (λ n lo hi q. given-name (length K) (nth es n) (N.name n lo hi) q))
 
--- after a pass, the greatest name that is left bounds them
-module _ {K : List (List Entry)} {whole es fs : List Entry} {r : ℕ} (G : Stage K whole r es) (e : fs ≡ es) where
-  pub next-stage : Stage K whole (greatest_name fs) fs
-  next-stage =
-      let there = subst (λ (l : List Entry). Stage K whole r l) (sym e) G in
-      stage-lower K whole r (greatest_name fs) fs there (greatest-bounds fs)
-
-  pub next-least : greatest_name fs ≤ r
-  next-least = omega (arith, ap greatest_name e, greatest-least es r (λ n lo hi q. (G.left n lo hi q).1))
-
--- while a name is left, the greatest is one of a description
-pub stage-some : {K : List (List Entry)} {whole es : List Entry} {r : ℕ} → Stage K whole r es → r ≤ length K → list_any is_named es ≡ true → 1 ≤ greatest_name es
-stage-some {es = es} G h q = greatest-some es (λ n lo hi p. (stage-names G h n lo hi p).0) q
-
--- and where none is left, all is unfolded
-pub stage-over : {K : List (List Entry)} {whole es : List Entry} → Stage K whole (greatest_name es) es → list_any is_named es ≡ false → es ≡ whole
-stage-over {K} {whole} {es} G q = stage-last K whole es (subst (λ (n : ℕ). Stage K whole n es) (greatest-none es q) G)
+-- where no name is left, all is unfolded
+pub stage-over : {K : List (List Entry)} {whole es : List Entry} {r : ℕ} → Stage K whole r es → list_any is_named es ≡ false → es ≡ whole
+stage-over {K} {whole} {es} {r} G q =
+    stage-last K whole es
+    (subst (λ (n : ℕ). Stage K whole n es) (greatest-none es q) (stage-lower K whole r (greatest_name es) es G (greatest-bounds es)))

@@ -1,17 +1,18 @@
--- Laws of a pass that replaces names, one for each way through it.
+-- Laws of going over entries whose names are replaced, one for each way through it.
 -- Assumes nothing.
 use Prim.Native.Nat.{◌+◌, ◌-◌, ◌<◌, ◌≤◌, suc, zero, ℕ}
 use lib.Dec.{eqb, leb, ltb}
-use lib.ListN.{get_or-append, drop, drop_of_length-le, get_or, length, length-append, length-map, replicate, set}
+use lib.ListN.{get_or-append, drop, drop_of_length-le, get_or, length, length-append, length-drop, length-map, replicate, set}
 use lib.Seq.{drop-cons, get_or-append-add, get_or-set_other, get_or-set_same}
 use mathlib.Core.Bool.{◌&&◌, cond, false, true}
 use mathlib.Core.List.{List, [], ◌++◌, ◌∷◌, append_assoc, append-nil, map}
 use mathlib.Core.Logic.{◌≢◌}
 use Rattle.std.proofs.Common.{None, Option, Some}
-use mathlib.Core.Path.{◌∙◌, ◌≡◌, ap, fun_ext, refl, sym}
+use Rattle.std.proofs.lemmas.List.{get_or-drop}
+use mathlib.Core.Path.{◌∙◌, ◌≡◌, ap, fun_ext, refl, subst, sym}
 use native.Mathlib.Omega.{arith}
 use Rattle.base.proofs.Lists.{get_d-map-in, listed, listed-eq, listed-last}
-use Rattle.base.proofs.Tests.{and_left, eq-cases, eq-eqb, eqb-eq, ne_eqb, or_cases, tests}
+use Rattle.base.proofs.Tests.{and_left, bool_cases, eq-cases, eq-eqb, eqb-eq, ne_eqb, or_cases, tests}
 use Rattle.blocks.specs.Entries.{is_named, nth, zero_entry}
 use Rattle.blocks.specs.Owners.{owner_of, owner_ok}
 use Rattle.blocks.specs.declared.Entry.{Entry}
@@ -20,12 +21,12 @@ use Rattle.names.proofs.Entries.OwnersByNumber.{owners-of-numbers}
 use Rattle.names.proofs.InPasses.MovedUnfolding.{unfold-ext, unfold-out}
 use Rattle.names.specs.NamedForm.{named_form_ok}
 use Rattle.names.specs.Promise.{FormsOk, OwnersOk}
-use Rattle.names.specs.Unfold.{noted, owned_by, relocate, shifted, unfold_from, unfolded}
-use Rattle.names.specs.code.Passes.{inside, kept_by, name_again}
+use Rattle.names.specs.Unfold.{contents, noted, owned_by, relocate, shifted, unfold_from, unfolded}
+use Rattle.names.specs.code.Passes.{kept_by, name_again}
 use Rattle.unfolding.proofs.Alike.{alike-read}
-use Rattle.unfolding.specs.code.Replacing.{NamesFew, NamesOf, Passing, StandsAt, Stood, again}
+use Rattle.unfolding.specs.code.Replacing.{NamesFew, Passing, StandsAt, Stood, again}
 use Rattle.unfolding.specs.code.Rows.{entry_of_row}
-use Rattle.unfolding.specs.declared.passes.Place.{Place}
+use Rattle.unfolding.specs.declared.contents.Place.{Place}
 
 -- ---- a name that stands for nothing goes, any other stays
 
@@ -47,25 +48,37 @@ tabled-more t k v l =
     (λ q. rw (q, eq-eqb {m = k} {n = k} refl) (get_or-set_same t k v 0 l))
     (λ q. rw (ne_eqb q) (get_or-set_other t k j v 0 q)))
 
-module _ {T : ℕ → List Entry} {es : List Entry} where
-  -- before the first entry only the top owns
-  pub pass-starts : (number : List ℕ) → get_or number 0 0 ≡ 0 → OwnersOk es → Passing T es (unfolded T es) number 0 []
-  unfolding unfolded
-  pass-starts number z w =
-      record { all = sym (unfold-ext T _ (λ j. j) (λ j. get_or number j 0) 1 0 es (owners-of-numbers es w) (λ j o. let q : j ≡ 0 = eqb-eq o in rw q (sym z))) }
+-- entries that are written after m, where o stands for the top
+pub unfold-at : (T : ℕ → List Entry) (ν : ℕ → ℕ) (m o : ℕ) (es : List Entry) → ν 0 ≡ o → OwnersOk es
+    → unfold_from T ν 1 m es ≡ map (relocate m o) (unfolded T es)
+unfolding unfolded
+unfold-at T ν m o es z w =
+    let s : m ≡ m + 0 = omega arith in
+    unfold-ext T _ ν (λ j. shifted m o j) 1 m es (owners-of-numbers es w) (λ j g. let q : j ≡ 0 = eqb-eq g in rw q z)
+    ∙ ap (λ (i : ℕ). unfold_from T (λ j. shifted m o j) 1 i es) s
+    ∙ unfold-out T m o (λ j. j) 1 0 es
 
+-- each entry gives one at least, where each name becomes some
+unfold-least : (T : ℕ → List Entry) (ν : ℕ → ℕ) (k m : ℕ) (es : List Entry)
+    → ((j : ℕ) → j < length es → is_named (get_or es j zero_entry) ≡ true → 1 ≤ length (T (get_or es j zero_entry).name))
+    → length es ≤ length (unfold_from T ν k m es)
+unfolding unfold_from
+unfold-least T ν k m [] h = omega arith
+unfold-least T ν k m (e ∷ es) h =
+    bool_cases (is_named e)
+    (λ q.
+    let xs = map (relocate m (ν e.owner)) (T e.name) in
+    let ys = unfold_from T ν (suc k) (m + length (T e.name)) es in
+    let ih = unfold-least T ν (suc k) (m + length (T e.name)) es (λ j l. h (suc j) (omega arith)) in
+    let one = h 0 (omega arith) q in
+    rw q (omega (arith, ih, one, length-append xs ys, length-map (T e.name) (relocate m (ν e.owner)))))
+    (λ q. let ih = unfold-least T (noted ν k (suc m)) (suc k) (suc m) es (λ j l. h (suc j) (omega arith)) in rw q (omega (arith, ih)))
+
+module _ {T : ℕ → List Entry} {es : List Entry} where
   -- or what the top stands for
   pub pass-starts-at : (number : List ℕ) (o : ℕ) (out : List Entry) → get_or number 0 0 ≡ o → OwnersOk es
       → Passing T es (out ++ map (relocate (length out) o) (unfolded T es)) number 0 out
-  unfolding unfolded
-  pass-starts-at number o out z w =
-      let m = length out in
-      let s : m ≡ m + 0 = omega arith in
-      let there : unfold_from T (λ j. get_or number j 0) 1 m es ≡ map (relocate m o) (unfold_from T (λ j. j) 1 0 es) =
-      unfold-ext T _ (λ j. get_or number j 0) (λ j. shifted m o j) 1 m es (owners-of-numbers es w) (λ j g. let q : j ≡ 0 = eqb-eq g in rw q z)
-      ∙ ap (λ (i : ℕ). unfold_from T (λ j. shifted m o j) 1 i es) s
-      ∙ unfold-out T m o (λ j. j) 1 0 es in
-      record { all = ap (λ (l : List Entry). out ++ l) there }
+  pass-starts-at number o out z w = record { all = ap (λ (l : List Entry). out ++ l) (unfold-at T (λ j. get_or number j 0) (length out) o es z w) }
 
   module _ {whole : List Entry} {number : List ℕ} {i : ℕ} {out : List Entry} (P : Passing T es whole number i out) where
     -- no more is written than all
@@ -73,6 +86,15 @@ module _ {T : ℕ → List Entry} {es : List Entry} where
     passed-within =
         let parts = length-append out (unfold_from T (λ j. get_or number j 0) (suc i) (length out) (drop i es)) in
         omega (arith, ap length P.all)
+
+    -- and one at least for each entry that is left, where each name becomes some
+    pub passed-least : ((j : ℕ) → i ≤ j → j < length es → is_named (get_or es j zero_entry) ≡ true → 1 ≤ length (T (get_or es j zero_entry).name))
+        → length out + (length es - i) ≤ length whole
+    passed-least h =
+        let r = unfold-least T (λ j. get_or number j 0) (suc i) (length out) (drop i es)
+        (λ j l. subst (λ (e : Entry). is_named e ≡ true → 1 ≤ length (T e.name)) (sym (get_or-drop i es j zero_entry))
+        (h (i + j) (omega arith) (omega (arith, l, length-drop i es)))) in
+        omega (arith, r, length-drop i es, ap length P.all, length-append out (unfold_from T (λ j. get_or number j 0) (suc i) (length out) (drop i es)))
 
     -- after the last entry
     pub pass-ends : length es ≤ i → out ≡ whole
@@ -114,6 +136,15 @@ module _ {T : ℕ → List Entry} {es whole : List Entry} {number : List ℕ} {i
       let w = passed-within (pass-name P next {xs = xs} q refl refl) in
       omega (arith, w, length-append out xs, length-map (T e.name) (relocate (length out) (get_or number e.owner 0)))
 
+  -- and for those after it
+  pub room-opened : is_named e ≡ true
+      → ((j : ℕ) → i ≤ j → j < length es → is_named (get_or es j zero_entry) ≡ true → 1 ≤ length (T (get_or es j zero_entry).name))
+      → length out + length (T e.name) + (length es - (i + 1)) ≤ length whole
+  room-opened q h =
+      let xs = map (relocate (length out) (get_or number e.owner 0)) (T e.name) in
+      let w = passed-least (pass-name P next {xs = xs} q refl refl) (λ j lo hi. h j (omega arith) hi) in
+      omega (arith, w, length-append out xs, length-map (T e.name) (relocate (length out) (get_or number e.owner 0)))
+
   pub room-entry : is_named e ≡ false → length out < length whole
   room-entry q =
       let here = unfold-entry T (λ j. get_or number j 0) (suc i) (length out) e (drop (suc i) es) q in
@@ -139,9 +170,6 @@ module _ (es : List Entry) (i : ℕ) {e : Entry} (l : i < length es) (q : e ≡ 
 
   pub entry-few : NamesFew es → is_named e ≡ true → e.name ≤ 64
   entry-few f = rw q (f (i + 1) (omega arith) (omega arith))
-
-  pub entry-names : {k : ℕ} → NamesOf k es → is_named e ≡ true → (1 ≤ e.name) × (e.name ≤ k)
-  entry-names f = rw q (f (i + 1) (omega arith) (omega arith))
 
   -- its owner stands earlier
   pub entry-owner : OwnersOk es → e.owner ≤ i
@@ -234,6 +262,13 @@ stands-new inner es o h = record {
   there = λ j l. get_or-append-add es (map (relocate (length es) o) inner) j zero_entry ∙ get_d-map-in (relocate (length es) o) inner zero_entry zero_entry j l;
 }
 
+-- where they stand then
+pub stands-put : (inner out : List Entry) (o : ℕ) → o ≤ length out → {put : List Entry} → put ≡ out ++ map (relocate (length out) o) inner
+    → {m k : ℕ} → m ≡ length out → k ≡ length put - m → StandsAt inner m k put
+stands-put inner out o l {put} pe {m} {k} me ke =
+    let n : k ≡ length inner = omega (arith, ap length pe, length-append out (map (relocate (length out) o) inner), length-map inner (relocate (length out) o)) in
+    rw (n, me, pe) (stands-new inner out o l)
+
 module _ {K : List (List Entry)} where
   -- before anything is put in
   pub stood-none : {es : List Entry} → Stood K (replicate 65 None) es
@@ -243,21 +278,16 @@ module _ {K : List (List Entry)} where
     pub stood-more : (xs : List Entry) {ys : List Entry} → ys ≡ es ++ xs → Stood K places ys
     stood-more xs e = record { put = λ n p h. rw e (stands-more (S.put n p h) xs) }
 
-    -- what one more name becomes
-    pub stood-now : (x o : ℕ) {ys : List Entry} {p : Place} → x < length places → p.first ≡ length es → o ≤ length es → p.count ≡ length (inside K x)
-        → ys ≡ es ++ map (relocate (length es) o) (inside K x) → Stood K (set places x (Some p)) ys
-    stood-now x o {ys} {p} b c l d e =
+    -- what one more name stands for
+    pub stood-set : (x : ℕ) {p : Place} → x < length places → StandsAt (contents K x) p.first p.count es → Stood K (set places x (Some p)) es
+    stood-set x {p} b N =
         record {
           put = λ n r h. eq-cases n x
               (λ q.
               let f : Some r ≡ Some p = sym h ∙ ap (λ (i : ℕ). get_or (set places x (Some p)) i None) q ∙ get_or-set_same places x (Some p) None b in
               let g : r ≡ p = cc in
-              let y : ys ≡ es ++ map (relocate (length es) o) (inside K n) = e ∙ rw q in
-              let k : p.count ≡ length (inside K n) = d ∙ rw q in
-              rw (g, c, k, y) (stands-new (inside K n) es o l))
-              (λ q.
-              let f : get_or places n None ≡ Some r = sym (get_or-set_other places x n (Some p) None q) ∙ h in
-              rw e (stands-more (S.put n r f) (map (relocate (length es) o) (inside K x))));
+              rw (g, q) N)
+              (λ q. S.put n r (sym (get_or-set_other places x n (Some p) None q) ∙ h));
         }
 
 -- ---- numbers in the table

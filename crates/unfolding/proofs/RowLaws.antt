@@ -1,22 +1,32 @@
 -- Laws of entries as numbers in a lent table.
 -- Assumes nothing.
-use Prim.Native.Nat.{◌%◌, ◌*◌, ◌+◌, ◌/◌, ◌<◌, ◌≤◌, suc, zero, ℕ}
-use lib.ListN.{length, length-map, set, take}
-use lib.Seq.{length-take-le, take-suc, take-suc-set}
+use Prim.Native.Nat.{◌%◌, ◌*◌, ◌+◌, ◌/◌, ◌<◌, ◌≤◌, max, suc, zero, ℕ}
+use lib.ListN.{drop, length, length-map, set, take}
+use lib.Seq.{length-take-le, take-suc-set}
 use lib.Dec.{eqb}
-use mathlib.Core.Bool.{◌||◌, Bool, false, true}
+use mathlib.Core.Bool.{◌||◌, Bool, cond, false, true}
 use mathlib.Core.List.{List, [], ◌++◌, ◌∷◌, map, map-append}
 use mathlib.Core.Path.{◌∙◌, ◌≡◌, ap, refl, sym}
 use native.Mathlib.Omega.{arith}
+use Rattle.base.proofs.Parts.{high_is, high_of}
 use Rattle.base.proofs.Split.{place_of, row_of}
 use Rattle.base.proofs.Tests.{bool_cases}
 use Rattle.std.proofs.lemmas.Bool.{or_parts}
+use Rattle.std.proofs.lemmas.List.{drop-map, take-map}
 use Rattle.std.specs.List.{list_any}
 use Rattle.blocks.specs.Encoding.{row_bytes}
-use Rattle.blocks.specs.Entries.{Bounded, entry_bytes, is_named, nth, packed, zero_entry}
+use Rattle.blocks.specs.Entries.{Bounded, entry_bytes, is_named, nth, packed}
 use Rattle.blocks.specs.Words.{word_bytes}
 use Rattle.blocks.specs.declared.Entry.{Entry}
+use Rattle.names.specs.Unfold.{relocate}
 use Rattle.unfolding.specs.code.Rows.{entries_in, entry_of_row, greatest_name}
+
+-- the first of the first ones
+pub take-twice : {A : Type 0} (k j : ℕ) (l : List A) → k ≤ j → take k (take j l) ≡ take k l
+take-twice zero j l h = refl
+take-twice (suc k) zero l h = absurd (omega arith)
+take-twice (suc k) (suc j) [] h = refl
+take-twice {A = A} (suc k) (suc j) (x ∷ l) h = ap (λ (t : List A). x ∷ t) (take-twice k j l (omega arith))
 
 -- the entry of a packed entry's number is the entry
 pub row-entry : (e : Entry) → Bounded e → entry_of_row (packed e) ≡ e
@@ -58,11 +68,14 @@ row_more rows n x h = let e : n + 1 ≡ suc n = omega arith in rw e (ap (map ent
 pub rows-length : (rows : List ℕ) (n : ℕ) → n ≤ length rows → length (entries_in rows n) ≡ n
 rows-length rows n h = length-map (take n rows) entry_of_row ∙ length-take-le n rows h
 
--- the first entries of a list, one more
-pub front-more : (es : List Entry) (j : ℕ) {xs ys : List Entry} {e : Entry} → j < length es → xs ≡ take j es → e ≡ nth es (j + 1) → ys ≡ xs ++ (e ∷ [])
-    → ys ≡ take (j + 1) es
-unfolding nth
-front-more es j l p q r = let s : j + 1 ≡ suc j = omega arith in r ∙ rw (p, q, s) (sym (take-suc es j zero_entry l))
+-- fewer of them
+pub rows_less : (rows : List ℕ) (n m : ℕ) → m ≤ n → entries_in rows m ≡ take m (entries_in rows n)
+rows_less rows n m h =
+    ap (map entry_of_row) (sym (take-twice m n rows h)) ∙ sym (take-map entry_of_row m (take n rows))
+
+-- those after the first ones
+pub rows_after : (rows : List ℕ) (m : ℕ) {es : List Entry} → map entry_of_row rows ≡ es → map entry_of_row (high_of m rows) ≡ drop m es
+rows_after rows m {es} e = ap (map entry_of_row) (high_is m rows) ∙ sym (drop-map entry_of_row m rows) ∙ ap (λ (l : List Entry). drop m l) e
 
 -- whether one of them is a name
 pub any-row : (rows : List ℕ) → list_any (λ x. eqb (entry_of_row x).kind 9) rows ≡ list_any is_named (map entry_of_row rows)
@@ -70,6 +83,16 @@ any-row [] = refl
 any-row (x ∷ rows) = ap (λ (b : Bool). is_named (entry_of_row x) || b) (any-row rows)
 
 -- ---- the greatest name
+
+-- entries that stand later have the same names
+pub any-moved : (m o : ℕ) (es : List Entry) → list_any is_named (map (relocate m o) es) ≡ list_any is_named es
+any-moved m o [] = refl
+any-moved m o (e ∷ es) = ap (λ (b : Bool). is_named e || b) (any-moved m o es)
+
+pub greatest-moved : (m o : ℕ) (es : List Entry) → greatest_name (map (relocate m o) es) ≡ greatest_name es
+unfolding greatest_name
+greatest-moved m o [] = refl
+greatest-moved m o (e ∷ es) = ap (λ (g : ℕ). max (cond (is_named e) e.name 0) g) (greatest-moved m o es)
 
 pub greatest-bounds : (es : List Entry) (n : ℕ) → 1 ≤ n → n ≤ length es → is_named (nth es n) ≡ true → (nth es n).name ≤ greatest_name es
 unfolding nth greatest_name
@@ -94,16 +117,3 @@ pub greatest-none : (es : List Entry) → list_any is_named es ≡ false → gre
 unfolding greatest_name
 greatest-none [] h = refl
 greatest-none (e ∷ es) h = let o = or_parts (is_named e) (list_any is_named es) h in let ih = greatest-none es o.1 in rw (o.0, ih)
-
--- and more where there is one, and each has a number from 1
-pub greatest-some : (es : List Entry) → ((n : ℕ) → 1 ≤ n → n ≤ length es → is_named (nth es n) ≡ true → 1 ≤ (nth es n).name) → list_any is_named es ≡ true → 1 ≤ greatest_name es
-unfolding nth greatest_name
-greatest-some [] f h = cc
-greatest-some (e ∷ es) f h =
-    bool_cases (is_named e)
-    (λ q. let one = f 1 (omega arith) (omega arith) q in rw q (omega arith))
-    (λ q. let ih = greatest-some es (λ n lo hi g. later n lo hi g) (rw q at h) in omega arith)
-  where
-    later : (n : ℕ) → 1 ≤ n → n ≤ length es → is_named (nth es n) ≡ true → 1 ≤ (nth es n).name
-    later zero lo hi q = absurd (omega arith)
-    later (suc i) lo hi q = f (suc (suc i)) (omega arith) (omega arith) q

@@ -7,38 +7,33 @@ ghost use Rattle.names.specs.NamedReading.{dictionary_of, named_unfolding};
 ghost use Rattle.names.specs.Unfold.{unfolded_by};
 ghost use Rattle.unfolding.specs.Answer.{both_of, over, second_after, unfold_at, unfolded_at};
 
+use crate::contents::unfold_rows;
 use crate::dictionary::{Dictionary, read_named};
-use crate::passes::unfold_rows;
-use crate::rows::{Rows, load};
+use crate::rows::Rows;
 use crate::tables::Tables;
 use blocks::sizes::BLOCK;
 use blocks::{Cause, Refusal};
 use writing::write_entries;
 
-// Reads a description, under a dictionary, and leaves its entries, unfolded, in a table.
+// Reads a description, under a dictionary, and leaves its entries, unfolded, in a table that is empty before.
 fn unfold_read(
     dictionary: Dictionary,
     d: &[u8],
     input: u16,
     rows: &mut Rows,
 ) -> Result<u16, Refusal>
+    requires { length rows.old ≡ 0 }
     ensures { (result ≡ named_unfolding (dictionary_of dictionary.entry.bytes.now) input d.now)
-        × ((n : ℕ) → result ≡ Ok n → rows.new ≡ unfolded_by (dictionary_of dictionary.entry.bytes.now) (entries_of d.now)) }
+        × ((n : ℕ) → result ≡ Ok n → (rows.new ≡ unfolded_by (dictionary_of dictionary.entry.bytes.now) (entries_of d.now)) × (length rows.new ≤ 1008)) }
 {
-    let mut next = Rows {
-        numbers: [0; 1008],
-        len: 0,
-    };
-    let mut inner = [0u16; 1009];
     let m = read_named(d, input, dictionary.tables)?;
-    load(d, usize::from(m.total), &mut next);
-    unfold_rows(dictionary, rows, &mut next, &mut inner);
+    unfold_rows(dictionary, d, usize::from(m.total), rows);
     Ok(rows.len() as u16)
 }
 
 // Writes the entries of a table as blocks from the start of an output; false, and no byte changes, where it is too short.
 fn write_rows(out: &mut [u8], rows: &Rows) -> bool
-    ensures few { length rows.now ≤ 1008 }
+    requires { length rows.now ≤ 1008 }
     ensures short { result ≡ false → (length out.old < BLOCK * blocks_for plain (length rows.now)) × (out.new ≡ out.old) }
     ensures long { result ≡ true → (BLOCK * blocks_for plain (length rows.now) ≤ length out.old) × (out.new ≡ over (encode rows.now) out.old) }
 {
@@ -53,10 +48,7 @@ impl Dictionary<'_> {
     pub fn unfold_into(self, d: &[u8], input: u16, out: &mut [u8]) -> Result<u16, Refusal>
         ensures { (result ≡ unfold_at self.entry.bytes.now input d.now out.old) × (out.new ≡ unfolded_at self.entry.bytes.now input d.now out.old) }
     {
-        let mut rows = Rows {
-            numbers: [0; 1008],
-            len: 0,
-        };
+        let mut rows = Rows::new();
         let n = unfold_read(self, d, input, &mut rows)?;
         if !write_rows(out, &rows) {
             return Err(Refusal {

@@ -2,18 +2,18 @@
 //
 // A dictionary is read once for all inputs, into tables that a caller lends, each description in two passes over its bytes: one for its blocks, by
 // `reading`, and one over its entries, which tells whether the rules allow them, how many they are once unfolded and how deep they stand. The tables
-// keep where each begins, its size and its levels. So 14 is told without unfolding anything. A description is then unfolded in passes: each replaces
-// all names that are there by the entries of their descriptions, without the names in them that stand for nothing. So there are at most as many
-// passes as names are nested, every row stands for an entry at least, and 1,008 are always enough. What a name becomes is read once in a pass, and
-// copied where it is used again.
+// keep where each begins, its size and its levels. So 14 is told without unfolding anything. A description is then unfolded from its first entry to
+// its last: what a name stands for is put in where it comes first, and copied from there where it comes again, so that each description of the
+// dictionary is read once at most. One that names others is opened for that, behind those that are open already: names go to earlier descriptions
+// only, so that all that are open at once are few. So the time grows with what is read and with what is written, however names are nested.
 //
 // The contracts cite `names` (NamedReading) and specs/Answer. What unfolding means is proved in `names`.
 #![tactic(auto)]
 
 mod calls;
+mod contents;
 mod dictionary;
 mod measure;
-mod passes;
 mod replace;
 mod rows;
 mod tables;

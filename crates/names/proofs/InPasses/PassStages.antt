@@ -1,4 +1,4 @@
--- Unfolding in passes is unfolding; and no pass needs more room than what is unfolded.
+-- A description without the names in it that stand for nothing stands for the same; and it needs no more room than what is unfolded.
 -- Assumes nothing.
 use Prim.Native.Nat.{◌-◌, ◌≤◌, suc, ℕ}
 use lib.Dec.{eqb}
@@ -22,12 +22,12 @@ use Rattle.names.specs.Promise.{Each, FormsOk, LegalNamed, OwnersOk}
 use Rattle.names.specs.Unfold.{contents, described, in_turn, noted, unfold_from, unfolded, unfolded_by}
 use Rattle.names.specs.code.Passes.{Left, Stage, StandsFor, emptied, inside, kept_by, name_again}
 
-none-there : (es : List Entry) → length es ≡ 0 → es ≡ []
+pub none-there : (es : List Entry) → length es ≡ 0 → es ≡ []
 none-there [] e = refl
 none-there (x ∷ es) e = absurd (omega arith)
 
 -- what stands for no entries has empty contents
-empty-contents : (K : List (List Entry)) (n : ℕ) → eqb (size_nth K n) 0 ≡ true → contents K n ≡ []
+pub empty-contents : (K : List (List Entry)) (n : ℕ) → eqb (size_nth K n) 0 ≡ true → contents K n ≡ []
 empty-contents K n h = none-there (contents K n) (contents-size K n ∙ eqb-eq h)
 
 -- 0 names nothing
@@ -60,7 +60,7 @@ module _ (K : List (List Entry)) where
   -- ---- stages
 
   -- without names that stand for nothing, entries stand for the same
-  emptied-stage : (r : ℕ) (es : List Entry) → FormsOk es → OwnersOk es
+  pub emptied-stage : (r : ℕ) (es : List Entry) → FormsOk es → OwnersOk es
       → ((n : ℕ) → 1 ≤ n → n ≤ length es → is_named (nth es n) ≡ true → (nth es n).name ≤ r) → Stage K (unfolded_by K es) r (unfolded (emptied K) es)
   emptied-stage r es f w h =
       record {
@@ -80,26 +80,6 @@ module _ (K : List (List Entry)) where
         (emptied-stage (n - 1) (described K n) (described-forms K each n) (described-owners K each n)
         (λ i lo hi q. given-name (n - 1) (nth (described K n) i)
         (numbers-of-each (λ e. name_given (n - 1) e ≡ true) (described K n) (described-given K each n) i lo hi) q))
-
-    inside-stands : StandsFor K (inside K)
-    inside-stands = record { form = λ n. (inside-stage n).form; owner = λ n. (inside-stage n).owner; same = λ n. (inside-stage n).same }
-
-    -- what they name comes before all names up to r
-    inside-left : (r n : ℕ) → n ≤ r → EachEntry (Left K (r - 1)) (inside K n)
-    inside-left r n h = each-of-numbers (Left K (r - 1)) (inside K n) (λ i lo hi q. let l = (inside-stage n).left i lo hi q in (l.0, omega (arith, l.1)))
-
-    -- a pass over entries that name descriptions up to r: what they stand for stays, and only earlier names are left
-    pub stage-next : (r : ℕ) (es : List Entry) → FormsOk es → OwnersOk es
-        → ((n : ℕ) → 1 ≤ n → n ≤ length es → is_named (nth es n) ≡ true → (nth es n).name ≤ r) → Stage K (unfolded_by K es) (r - 1) (unfolded (inside K) es)
-    stage-next r es f w h =
-        record {
-          form = unfold-forms (inside K) inside-stands.form es f;
-          owner = unfold-owners-ok (inside K) inside-stands.owner es w;
-          left = numbers-of-each (Left K (r - 1)) (unfolded (inside K) es)
-              (unfold-each (Left K (r - 1)) (λ o e l. l) (inside K) es
-              (λ i lo hi. (λ q. inside-left r (nth es i).name (h i lo hi q), λ q y. both_ways y q)));
-          same = unfold-pass K (inside K) inside-stands es w;
-        }
 
   -- names that are left may be bounded by any number that bounds them
   pub stage-lower : (whole : List Entry) (r t : ℕ) (es : List Entry) → Stage K whole r es
@@ -131,8 +111,3 @@ module _ (K : List (List Entry)) where
       = room_by (size_nth K) es (each-of-numbers (λ e. is_named e ≡ true → 1 ≤ size_nth K e.name) es (λ n lo hi q. (G.left n lo hi q).0)) in
       let size : length (unfolded_by K es) ≡ size_by (size_nth K) es = named-size K es in
       omega (arith, ap length G.same)
-
-  -- what stands for nothing is replaced by nothing
-  pub inside-none : Each LegalNamed K → (n : ℕ) → size_nth K n ≡ 0 → inside K n ≡ []
-  inside-none each n z =
-      none-there (inside K n) (omega (arith, stage-room (contents K n) (n - 1) (inside K n) (inside-stage each n), contents-size K n))

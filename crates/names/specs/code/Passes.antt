@@ -1,4 +1,4 @@
--- Unfolding in passes: each replaces all names that are there. A description names only earlier ones, so that what is put in for a name has
+-- Unfolding in steps: names that stand for nothing go first. A description names only earlier ones, so that what is put in for a name has
 -- lesser names.
 -- Assumes nothing.
 use Rattle.std.specs.Prelude.{◌≤◌, ℕ, eqb, length, cond, true, List, [], ◌∷◌, ◌≡◌}
@@ -20,7 +20,7 @@ pub record StandsFor (K : List (List Entry)) (S : ℕ → List Entry) : Type 0 w
   pub owner : (n : ℕ) → OwnersOk (S n)
   pub same : (n : ℕ) → unfolded_by K (S n) ≡ contents K n
 
--- ---- passes
+-- ---- steps
 
 -- names that stand for no entries, by S, go; the others stay
 unfoldable pub kept_by : (ℕ → ℕ) → ℕ → List Entry
@@ -29,7 +29,7 @@ kept_by S x = cond (eqb (S x) 0) [] (name_again x)
 abbrev pub emptied : List (List Entry) → ℕ → List Entry
 emptied K = kept_by (size_nth K)
 
--- what a pass puts in for name n: the entries of its description, without names that stand for nothing
+-- what is read for name n: the entries of its description, without names that stand for nothing
 abbrev pub inside : List (List Entry) → ℕ → List Entry
 inside K n = unfolded (emptied K) (described K n)
 
@@ -37,7 +37,7 @@ inside K n = unfolded (emptied K) (described K n)
 abbrev pub Left : List (List Entry) → ℕ → Entry → Type 0
 Left K r e = is_named e ≡ true → (1 ≤ size_nth K e.name) × (e.name ≤ r)
 
--- where unfolding stands between passes: the entries stand for `whole`, and names up to r are left
+-- where unfolding stands between steps: the entries stand for `whole`, and names up to r are left
 pub record Stage (K : List (List Entry)) (whole : List Entry) (r : ℕ) (es : List Entry) : Type 0 where
   pub form : FormsOk es
   pub owner : OwnersOk es

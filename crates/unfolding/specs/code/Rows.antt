@@ -18,7 +18,7 @@ entry_of_row x = record {
 abbrev pub entries_in : List ℕ → ℕ → List Entry
 entries_in rows n = map entry_of_row (take n rows)
 
--- the greatest name among entries, or 0: each pass leaves a smaller one
+-- the greatest name among entries, or 0: that of what is opened is less each time
 unfoldable pub greatest_name : List Entry → ℕ
 greatest_name [] = 0
 greatest_name (e ∷ es) = max (cond (is_named e) e.name 0) (greatest_name es)

@@ -1,10 +1,9 @@
 -- `unfold_read` meets its contract.
 use Prim.Native.Nat.{ℕ}
 use lib.ListN.{length}
-use mathlib.Core.Path.{◌∙◌, ◌≡◌, ap, refl}
+use mathlib.Core.Path.{◌∙◌, ◌≡◌, ap}
 use native.Mathlib.Omega.{arith}
 use Rattle.names.specs.NamedReading.{dictionary_of}
-use Rattle.names.specs.Unfold.{unfolded_by}
 use Rattle.unfolding.proofs.CallLaws.{Took, read-refused, read-took, took-unfolds}
 use Rattle.std.proofs.lemmas.Result.{err_from_is_err_and}
 use Rattle.unfolding.proofs.calls.unfold_read.Goals.{In_ok-m}
@@ -14,15 +13,10 @@ use Rattle.unfolding.proofs.calls.unfold_read.Goals as goal
 took : (c : In_ok-m) → Took (dictionary_of c.args.dictionary.bytes.now) c.args.input c.args.d.now c.in_ok-m.m.total
 took c = read-took (dictionary_of c.args.dictionary.bytes.now) _ _ (c.read_named.ensures _ c.args.dictionary.ready.known) c.in_ok-m.was
 
-pub load-requires : goal.load-requires
-load-requires c =
-    let T = took (goal.at.load-requires c).In_ok-m in
-    rw c.from.ensures (T.count, T.whole, T.few, refl)
-
 pub unfold_rows-requires : goal.unfold_rows-requires
 unfold_rows-requires c =
     let T = took (goal.at.unfold_rows-requires c).In_ok-m in
-    rw c.load.ensures (T.legal, T.small)
+    rw c.from.ensures (T.count, T.whole, T.few, c.requires, T.legal, T.small)
 
 pub returns-in_err-m : goal.returns-in_err-m
 returns-in_err-m c =
@@ -32,7 +26,5 @@ returns-in_err-m c =
 
 pub returns : goal.returns
 returns c =
-    let K = dictionary_of c.args.dictionary.bytes.now in
     let T = took (goal.at.returns c).In_ok-m in
-    let rows = c.unfold_rows.ensures ∙ ap (unfolded_by K) c.load.ensures in
-    (took-unfolds T (c.len.ensures.0 ∙ ap length rows), λ n e. rows)
+    (took-unfolds T (c.len.ensures.0 ∙ ap length c.unfold_rows.ensures), λ n e. (c.unfold_rows.ensures, rw c.unfold_rows.ensures T.small))

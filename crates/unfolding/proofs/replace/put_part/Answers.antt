@@ -26,7 +26,7 @@ placed c = omega (arith, (here c).before, c.requires.2)
 
 -- all has room
 room : (c : In-Some)
-    → length (c.args.out.now ++ map (relocate (length c.args.out.now) c.args.o) (unfolded (kept_by (size_in c.args.tables.now.of)) (entries_of c.args.s.now))) ≤ 1008
+    → length (c.args.out.now ++ map (relocate (length c.args.out.now) c.args.o) (unfolded (kept_by (size_in c.args.tables.now.of)) (entries_of c.args.s.now))) ≤ 1136
 room c =
     let a = c.args in
     let U = unfolded (kept_by (size_in a.tables.now.of)) (entries_of a.s.now) in

@@ -19,13 +19,16 @@ many : (c : In_ok-n) → 512 * blocks_for plain (length c.unfold_read.new.rows) 
 many c =
     let u = c.unfold_read.ensures in
     let n = unfolds-many (dictionary_of c.args.self.bytes.now) c.args.input c.args.d.now u.0 c.in_ok-n.was in
-    ap (λ (k : ℕ). 512 * blocks_for plain k) (ap length (u.1 _ c.in_ok-n.was) ∙ sym n)
+    ap (λ (k : ℕ). 512 * blocks_for plain k) (ap length (u.1 _ c.in_ok-n.was).0 ∙ sym n)
 
 pub returns-in_err-n : goal.returns-in_err-n
 returns-in_err-n c =
     let p = err_from_is_err_and c.from_residual.result c.from_residual.ensures.1 in
     let g = dictionary-goes c.args.self.bytes.now c.args.input c.args.d.now refl c.args.self.accepted in
     rw (p.1, p.2) (unfold-stops c.args.self.bytes.now c.args.input c.args.d.now c.args.out.now (g ∙ sym c.unfold_read.ensures.0 ∙ c.in_err-n.was))
+
+pub write_rows-requires : goal.write_rows-requires
+write_rows-requires c = (c.unfold_read.ensures.1 _ c.in_ok-n.was).1
 
 pub returns-then-not-write_rows : goal.returns-then-not-write_rows
 returns-then-not-write_rows c =
@@ -44,4 +47,4 @@ returns c =
     let g = dictionary-goes c.args.self.bytes.now c.args.input c.args.d.now refl c.args.self.accepted in
     unfold-goes c.args.self.bytes.now c.args.input c.args.d.now c.args.out.now g
     (writes-all (dictionary_of c.args.self.bytes.now) _ _ c.args.out.now u.0 c.in_ok-n.was (omega (arith, s.0, m)))
-    (s.1 ∙ ap (λ (es : List Entry). over (encode es) c.args.out.now) (u.1 _ c.in_ok-n.was))
+    (s.1 ∙ ap (λ (es : List Entry). over (encode es) c.args.out.now) (u.1 _ c.in_ok-n.was).0)

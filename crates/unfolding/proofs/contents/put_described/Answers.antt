@@ -6,7 +6,7 @@ use native.Mathlib.Omega.{arith}
 use Rattle.blocks.specs.declared.Entry.{Entry}
 use Rattle.names.specs.Unfold.{relocate}
 use Rattle.unfolding.proofs.PassLaws.{cut-blocks, cut-described, cut-loads, inside-same, raw-ready}
-use Rattle.unfolding.proofs.passes.put_described.Goals as goal
+use Rattle.unfolding.proofs.contents.put_described.Goals as goal
 
 pub overflow_sub-last : goal.overflow_sub-last
 overflow_sub-last c =
