@@ -94,7 +94,7 @@ module _ (P : List ℕ) (es : List Entry) where
       (among_one (partner_of P (nth es k).owner (nth es k).name) es (k - 1)
       (record { at = j; from = lo; to = omega arith; passes = and_both u.0 (and_both (eq-eqb own) pair) }))
 
-  two-given : {n : ℕ} → RightList P n → Apart P es → (g p q : ℕ) → excludes_in P p q ≡ true → owns g p es ≡ true → owns g q es ≡ true → ⊥
+  pub two-given : {n : ℕ} → RightList P n → Apart P es → (g p q : ℕ) → excludes_in P p q ≡ true → owns g p es ≡ true → owns g q es ≡ true → ⊥
   two-given R A g p q x a b =
       let i = owns-among g p es a in
       let j = owns-among g q es b in

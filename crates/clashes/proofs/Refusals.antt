@@ -41,11 +41,11 @@ same-refusal {r} {k} {i} {p} {k'} {i'} {p'} e f =
 
 -- ---- the list's faults, or none
 
-list-none : (P : List ℕ) {m : ℕ} → pairs_reading P ≡ Ok m → NoneApplies (pair_faults P)
+pub list-none : (P : List ℕ) {m : ℕ} → pairs_reading P ≡ Ok m → NoneApplies (pair_faults P)
 unfolding pairs_reading
 list-none P e = clean-none (pair_faults P) (accepted-finding 0 (pair_count P) (first (pair_faults P)) e).1
 
-none_list : (P : List ℕ) → NoneApplies (pair_faults P) → pairs_reading P ≡ Ok (pair_count P)
+pub none_list : (P : List ℕ) → NoneApplies (pair_faults P) → pairs_reading P ≡ Ok (pair_count P)
 unfolding pairs_reading
 none_list P h = rw (pairs_reading, none-clean (pair_faults P) h)
 

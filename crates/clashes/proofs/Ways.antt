@@ -133,7 +133,7 @@ module _ (P : List ℕ) (empty : pair_count P ≡ 0) where
   never-partner : (o p : ℕ) (e : Entry) → partner_of P o p e ≡ false
   never-partner o p e = rw (never-excludes e.name p, and_zero (eqb o e.owner)) (and_zero (gives_property e))
 
-  never-completes : (es : List Entry) (n : ℕ) → completes P es n ≡ false
+  pub never-completes : (es : List Entry) (n : ℕ) → completes P es n ≡ false
   unfolding completes
   never-completes es n =
       rw (one-never (partner_of P (owner_of es n) (nth es n).name) es _ (never-partner (owner_of es n) (nth es n).name)) (and_zero (gives_property (nth es n)))
