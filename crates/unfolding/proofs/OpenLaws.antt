@@ -28,7 +28,7 @@ use Rattle.unfolding.proofs.PassLaws.{stage-over}
 use Rattle.unfolding.proofs.RowLaws.{any-moved, greatest-bounds, greatest-least, greatest-moved, take-twice}
 use Rattle.unfolding.specs.code.Replacing.{Laid, Opened, Passing, Same, StandsAt, again, pending}
 use Rattle.unfolding.specs.code.Rows.{greatest_name}
-use Rattle.unfolding.specs.declared.contents.Desk.{Desk}
+use Rattle.unfolding.specs.declared.contents.Opening.{Opening}
 
 -- the owners of what a name stands for are allowed
 pub contents-owners : (K : List (List Entry)) → Each LegalNamed K → (n : ℕ) → OwnersOk (contents K n)
@@ -121,13 +121,13 @@ module _ {K : List (List Entry)} {whole xs : List Entry} {r : ℕ} (G : Stage K 
 -- ---- going over what is open
 
 -- i entries are passed, since the first ones, and those after them give what all of them give
-pub record Going (K : List (List Entry)) (first : ℕ) (start : Desk) (before whole : List Entry) (i : ℕ) (d : Desk) (out : List Entry) : Type 0 where
+pub record Going (K : List (List Entry)) (first : ℕ) (start : Opening) (before whole : List Entry) (i : ℕ) (d : Opening) (out : List Entry) : Type 0 where
   pub passing : Passing (contents K) start.opened whole (take (length start.opened + 1) d.number) i out
   pub laid : Laid K d out
   pub same : Same (first + 1) start d
   pub grown : length before + i ≤ length out + first
 
-module _ {K : List (List Entry)} {first : ℕ} {start : Desk} {before whole : List Entry} {i : ℕ} {d : Desk} {out : List Entry}
+module _ {K : List (List Entry)} {first : ℕ} {start : Opening} {before whole : List Entry} {i : ℕ} {d : Opening} {out : List Entry}
     (P : Going K first start before whole i d out) (O : Opened K first start.opened) (lo : first ≤ i) (hi : i < length start.opened)
     {e : Entry} (is : e ≡ get_or d.opened i zero_entry) where
   -- the entry is the next
@@ -165,7 +165,7 @@ module _ {K : List (List Entry)} {first : ℕ} {start : Desk} {before whole : Li
       omega (arith, b, ap (λ (y : Entry). y.name) x)
 
   -- one entry more, a name
-  pub going-past : {d' : Desk} {put : List Entry} → is_named e ≡ true → put ≡ out ++ map (relocate (length out) (get_or (take (length start.opened + 1) d.number) e.owner 0)) (contents K e.name)
+  pub going-past : {d' : Opening} {put : List Entry} → is_named e ≡ true → put ≡ out ++ map (relocate (length out) (get_or (take (length start.opened + 1) d.number) e.owner 0)) (contents K e.name)
       → Laid K d' put → Same (length d.opened + 1) d d' → Going K first start before whole (i + 1) d' put
   going-past {d'} {put} q x L S =
       let n : length d.opened + 1 ≡ length start.opened + 1 = ap (λ (es : List Entry). length es + 1) P.same.opened in
@@ -190,7 +190,7 @@ module _ {K : List (List Entry)} {first : ℕ} {start : Desk} {before whole : Li
       }
 
   -- or any other
-  pub going-on : {d' : Desk} {r : Entry} {put : List Entry} {v : ℕ} → is_named e ≡ false → length d.number ≡ 1137 → length start.opened ≤ 1136
+  pub going-on : {d' : Opening} {r : Entry} {put : List Entry} {v : ℕ} → is_named e ≡ false → length d.number ≡ 1137 → length start.opened ≤ 1136
       → r ≡ owned_by (get_or (take (length start.opened + 1) d.number) e.owner 0) e → put ≡ out ++ (r ∷ []) → v ≡ length put
       → d'.opened ≡ d.opened → d'.number ≡ set d.number (i + 1) v → d'.stood ≡ d.stood → Going K first start before whole (i + 1) d' put
   going-on {d'} {r} {put} {v} q long few x y z o n p =

@@ -30,7 +30,7 @@ pub(crate) struct Place {
 // What unfolding one description needs beside its output: the entries of descriptions that are open; the new number of each of these that may own
 // others; the same for a description as it is read; and where in the output what each name stands for is, if it is there.
 #[derive(Drop)]
-pub(crate) struct Desk {
+pub(crate) struct Opening {
     opened: Rows,
     number: [u16; 1137],
     inner: [u16; 1009],
@@ -51,7 +51,7 @@ fn put_described(dictionary: Dictionary, n: u16, o: u16, number: &mut [u16; 1009
 
 // Puts in what name n stands for, at the place of o: from where it stands already, or else from the dictionary's bytes.
 #[cycle(put_name_put_first_put_opened)]
-fn put_name(dictionary: Dictionary, n: u16, o: u16, desk: &mut Desk, out: &mut Rows)
+fn put_name(dictionary: Dictionary, n: u16, o: u16, desk: &mut Opening, out: &mut Rows)
     requires { (1 ≤ n) × (n ≤ length (dictionary_of dictionary.bytes.now)) × (o ≤ length out.old) × Laid (dictionary_of dictionary.bytes.now) desk.old out.old
         × (length out.old + length (contents (dictionary_of dictionary.bytes.now) n) ≤ 1008)
         × (length desk.old.opened + length (contents (dictionary_of dictionary.bytes.now) n) + 2 * n ≤ 1137) }
@@ -76,7 +76,7 @@ fn put_name(dictionary: Dictionary, n: u16, o: u16, desk: &mut Desk, out: &mut R
 
 // Puts in what name n stands for, at the place of o, from the dictionary's bytes: where names are left, it is opened.
 #[cycle(put_name_put_first_put_opened)]
-fn put_first(dictionary: Dictionary, n: u16, o: u16, desk: &mut Desk, out: &mut Rows)
+fn put_first(dictionary: Dictionary, n: u16, o: u16, desk: &mut Opening, out: &mut Rows)
     requires { (1 ≤ n) × (n ≤ length (dictionary_of dictionary.bytes.now)) × (o ≤ length out.old) × Laid (dictionary_of dictionary.bytes.now) desk.old out.old
         × (length out.old + length (contents (dictionary_of dictionary.bytes.now) n) ≤ 1008)
         × (length desk.old.opened + length (contents (dictionary_of dictionary.bytes.now) n) + 2 * n ≤ 1137) }
@@ -104,7 +104,7 @@ fn put_first(dictionary: Dictionary, n: u16, o: u16, desk: &mut Desk, out: &mut 
 
 // Puts in the entries that are open after the first ones, a name by what it stands for.
 #[cycle(put_name_put_first_put_opened)]
-fn put_opened(dictionary: Dictionary, first: usize, desk: &mut Desk, out: &mut Rows)
+fn put_opened(dictionary: Dictionary, first: usize, desk: &mut Opening, out: &mut Rows)
     requires { Opened (dictionary_of dictionary.bytes.now) first desk.old.opened × Laid (dictionary_of dictionary.bytes.now) desk.old out.old
         × (length (pending (contents (dictionary_of dictionary.bytes.now)) desk.old.opened (take (length desk.old.opened + 1) desk.old.number) first out.old) ≤ 1008)
         × (first + length (pending (contents (dictionary_of dictionary.bytes.now)) desk.old.opened (take (length desk.old.opened + 1) desk.old.number) first out.old)
@@ -130,7 +130,7 @@ pub(crate) fn unfold_rows(dictionary: Dictionary, d: &[u8], total: usize, rows: 
         × LegalNamed (length (dictionary_of dictionary.bytes.now)) (entries_of d.now) × (length (unfolded_by (dictionary_of dictionary.bytes.now) (entries_of d.now)) ≤ 1008) }
     ensures { rows.new ≡ unfolded_by (dictionary_of dictionary.entry.bytes.now) (entries_of d.now) }
 {
-    let mut desk = Desk {
+    let mut desk = Opening {
         opened: Rows::new(),
         number: [0; 1137],
         inner: [0; 1009],

@@ -5,7 +5,7 @@ use Rattle.blocks.specs.Entries.{is_named, nth, zero_entry}
 use Rattle.blocks.specs.declared.Entry.{Entry}
 use Rattle.names.specs.Measures.{size_nth}
 use Rattle.names.specs.Unfold.{contents, owned_by, relocate, unfold_from}
-use Rattle.unfolding.specs.declared.contents.Desk.{Desk}
+use Rattle.unfolding.specs.declared.contents.Opening.{Opening}
 use Rattle.unfolding.specs.declared.contents.Place.{Place}
 
 -- each name has its number in a table of 65
@@ -49,11 +49,11 @@ pub record Opened (K : List (List Entry)) (first : ℕ) (es : List Entry) : Type
   pub owners : (i : ℕ) → first ≤ i → i < length es → (get_or es i zero_entry).owner ≤ i
 
 -- what a desk says of the output: where names stand, and numbers of entries that are there
-pub record Laid (K : List (List Entry)) (d : Desk) (out : List Entry) : Type 0 where
+pub record Laid (K : List (List Entry)) (d : Opening) (out : List Entry) : Type 0 where
   pub stood : Stood K d.stood out
   pub bound : (j : ℕ) → get_or d.number j 0 ≤ length out
 
 -- what is open is as before, and so are the numbers of the first k
-pub record Same (k : ℕ) (a b : Desk) : Type 0 where
+pub record Same (k : ℕ) (a b : Opening) : Type 0 where
   pub opened : b.opened ≡ a.opened
   pub number : take k b.number ≡ take k a.number
