@@ -1,5 +1,5 @@
 // The calls: one description, and two under one dictionary.
-ghost use Rattle.std.specs.Prelude.{◌≡◌, ℕ, ◌*◌, ◌≤◌, ◌<◌, false, length, true};
+ghost use Rattle.std.specs.Prelude.{◌≡◌, [], ℕ, ◌*◌, ◌≤◌, ◌<◌, false, length, true};
 ghost use Rattle.blocks.specs.Encoding.{blocks_for, encode};
 ghost use Rattle.blocks.specs.Entries.{entries_of};
 ghost use Rattle.blocks.specs.Frame.{plain};
@@ -22,12 +22,12 @@ fn unfold_read(
     input: u16,
     rows: &mut Rows,
 ) -> Result<u16, Refusal>
-    requires { length rows.old ≡ 0 }
+    requires { rows.old ≡ [] }
     ensures { (result ≡ named_unfolding (dictionary_of dictionary.entry.bytes.now) input d.now)
         × ((n : ℕ) → result ≡ Ok n → (rows.new ≡ unfolded_by (dictionary_of dictionary.entry.bytes.now) (entries_of d.now)) × (length rows.new ≤ 1008)) }
 {
     let m = read_named(d, input, dictionary.tables)?;
-    unfold_rows(dictionary, d, usize::from(m.total), rows);
+    unfold_rows(dictionary, d, m, rows);
     Ok(rows.len() as u16)
 }
 

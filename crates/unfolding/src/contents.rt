@@ -4,7 +4,7 @@
 // that names others is opened: its entries go to a table of those that are open, behind the name, which owns there what its top owns, and from
 // there to the output one by one, a name among them by what it stands for. Names go to earlier descriptions only, so that none is opened while it
 // is open. So the time grows with what is read and what is written, and not with how names are nested.
-ghost use Rattle.std.specs.Prelude.{◌≡◌, ◌++◌, drop, get_or, map, ◌*◌, ◌+◌, ◌≤◌, length, take};
+ghost use Rattle.std.specs.Prelude.{◌≡◌, [], ◌++◌, drop, get_or, map, ◌*◌, ◌+◌, ◌≤◌, length, take};
 ghost use Rattle.blocks.specs.Entries.{entries_of};
 ghost use Rattle.blocks.specs.code.Blockwise.{Whole};
 ghost use Rattle.names.specs.NamedReading.{dictionary_of};
@@ -14,6 +14,7 @@ ghost use Rattle.names.specs.code.Passes.{inside};
 ghost use Rattle.unfolding.specs.code.Replacing.{Laid, Opened, Same, pending};
 ghost use Rattle.unfolding.specs.code.Rows.{greatest_name};
 
+use crate::Measured;
 use crate::dictionary::Dictionary;
 use crate::replace::{put_again, put_aside, put_part};
 use crate::rows::Rows;
@@ -124,9 +125,10 @@ fn put_opened(dictionary: Dictionary, first: usize, desk: &mut Opening, out: &mu
     }
 }
 
-// Unfolds a description of `total` entries into an empty table.
-pub(crate) fn unfold_rows(dictionary: Dictionary, d: &[u8], total: usize, rows: &mut Rows)
-    requires { (total ≡ length (entries_of d.now)) × Whole d.now total × (total ≤ 1008) × (length rows.old ≡ 0)
+// Unfolds a description of `total` entries that may have names into an empty table: it is what is open first.
+#[inline(never)]
+fn unfold_named(dictionary: Dictionary, d: &[u8], total: usize, rows: &mut Rows)
+    requires { (total ≡ length (entries_of d.now)) × Whole d.now total × (total ≤ 1008) × (rows.old ≡ [])
         × LegalNamed (length (dictionary_of dictionary.bytes.now)) (entries_of d.now) × (length (unfolded_by (dictionary_of dictionary.bytes.now) (entries_of d.now)) ≤ 1008) }
     ensures { rows.new ≡ unfolded_by (dictionary_of dictionary.entry.bytes.now) (entries_of d.now) }
 {
@@ -145,4 +147,23 @@ pub(crate) fn unfold_rows(dictionary: Dictionary, d: &[u8], total: usize, rows: 
         &mut desk.opened,
     );
     put_opened(dictionary, 0, &mut desk, rows);
+}
+
+// Unfolds a description into an empty table. Where it has as many entries once unfolded as before, it is likely to have no names, and then its
+// entries are what is unfolded, with no other table to clear; where it has some after all, it is gone over again.
+pub(crate) fn unfold_rows(dictionary: Dictionary, d: &[u8], m: Measured, rows: &mut Rows)
+    requires { (m.total ≡ length (entries_of d.now)) × Whole d.now m.total × (m.total ≤ 1008) × (rows.old ≡ [])
+        × LegalNamed (length (dictionary_of dictionary.bytes.now)) (entries_of d.now) × (length (unfolded_by (dictionary_of dictionary.bytes.now) (entries_of d.now)) ≤ 1008) }
+    ensures { rows.new ≡ unfolded_by (dictionary_of dictionary.entry.bytes.now) (entries_of d.now) }
+{
+    let total = usize::from(m.total);
+    if m.size == m.total {
+        let mut number = [0u16; 1009];
+        put_part(d, total, dictionary.tables, 0, &mut number, rows);
+        if !rows.has_names_after(0) {
+            return;
+        }
+        rows.truncate(0);
+    }
+    unfold_named(dictionary, d, total, rows);
 }

@@ -213,6 +213,14 @@ pub fn worst_fit() -> (Vec<u8>, Vec<u8>) {
     (encode(&specimen), every_at_most())
 }
 
+/// 2,016 properties of the top whose looks all begin in one bucket of the library's index, 15 different ones, and 1,008 times the lack of one
+/// more that does.
+pub fn one_bucket() -> (Vec<u8>, Vec<u8>) {
+    let named = |turn: usize| 1 + 2048 * turn as u16;
+    let given: Vec<Entry> = (0..2016).map(|i| entry(1, 0, named(i % 15), 0)).collect();
+    (encode(&given), encode(&[entry(2, 0, named(15), 0); 1008]))
+}
+
 /// 2,016 groups of one link, and 1,008 at least of it.
 pub fn one_link_at_least() -> (Vec<u8>, Vec<u8>) {
     let groups = vec![entry(7, 0, 1, 0); 2016];

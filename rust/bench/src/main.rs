@@ -13,7 +13,7 @@ use std::hint::black_box;
 use std::time::Instant;
 
 use bench::inputs::{
-    entry, one_cell, one_link_at_least, one_link_every, one_link_place, single_links, with_first,
+    entry, one_bucket, one_cell, one_link_at_least, one_link_every, one_link_place, single_links, with_first,
     with_last, worst_fit, Chance, Model, Shape,
 };
 use bench::plain;
@@ -374,6 +374,9 @@ fn one_link_rows() {
         let times = fit_times(&[(&specimen, &description)], true);
         print_row("fit", sizes, "one link", situation, times);
     }
+    let (specimen, description) = one_bucket();
+    let times = fit_times(&[(&specimen, &description)], true);
+    print_row("fit", "2,016 and 1,008", "one bucket", "chosen", times);
 }
 
 fn read_rows(timed: &Timed) {

@@ -3,7 +3,9 @@
 use std::hint::black_box;
 
 use bench::inputs::Chance;
-use bench::naming::{deep_chain, empty_chain, flat, Case};
+use bench::naming::{
+    deep_chain, empty_chain, flat, nested_among_properties, staircase, Case,
+};
 use bench::plain;
 use goltximen::{unfold, Under};
 use reference::{encode, Entry};
@@ -40,6 +42,21 @@ pub fn rows() {
             unfold_times(&case),
         );
     }
+    chosen_rows();
+}
+
+/// Rows of inputs that are chosen to be slow: names that stand for each other, in descriptions full of names that stand for nothing.
+fn chosen_rows() {
+    for (size, input, case) in [
+        ("63", "staircase", staircase(1)),
+        ("1,008", "staircase, 16 times", staircase(16)),
+        ("1,007", "nested among 944", nested_among_properties()),
+    ] {
+        print_row("unfold", size, input, "chosen", unfold_times(&case));
+        print_row("normal form", size, input, "chosen", normal_times(&case));
+        let times = compare_times(&case, &case.description);
+        print_row("compare", size, input, "chosen", times);
+    }
 }
 
 fn unfold_times(case: &Case) -> (f64, f64) {
@@ -48,6 +65,19 @@ fn unfold_times(case: &Case) -> (f64, f64) {
         16 * 512,
         |out| unfold(black_box(dictionary), black_box(d), out).expect("accepted"),
         |out| plain::unfold(black_box(dictionary), black_box(d), out).expect("accepted"),
+    )
+}
+
+fn normal_times(case: &Case) -> (f64, f64) {
+    let (dictionary, d) = (&case.dictionary[..], &encode(&case.description)[..]);
+    let with = |dictionary| Under {
+        pairs: &[],
+        dictionary,
+    };
+    writing(
+        16 * 512,
+        |out| with(black_box(dictionary)).normal_form(black_box(d), out),
+        |out| plain::normal_with(&[], black_box(dictionary), black_box(d), out),
     )
 }
 

@@ -75,3 +75,30 @@ pub fn deep_chain() -> Case {
         description: once(MOST_NAMES),
     }
 }
+
+/// An empty description, one of one property, and 62 of which each names the empty one 1,007 times and then the one before: each
+/// stands for one entry. And so many times the names of all of them but the empty one.
+pub fn staircase(times: usize) -> Case {
+    let names: Vec<Entry> = (2..=MOST_NAMES).map(|name| named(0, name)).collect();
+    Case {
+        dictionary: deep_chain().dictionary,
+        description: names.repeat(times),
+    }
+}
+
+/// An empty description, one of one property, and 62 of which each names the empty one 1,006 times and then the one before, and has
+/// a property of its own. And 944 properties, and the last name.
+pub fn nested_among_properties() -> Case {
+    let mut dictionary = [encode(&[]), encode(&[entry(1, 0, 7, 0)])].concat();
+    for name in 2..MOST_NAMES {
+        let mut entries = vec![named(0, 1); 1006];
+        entries.extend([named(0, name), entry(1, 0, 1000 + name as u16, 0)]);
+        dictionary.extend(encode(&entries));
+    }
+    let mut description: Vec<Entry> = (0..944).map(|i| entry(1, 0, 2000 + i, 0)).collect();
+    description.push(named(0, MOST_NAMES));
+    Case {
+        dictionary,
+        description,
+    }
+}
