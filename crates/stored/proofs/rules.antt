@@ -1,0 +1,2 @@
+-- Why a stored entry is refused.
+pub mod RefusalLaws
