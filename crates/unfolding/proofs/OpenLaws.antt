@@ -1,6 +1,6 @@
 -- Laws of descriptions that are opened: what their entries are there, and what they give.
 -- Assumes nothing.
-use Prim.Native.Nat.{◌+◌, ◌-◌, ◌<◌, ◌≤◌, ◌*◌, suc, zero, ℕ}
+use Prim.Native.Nat.{◌+◌, ◌-◌, ◌<◌, ◌≤◌, suc, zero, ℕ}
 use lib.ListN.{drop, get_or, length, length-append, length-drop, length-map, set, take}
 use lib.Seq.{drop-append_seam, get_or-set_same, length-take-le, take-append_seam, take-set-lt}
 use mathlib.Core.Bool.{false, true}
@@ -16,7 +16,6 @@ use Rattle.blocks.specs.declared.Entry.{Entry}
 use Rattle.names.proofs.Dictionary.InTurn.{in-turn}
 use Rattle.names.proofs.InPasses.MovedUnfolding.{unfold-in}
 use Rattle.names.proofs.InPasses.PassStages.{inside-stage, stage-room, zero-empty}
-use Rattle.names.proofs.InPasses.Replaced.{moved_nowhere}
 use Rattle.names.proofs.Legality.UnfoldOwners.{unfold-owners-ok}
 use Rattle.names.proofs.Measured.UnfoldSize.{contents-size}
 use Rattle.names.specs.Measures.{size_nth}
@@ -105,25 +104,6 @@ module _ {K : List (List Entry)} {whole xs : List Entry} {r : ℕ} (G : Stage K 
       ∙ unfold-in T f f (omega arith) (λ j. get_or number j 0) 1 m (omega arith) xs
       ∙ unfold-at T (λ j. get_or number (shifted f f j) 0) m o xs z G.owner
       ∙ ap (map (relocate m o)) G.same)
-
--- a description of itself, where nothing else is open
-module _ {K : List (List Entry)} {whole xs : List Entry} {r : ℕ} (G : Stage K whole r xs) (few : r ≤ length K) {es : List Entry}
-    (is : es ≡ map (relocate 0 0) xs) (number : List ℕ) (z : get_or number 0 0 ≡ 0) (out : List Entry) (none : out ≡ []) where
-  pub whole-gives : pending (contents K) es number 0 out ≡ whole
-  whole-gives = rw none (opened-gives G few [] refl is number 0 [] z ∙ moved_nowhere whole)
-
-  pub whole-few : length whole ≤ 1008 → length (pending (contents K) es number 0 out) ≤ 1008
-  whole-few h = omega (arith, ap length whole-gives)
-
-  pub whole-room : length whole ≤ 1008 → length K ≤ 64 → 0 + length (pending (contents K) es number 0 out) + 2 * greatest_name (drop 0 es) ≤ 1136 + length out
-  whole-room h m = omega (arith, ap length whole-gives, opened-greatest G few [] refl is)
-
--- or where it has no names
-pub whole-plain : {K : List (List Entry)} {whole xs : List Entry} {r : ℕ} → Stage K whole r xs → {es : List Entry} → es ≡ map (relocate 0 0) xs
-    → list_any is_named es ≡ false → es ≡ whole
-whole-plain {xs = xs} G is h =
-    let e = is ∙ moved_nowhere xs in
-    e ∙ stage-over G (ap (list_any is_named) (sym e) ∙ h)
 
 -- ---- going over what is open
 

@@ -1,15 +1,15 @@
 -- Laws of unfolding: the description that a name stands for, found in the dictionary's bytes, and what it stands for.
 -- Assumes nothing.
 use Prim.Native.Nat.{◌*◌, ◌+◌, ◌-◌, ◌/◌, ◌<◌, ◌≤◌, suc, zero, ℕ}
-use lib.Dec.{eqb}
+use lib.Dec.{eqb, leb, ltb}
 use lib.ListN.{drop, get_or, length, length-map, take}
-use mathlib.Core.Bool.{false, true}
+use mathlib.Core.Bool.{◌&&◌, false, true}
 use mathlib.Core.List.{List, [], ◌∷◌}
 use mathlib.Core.Path.{◌∙◌, ◌≡◌, ap, refl, subst, sym}
 use native.Mathlib.Omega.{arith}
 use Rattle.base.proofs.Lists.{get_d-map-in}
 use Rattle.base.proofs.Parts.{high_is, high_of}
-use Rattle.base.proofs.Tests.{eq-cases, eq-eqb, tests}
+use Rattle.base.proofs.Tests.{and_left, eq-cases, eq-eqb, tests}
 use Rattle.blocks.proofs.Format.EntryBytes.{length-entries}
 use Rattle.blocks.proofs.Format.Lengths.{few-blocks, some_block}
 use Rattle.blocks.proofs.RoundTrip.Faithful.{entries-limit, entries-whole}
@@ -24,13 +24,13 @@ use Rattle.lists.proofs.PartLaws.{part_at, start-within}
 use Rattle.lists.specs.Parts.{first_length, parts_of, start_of}
 use Rattle.names.proofs.Dictionary.ByAllValues.{Given, described-given, each-given-more, given-name}
 use Rattle.names.proofs.Dictionary.ContentsUnfold.{described-forms, described-owners, given-same}
-use Rattle.names.proofs.Entries.EachEntry.{each-of-numbers, numbers-of-each}
-use Rattle.names.proofs.InPasses.PassStages.{emptied-stage, stage-last, stage-lower}
+use Rattle.names.proofs.Entries.EachEntry.{numbers-of-each}
+use Rattle.names.proofs.InPasses.PassStages.{stage-last, stage-lower}
 use Rattle.names.specs.Measures.{size_nth}
 use Rattle.std.specs.List.{list_any}
 use Rattle.names.specs.NamedReading.{dictionary_of}
 use Rattle.names.specs.Promise.{FormsOk, LegalNamed, OwnersOk}
-use Rattle.names.specs.Unfold.{described, in_turn, noted, unfolded, unfolded_by}
+use Rattle.names.specs.Unfold.{described, in_turn, noted, unfolded}
 use Rattle.names.specs.code.Passes.{Stage, inside, kept_by}
 use Rattle.unfolding.proofs.RowLaws.{greatest-bounds, greatest-none}
 use Rattle.unfolding.specs.code.Known.{Ready, Sized, size_in, start_in}
@@ -119,6 +119,19 @@ given-upto k (suc m) h es g =
     (λ q. rw q at g)
     (λ q. each-given-more m es (given-upto k m (omega arith) es g))
 
+-- a name that is given is one of them
+given-some : (k : ℕ) (e : Entry) → name_given k e ≡ true → is_named e ≡ true → (1 ≤ e.name) × (e.name ≤ k)
+unfolding name_given
+given-some k e h q =
+    let f : (ltb 0 e.name && leb e.name k) ≡ true = rw q at h in
+    let y = and_left (ltb 0 e.name) (leb e.name k) f in
+    (omega tests, given-name k e h q)
+
+pub legal-name : {k : ℕ} {es : List Entry} → LegalNamed k es → (i : ℕ) {e : Entry} → i < length es → e ≡ nth es (i + 1) → is_named e ≡ true
+    → (1 ≤ e.name) × (e.name ≤ k)
+legal-name {k} {es} N i {e} l q n =
+    given-some k e (subst (λ (x : Entry). name_given k x ≡ true) (sym q) (N.name (i + 1) (omega arith) (omega arith))) n
+
 given-few : (es : List Entry) → Given 64 es → NamesFew es
 given-few es g n lo hi q = given-name 64 (nth es n) (numbers-of-each (λ e. name_given 64 e ≡ true) es g n lo hi) q
 
@@ -137,23 +150,6 @@ module _ {K : List (List Entry)} {of : List Described} (Z : Sized K of) where
     pub inside-same : {es : List Entry} → es ≡ described K n → unfolded (kept_by (size_in of)) es ≡ inside K n
     unfolding unfolded kept_by
     inside-same q = rw q (given-same (kept_by (size_in of)) (kept_by (size_nth K)) 64 (λ x h. rw (Z.sizes x h)) (λ j. j) 1 0 (described K n) described-few)
-
-  -- ---- what is unfolded
-
-  module _ (es : List Entry) (N : LegalNamed (length K) es) where
-    legal-few : Given 64 es
-    legal-few = given-upto (length K) 64 Z.few es (each-of-numbers (λ e. name_given (length K) e ≡ true) es N.name)
-
-    -- it can be put in
-    pub legal-ready : FormsOk es × (OwnersOk es × NamesFew es)
-    legal-ready = (N.form, (N.owner, given-few es legal-few))
-
-    -- without names that stand for nothing it stands for the same
-    pub legal-stage : Stage K (unfolded_by K es) (length K) (unfolded (kept_by (size_in of)) es)
-    unfolding unfolded kept_by
-    legal-stage =
-        let same = given-same (kept_by (size_in of)) (kept_by (size_nth K)) 64 (λ x h. rw (Z.sizes x h)) (λ j. j) 1 0 es legal-few in
-        rw same (emptied-stage K (length K) es N.form N.owner (λ n lo hi q. given-name (length K) (nth es n) (N.name n lo hi) q))
 
 -- where no name is left, all is unfolded
 pub stage-over : {K : List (List Entry)} {whole es : List Entry} {r : ℕ} → Stage K whole r es → list_any is_named es ≡ false → es ≡ whole

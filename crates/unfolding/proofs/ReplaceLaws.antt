@@ -75,6 +75,12 @@ unfold-least T ν k m (e ∷ es) h =
     (λ q. let ih = unfold-least T (noted ν k (suc m)) (suc k) (suc m) es (λ j l. h (suc j) (omega arith)) in rw q (omega (arith, ih)))
 
 module _ {T : ℕ → List Entry} {es : List Entry} where
+  -- before the first entry only the top owns
+  pub pass-starts : (number : List ℕ) → get_or number 0 0 ≡ 0 → OwnersOk es → Passing T es (unfolded T es) number 0 []
+  unfolding unfolded
+  pass-starts number z w =
+      record { all = sym (unfold-ext T _ (λ j. j) (λ j. get_or number j 0) 1 0 es (owners-of-numbers es w) (λ j o. let q : j ≡ 0 = eqb-eq o in rw q (sym z))) }
+
   -- or what the top stands for
   pub pass-starts-at : (number : List ℕ) (o : ℕ) (out : List Entry) → get_or number 0 0 ≡ o → OwnersOk es
       → Passing T es (out ++ map (relocate (length out) o) (unfolded T es)) number 0 out

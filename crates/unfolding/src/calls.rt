@@ -27,7 +27,7 @@ fn unfold_read(
         × ((n : ℕ) → result ≡ Ok n → (rows.new ≡ unfolded_by (dictionary_of dictionary.entry.bytes.now) (entries_of d.now)) × (length rows.new ≤ 1008)) }
 {
     let m = read_named(d, input, dictionary.tables)?;
-    unfold_rows(dictionary, d, m, rows);
+    unfold_rows(dictionary, d, usize::from(m.total), rows);
     Ok(rows.len() as u16)
 }
 

@@ -14,12 +14,11 @@ ghost use Rattle.names.specs.code.Passes.{inside};
 ghost use Rattle.unfolding.specs.code.Replacing.{Laid, Opened, Same, pending};
 ghost use Rattle.unfolding.specs.code.Rows.{greatest_name};
 
-use crate::Measured;
 use crate::dictionary::Dictionary;
 use crate::replace::{put_again, put_aside, put_part};
 use crate::rows::Rows;
 use blocks::sizes::{BLOCK, ENTRIES};
-use blocks::{Entry, kinds, word};
+use blocks::{Entry, entries_in_order, kinds, word};
 
 // Where what a name stands for is: after how many entries, and how many entries it has.
 #[derive(Clone, Copy)]
@@ -52,24 +51,24 @@ fn put_described(dictionary: Dictionary, n: u16, o: u16, number: &mut [u16; 1009
 
 // Puts in what name n stands for, at the place of o: from where it stands already, or else from the dictionary's bytes.
 #[cycle(put_name_put_first_put_opened)]
-fn put_name(dictionary: Dictionary, n: u16, o: u16, desk: &mut Opening, out: &mut Rows)
-    requires { (1 ≤ n) × (n ≤ length (dictionary_of dictionary.bytes.now)) × (o ≤ length out.old) × Laid (dictionary_of dictionary.bytes.now) desk.old out.old
+fn put_name(dictionary: Dictionary, n: u16, o: u16, opening: &mut Opening, out: &mut Rows)
+    requires { (1 ≤ n) × (n ≤ length (dictionary_of dictionary.bytes.now)) × (o ≤ length out.old) × Laid (dictionary_of dictionary.bytes.now) opening.old out.old
         × (length out.old + length (contents (dictionary_of dictionary.bytes.now) n) ≤ 1008)
-        × (length desk.old.opened + length (contents (dictionary_of dictionary.bytes.now) n) + 2 * n ≤ 1137) }
+        × (length opening.old.opened + length (contents (dictionary_of dictionary.bytes.now) n) + 2 * n ≤ 1137) }
     ensures { (out.new ≡ out.old ++ map (relocate (length out.old) o) (contents (dictionary_of dictionary.entry.bytes.now) n))
-        × Laid (dictionary_of dictionary.entry.bytes.now) desk.new out.new × Same (length desk.old.opened + 1) desk.old desk.new }
+        × Laid (dictionary_of dictionary.entry.bytes.now) opening.new out.new × Same (length opening.old.opened + 1) opening.old opening.new }
 {
     if dictionary.tables.size(n) == 0 {
         return;
     }
     let i = usize::from(n);
-    if let Some(place) = desk.stood[i] {
+    if let Some(place) = opening.stood[i] {
         put_again(out, usize::from(place.first), usize::from(place.count), o);
         return;
     }
     let m = out.len();
-    put_first(dictionary, n, o, desk, out);
-    desk.stood[i] = Some(Place {
+    put_first(dictionary, n, o, opening, out);
+    opening.stood[i] = Some(Place {
         first: m as u16,
         count: (out.len() - m) as u16,
     });
@@ -77,93 +76,75 @@ fn put_name(dictionary: Dictionary, n: u16, o: u16, desk: &mut Opening, out: &mu
 
 // Puts in what name n stands for, at the place of o, from the dictionary's bytes: where names are left, it is opened.
 #[cycle(put_name_put_first_put_opened)]
-fn put_first(dictionary: Dictionary, n: u16, o: u16, desk: &mut Opening, out: &mut Rows)
-    requires { (1 ≤ n) × (n ≤ length (dictionary_of dictionary.bytes.now)) × (o ≤ length out.old) × Laid (dictionary_of dictionary.bytes.now) desk.old out.old
+fn put_first(dictionary: Dictionary, n: u16, o: u16, opening: &mut Opening, out: &mut Rows)
+    requires { (1 ≤ n) × (n ≤ length (dictionary_of dictionary.bytes.now)) × (o ≤ length out.old) × Laid (dictionary_of dictionary.bytes.now) opening.old out.old
         × (length out.old + length (contents (dictionary_of dictionary.bytes.now) n) ≤ 1008)
-        × (length desk.old.opened + length (contents (dictionary_of dictionary.bytes.now) n) + 2 * n ≤ 1137) }
+        × (length opening.old.opened + length (contents (dictionary_of dictionary.bytes.now) n) + 2 * n ≤ 1137) }
     ensures { (out.new ≡ out.old ++ map (relocate (length out.old) o) (contents (dictionary_of dictionary.entry.bytes.now) n))
-        × Laid (dictionary_of dictionary.entry.bytes.now) desk.new out.new × Same (length desk.old.opened + 1) desk.old desk.new }
+        × Laid (dictionary_of dictionary.entry.bytes.now) opening.new out.new × Same (length opening.old.opened + 1) opening.old opening.new }
 {
     let m = out.len();
-    put_described(dictionary, n, o, &mut desk.inner, out);
+    put_described(dictionary, n, o, &mut opening.inner, out);
     if !out.has_names_after(m) {
         return;
     }
-    let at = desk.opened.len();
-    desk.opened.push(Entry {
+    let at = opening.opened.len();
+    opening.opened.push(Entry {
         kind: kinds::NAME,
         reserved: 0,
         owner: 0,
         name: n,
         number: 0,
     });
-    desk.number[at + 1] = o;
-    put_aside(out, m, &mut desk.opened);
-    put_opened(dictionary, at + 1, desk, out);
-    desk.opened.truncate(at);
+    opening.number[at + 1] = o;
+    put_aside(out, m, &mut opening.opened);
+    put_opened(dictionary, at + 1, opening, out);
+    opening.opened.truncate(at);
 }
 
 // Puts in the entries that are open after the first ones, a name by what it stands for.
 #[cycle(put_name_put_first_put_opened)]
-fn put_opened(dictionary: Dictionary, first: usize, desk: &mut Opening, out: &mut Rows)
-    requires { Opened (dictionary_of dictionary.bytes.now) first desk.old.opened × Laid (dictionary_of dictionary.bytes.now) desk.old out.old
-        × (length (pending (contents (dictionary_of dictionary.bytes.now)) desk.old.opened (take (length desk.old.opened + 1) desk.old.number) first out.old) ≤ 1008)
-        × (first + length (pending (contents (dictionary_of dictionary.bytes.now)) desk.old.opened (take (length desk.old.opened + 1) desk.old.number) first out.old)
-        + 2 * greatest_name (drop first desk.old.opened) ≤ 1136 + length out.old) }
-    ensures { (out.new ≡ pending (contents (dictionary_of dictionary.entry.bytes.now)) desk.old.opened (take (length desk.old.opened + 1) desk.old.number) first out.old)
-        × Laid (dictionary_of dictionary.entry.bytes.now) desk.new out.new × Same (first + 1) desk.old desk.new }
+fn put_opened(dictionary: Dictionary, first: usize, opening: &mut Opening, out: &mut Rows)
+    requires { Opened (dictionary_of dictionary.bytes.now) first opening.old.opened × Laid (dictionary_of dictionary.bytes.now) opening.old out.old
+        × (length (pending (contents (dictionary_of dictionary.bytes.now)) opening.old.opened (take (length opening.old.opened + 1) opening.old.number) first out.old) ≤ 1008)
+        × (first + length (pending (contents (dictionary_of dictionary.bytes.now)) opening.old.opened (take (length opening.old.opened + 1) opening.old.number) first out.old)
+        + 2 * greatest_name (drop first opening.old.opened) ≤ 1136 + length out.old) }
+    ensures { (out.new ≡ pending (contents (dictionary_of dictionary.entry.bytes.now)) opening.old.opened (take (length opening.old.opened + 1) opening.old.number) first out.old)
+        × Laid (dictionary_of dictionary.entry.bytes.now) opening.new out.new × Same (first + 1) opening.old opening.new }
 {
-    for i in first..desk.opened.len() {
-        let e = desk.opened.at(i);
-        let o = desk.number[usize::from(e.owner)];
+    for i in first..opening.opened.len() {
+        let e = opening.opened.at(i);
+        let o = opening.number[usize::from(e.owner)];
         if e.kind == kinds::NAME {
-            put_name(dictionary, e.name, o, desk, out);
+            put_name(dictionary, e.name, o, opening, out);
         } else {
             out.push(Entry { owner: o, ..e });
-            desk.number[i + 1] = out.len() as u16;
+            opening.number[i + 1] = out.len() as u16;
         }
     }
 }
 
-// Unfolds a description of `total` entries that may have names into an empty table: it is what is open first.
-#[inline(never)]
-fn unfold_named(dictionary: Dictionary, d: &[u8], total: usize, rows: &mut Rows)
+// Unfolds a description of `total` entries into an empty table: each entry as it stands, and a name by what it stands for.
+pub(crate) fn unfold_rows(dictionary: Dictionary, d: &[u8], total: usize, rows: &mut Rows)
     requires { (total ≡ length (entries_of d.now)) × Whole d.now total × (total ≤ 1008) × (rows.old ≡ [])
         × LegalNamed (length (dictionary_of dictionary.bytes.now)) (entries_of d.now) × (length (unfolded_by (dictionary_of dictionary.bytes.now) (entries_of d.now)) ≤ 1008) }
     ensures { rows.new ≡ unfolded_by (dictionary_of dictionary.entry.bytes.now) (entries_of d.now) }
 {
-    let mut desk = Opening {
+    let mut opening = Opening {
         opened: Rows::new(),
         number: [0; 1137],
         inner: [0; 1009],
         stood: [None; 65],
     };
-    put_part(
-        d,
-        total,
-        dictionary.tables,
-        0,
-        &mut desk.inner,
-        &mut desk.opened,
-    );
-    put_opened(dictionary, 0, &mut desk, rows);
-}
-
-// Unfolds a description into an empty table. Where it has as many entries once unfolded as before, it is likely to have no names, and then its
-// entries are what is unfolded, with no other table to clear; where it has some after all, it is gone over again.
-pub(crate) fn unfold_rows(dictionary: Dictionary, d: &[u8], m: Measured, rows: &mut Rows)
-    requires { (m.total ≡ length (entries_of d.now)) × Whole d.now m.total × (m.total ≤ 1008) × (rows.old ≡ [])
-        × LegalNamed (length (dictionary_of dictionary.bytes.now)) (entries_of d.now) × (length (unfolded_by (dictionary_of dictionary.bytes.now) (entries_of d.now)) ≤ 1008) }
-    ensures { rows.new ≡ unfolded_by (dictionary_of dictionary.entry.bytes.now) (entries_of d.now) }
-{
-    let total = usize::from(m.total);
-    if m.size == m.total {
-        let mut number = [0u16; 1009];
-        put_part(d, total, dictionary.tables, 0, &mut number, rows);
-        if !rows.has_names_after(0) {
-            return;
+    let mut number = [0u16; 1009];
+    for (before, bytes) in entries_in_order(d, total).enumerate() {
+        let e = Entry::from(bytes);
+        let owner = number[usize::from(e.owner)];
+        if e.kind == kinds::NAME {
+            put_name(dictionary, e.name, owner, &mut opening, rows);
+        } else {
+            rows.push(Entry { owner, ..e });
+            number[before + 1] = rows.len() as u16;
         }
-        rows.truncate(0);
     }
-    unfold_named(dictionary, d, total, rows);
 }

@@ -58,9 +58,12 @@ type Pair<'a> = (&'a [u8], &'a [u8]);
 
 fn main() {
     print_heading();
-    if std::env::args().nth(1).as_deref() == Some("hierarchy") {
-        // These rows alone.
-        return ranked::rows();
+    // With a word, some rows alone.
+    match std::env::args().nth(1).as_deref() {
+        Some("hierarchy") => return ranked::rows(),
+        Some("names") => return named::rows(),
+        Some("links") => return one_link_rows(),
+        _ => {}
     }
     model_rows();
     listed::rows();

@@ -22,7 +22,7 @@ use Rattle.names.specs.Promise.{Each, FormsOk, LegalNamed, OwnersOk}
 use Rattle.names.specs.Unfold.{contents, described, in_turn, noted, unfold_from, unfolded, unfolded_by}
 use Rattle.names.specs.code.Passes.{Left, Stage, StandsFor, emptied, inside, kept_by, name_again}
 
-pub none-there : (es : List Entry) → length es ≡ 0 → es ≡ []
+none-there : (es : List Entry) → length es ≡ 0 → es ≡ []
 none-there [] e = refl
 none-there (x ∷ es) e = absurd (omega arith)
 
@@ -60,7 +60,7 @@ module _ (K : List (List Entry)) where
   -- ---- stages
 
   -- without names that stand for nothing, entries stand for the same
-  pub emptied-stage : (r : ℕ) (es : List Entry) → FormsOk es → OwnersOk es
+  emptied-stage : (r : ℕ) (es : List Entry) → FormsOk es → OwnersOk es
       → ((n : ℕ) → 1 ≤ n → n ≤ length es → is_named (nth es n) ≡ true → (nth es n).name ≤ r) → Stage K (unfolded_by K es) r (unfolded (emptied K) es)
   emptied-stage r es f w h =
       record {

@@ -47,7 +47,7 @@ pub again-owners : (n : ℕ) → OwnersOk (name_again n)
 unfolding owner_ok owner_of nth
 again-owners n i lo hi = let q : i ≡ 1 = omega arith in rw q
 
-pub moved_nowhere : (es : List Entry) → map (relocate 0 0) es ≡ es
+moved_nowhere : (es : List Entry) → map (relocate 0 0) es ≡ es
 moved_nowhere [] = refl
 moved_nowhere (e ∷ es) = let z : shifted 0 0 e.owner ≡ e.owner = same e.owner in rw (z, moved_nowhere es)
   where

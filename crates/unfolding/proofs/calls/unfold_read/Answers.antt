@@ -16,7 +16,7 @@ took c = read-took (dictionary_of c.args.dictionary.bytes.now) _ _ (c.read_named
 pub unfold_rows-requires : goal.unfold_rows-requires
 unfold_rows-requires c =
     let T = took (goal.at.unfold_rows-requires c).In_ok-m in
-    (T.count, T.whole, T.few, c.requires, T.legal, T.small)
+    rw c.from.ensures (T.count, T.whole, T.few, c.requires, T.legal, T.small)
 
 pub returns-in_err-m : goal.returns-in_err-m
 returns-in_err-m c =

@@ -15,10 +15,10 @@ abbrev pub decreases-put_first : goal.decreases-put_first
 decreases-put_first l = 3 * l.n + 1
 
 abbrev pub decreases-put_opened : goal.decreases-put_opened
-decreases-put_opened l = 3 * greatest_name (drop l.first l.desk.now.opened) + 3
+decreases-put_opened l = 3 * greatest_name (drop l.first l.opening.now.opened) + 3
 
 abbrev pub invariant-put_opened-loop-i : goal.invariant-put_opened-loop-i
 invariant-put_opened-loop-i l =
     let K = dictionary_of l.dictionary.bytes.now in
-    let start = l.initial.desk in
-    Going K l.first start l.initial.out (pending (contents K) start.opened (take (length start.opened + 1) start.number) l.first l.initial.out) l.i l.desk l.out
+    let start = l.initial.opening in
+    Going K l.first start l.initial.out (pending (contents K) start.opened (take (length start.opened + 1) start.number) l.first l.initial.out) l.i l.opening l.out
