@@ -1,0 +1,4 @@
+-- Laws of the code in src/lacks.rt.
+
+-- Numbers that are noted, some done and the rest to do.
+pub mod NoteLaws

@@ -1,0 +1,4 @@
+-- Laws of the code in src/place.rt.
+
+-- What a place lists, by the entry that is found.
+pub mod ListedLaws

@@ -1,0 +1,2 @@
+-- Mirrors of the code: the contracts of its functions cite these, and no promise does.
+pub mod code

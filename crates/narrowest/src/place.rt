@@ -1,0 +1,36 @@
+// A place of a normal form, and what it lists.
+ghost use Rattle.std.specs.Prelude.{◌≡◌};
+ghost use Rattle.logic.specs.Normal.{find};
+ghost use Rattle.meaning.specs.Lookup.{entry_for};
+ghost use Rattle.narrowest.specs.code.Forms.{entries_in, kind_in, option_of};
+ghost use Rattle.narrowest.specs.code.Places.{place_in};
+
+use crate::form::{AtomKind, Form, entry_of_row};
+use blocks::kinds;
+
+// A place of a normal form: what an entry owns, or the top for 0.
+#[derive(Clone, Copy)]
+pub(crate) struct PlaceIn<'a> {
+    pub(crate) form: Form<'a>,
+    pub(crate) owner: u16,
+}
+
+impl<'a> PlaceIn<'a> {
+    // The number that it lists for a kind and a name, if it does.
+    pub(crate) fn listed(self, kind: AtomKind, name: u16) -> Option<u16>
+        ensures { result ≡ option_of (find (kind_in kind) name (place_in self.entry)) }
+    {
+        let n = self.form.find(self.owner, kind.number(), name);
+        if n == 0 {
+            return None;
+        }
+        Some(entry_of_row(self.form.rows[n - 1]).number)
+    }
+
+    // The entry of its 'every' of a link; 0 where it has none.
+    pub(crate) fn below(self, link: u16) -> usize
+        ensures { result ≡ entry_for (entries_in self.entry.form.rows.now) self.entry.owner 5 link }
+    {
+        self.form.find(self.owner, kinds::EVERY, link)
+    }
+}
