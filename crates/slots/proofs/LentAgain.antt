@@ -5,5 +5,5 @@ use mathlib.Core.List.{List}
 use mathlib.Core.Path.{◌≡◌}
 use Rattle.slots.specs.code.Tables.{Kept}
 
-pub kept-again : {t next head next' head' : List ℕ} {used : ℕ} → Kept t next head used → next' ≡ next → head' ≡ head → Kept t next' head' used
-kept-again k n h = rw (n, h) k
+pub kept-again : {t cells cells' : List ℕ} {most used : ℕ} → Kept t most cells used → cells' ≡ cells → Kept t most cells' used
+kept-again k e = rw e k

@@ -80,7 +80,7 @@ settled-low {b} {d} {used} {t} s j lo hi =
 
 -- ---- the first pass and the second
 
-pub built-placed : {ss : List Slot} {d : List ℕ} {used : ℕ} {o t next head : List ℕ} → EarlySlots 1 ss → Built ss d used o t next head
+pub built-placed : {ss : List Slot} {d : List ℕ} {used : ℕ} {o t cells : List ℕ} {most : ℕ} → EarlySlots 1 ss → Built ss d used o t most cells
     → Placed t used
 built-placed {used = used} {t = t} e b =
     record { lower = λ j lo hi. early-at t 1 used (rw b.slotted at e) j lo (omega arith) }
@@ -89,8 +89,8 @@ built-placed {used = used} {t = t} e b =
 slots-counted : (ss : List Slot) (t : List ℕ) (used : ℕ) → slots_from t 1 used ≡ settled 1 ss → used ≡ length ss
 slots-counted ss t used e = omega (arith, length-settled 1 ss, ap length e, length-slots t 1 used)
 
-pub settled-from : {b : Background} {d : List ℕ} {used : ℕ} {o origin next head t bad full : List ℕ}
-    → Built (slots_of b d) d used o origin next head → Settling origin used 0 t bad full → length (entries_of d) ≤ 1008
+pub settled-from : {b : Background} {d : List ℕ} {used : ℕ} {o origin cells t bad full : List ℕ} {most : ℕ}
+    → Built (slots_of b d) d used o origin most cells → Settling origin used 0 t bad full → length (entries_of d) ≤ 1008
     → Settled b d used t bad full
 settled-from {b} {d} {used} {t = t} k s few =
     let z : used - 0 ≡ used = omega arith in

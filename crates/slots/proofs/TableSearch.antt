@@ -14,7 +14,7 @@ use Rattle.base.proofs.Tests.{and_zero, bool_cases, both_ways, eq-cases, eq-eqb,
 use Rattle.base.specs.Chain.{last_where}
 use Rattle.passes.specs.code.Keys.{key_number}
 use Rattle.passes.specs.code.Slots.{taken}
-use Rattle.slots.proofs.slots.SearchLaws.{keys_of}
+use Rattle.slots.specs.code.Tables.{keys_of}
 use Rattle.slots.proofs.slots.TableLaws.{key-test, length-slots, position-found}
 use Rattle.slots.specs.code.States.{slot_for}
 use Rattle.slots.specs.code.Tables.{key_in, slot_in, slots_from}

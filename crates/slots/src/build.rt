@@ -42,28 +42,26 @@ fn entry_bounds(kind: u8, number: u16) -> u64
     bounds_times(kind) * u64::from(number) + bounds_base(kind)
 }
 
-// Enters the `total` entries of a description into its slots, and returns their number. What the table and the chains' numbers held does not
-// count: a slot is written before it is read. As `enter`, it takes the parts of the table.
+// Enters the `total` entries of a description into its slots, and returns their number. What the table held does not count: a slot is
+// written before it is read. As `enter`, it takes the parts of the table.
 #[inline(always)]
-pub(crate) fn build<const BUCKETS: usize>(
+pub(crate) fn build<const BUCKETS: usize, const CELLS: usize>(
     d: &[u8],
     total: usize,
     table: &mut [u64],
-    next: &mut [u16],
-    head: &mut [u16; BUCKETS],
+    cells: &mut [u16; CELLS],
     node: &mut [u16],
 ) -> usize
-    requires { Readable d.now total × (total < length table.old) × Cleared total next.old head.old node.old }
-    ensures { Built (built_slots d.now) d.now result table.old table.new next.new head.new }
+    requires { Readable d.now total × (total < length table.old) × Cleared total BUCKETS cells.old node.old }
+    ensures { Built (built_slots d.now) d.now result table.old table.new BUCKETS cells.new }
 {
     let mut used: usize = 0;
     for (before, bytes) in entries_in_order(d, total).enumerate() {
         let e = Entry::from(bytes);
         let place = u64::from(node[usize::from(e.owner)]);
-        let s = enter(
+        let s = enter::<BUCKETS, CELLS>(
             table,
-            next,
-            head,
+            cells,
             used,
             entry_key(place, e),
             entry_bounds(e.kind, e.number),

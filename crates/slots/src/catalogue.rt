@@ -43,7 +43,7 @@ struct Scratch {
 // Reads a service, an input of any number, and judges it: as it is sent where nothing may be named, else by the plain description that it stands
 // for, which is written to a buffer that has room for every description.
 fn judge_service(
-    supplier: Supplier<'_, 4093>,
+    supplier: Supplier<'_, 4093, 6111>,
     names: Names<'_>,
     d: &[u8],
     input: u16,
@@ -67,7 +67,7 @@ fn judge_service(
 
 // Judges the services of a list in turn, as inputs 2, 3 and so on, and stores a byte for each: how many there are, or the first refusal.
 fn judge_parts(
-    supplier: Supplier<'_, 4093>,
+    supplier: Supplier<'_, 4093, 6111>,
     names: Names<'_>,
     list: &[u8],
     scratch: &mut Scratch,
@@ -100,23 +100,20 @@ fn judge_all(
         answers.old result answers.new }
 {
     let mut table = [0u64; 1009];
-    let mut next = [0u16; 1009];
-    let mut head = [0u16; 4093];
+    let mut cells = [0u16; 6111];
     let mut node = [0u16; 1009];
     let mut bad = [0u8; 1009];
     let mut full = [0u8; 1009];
-    let next = &mut next[..];
-    let head = &mut head;
+    let cells = &mut cells;
     let mut work = Workspace {
-        next: &mut *next,
-        head: &mut *head,
+        cells: &mut *cells,
         node: &mut node,
         bad: &mut bad,
         full: &mut full,
     };
-    let used = chained_slots(exclusions, c, &mut table, &mut work);
+    let used = chained_slots::<4093, 6111>(exclusions, c, &mut table, &mut work);
     let top = work.bad[0];
-    let slots = Slots::of(&table, next, head, used);
+    let slots = Slots::<4093, 6111>::of(&table, cells, used);
     let supplier = Supplier::new(exclusions, slots, top);
     let mut scratch = Scratch {
         buffer: [0; 8192],

@@ -87,8 +87,8 @@ fn read_services(list: &[u8], of: &mut [Service; 64]) -> Result<u16, Refusal>
 }
 
 // Judges all services by the slots of one, and stores a byte for each from a place of a table on: 1 where the one is contained in it, else 0.
-fn judge_row<const BUCKETS: usize>(
-    supplier: Supplier<'_, BUCKETS>,
+fn judge_row<const BUCKETS: usize, const CELLS: usize>(
+    supplier: Supplier<'_, BUCKETS, CELLS>,
     services: Services<'_>,
     states: &mut [u16; 1009],
     table: &mut [u8; 4096],
@@ -105,35 +105,37 @@ fn judge_row<const BUCKETS: usize>(
 }
 
 // Slots and settles service i, of fewer than N entries, and judges all by it.
-fn slot_row_within<const N: usize, const BUCKETS: usize>(
+fn slot_row_within<const N: usize, const BUCKETS: usize, const CELLS: usize>(
     exclusions: Exclusions<'_>,
     services: Services<'_>,
     i: usize,
     states: &mut [u16; 1009],
     table: &mut [u8; 4096],
 )
-    requires { Ruled (under exclusions.pairs.now) × (i < services.count) × ((get_or services.of.now i no_service).total < N) × (N ≤ 1009) × (61 ≤ BUCKETS) × (BUCKETS ≤ 4093) }
+    requires { Ruled (under exclusions.pairs.now) × (i < services.count) × ((get_or services.of.now i no_service).total < N) × (N ≤ 1009) × (251 ≤ BUCKETS) × (BUCKETS ≤ 4093) × (BUCKETS + 2 * N ≤ CELLS) × (CELLS ≤ 8192) }
     ensures { table.new ≡ stored table.old (64 * i) (contained_row (under exclusions.entry.pairs.now) (parts_of services.entry.list.now)
         (get_or (parts_of services.entry.list.now) i [])) }
 {
     let mut slotted = [0u64; N];
-    let mut next = [0u16; N];
-    let mut head = [0u16; BUCKETS];
+    let mut cells = [0u16; CELLS];
     let mut node = [0u16; N];
     let mut bad = [0u8; N];
     let mut full = [0u8; N];
-    let next = &mut next[..];
-    let head = &mut head;
+    let cells = &mut cells;
     let mut work = Workspace {
-        next: &mut *next,
-        head: &mut *head,
+        cells: &mut *cells,
         node: &mut node,
         bad: &mut bad,
         full: &mut full,
     };
-    let used = chained_slots(exclusions, services.get(i), &mut slotted, &mut work);
+    let used = chained_slots::<BUCKETS, CELLS>(
+        exclusions,
+        services.get(i),
+        &mut slotted,
+        &mut work,
+    );
     let top = work.bad[0];
-    let slots = Slots::of(&slotted, next, head, used);
+    let slots = Slots::<BUCKETS, CELLS>::of(&slotted, cells, used);
     let supplier = Supplier::new(exclusions, slots, top);
     judge_row(supplier, services, states, table, 64 * i)
 }
@@ -152,12 +154,12 @@ fn slot_row(
 {
     let n = services.total(i);
     if n < 64 {
-        return slot_row_within::<64, 251>(exclusions, services, i, states, table);
+        return slot_row_within::<64, 251, 379>(exclusions, services, i, states, table);
     }
     if n < 253 {
-        return slot_row_within::<253, 4093>(exclusions, services, i, states, table);
+        return slot_row_within::<253, 4093, 4599>(exclusions, services, i, states, table);
     }
-    slot_row_within::<1009, 4093>(exclusions, services, i, states, table)
+    slot_row_within::<1009, 4093, 6111>(exclusions, services, i, states, table)
 }
 
 // The rows of all services.

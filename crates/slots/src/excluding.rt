@@ -8,7 +8,7 @@ use crate::slots::{Slots, low_in, property_key};
 use blocks::Property;
 use pairs::Exclusions;
 
-impl<const BUCKETS: usize> Slots<'_, BUCKETS> {
+impl<const BUCKETS: usize, const CELLS: usize> Slots<'_, BUCKETS, CELLS> {
     // Whether a place has a property.
     fn has(self, place: u64, q: Property) -> bool
         requires { place < 1024 }

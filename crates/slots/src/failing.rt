@@ -1,5 +1,5 @@
 // The first entry of a second description that the normal form of a first does not hold, in a table of slots that the caller lends.
-ghost use Rattle.std.specs.Prelude.{◌≡◌, List, ◌<◌, ◌≤◌, ℕ, length, unwrap_or, IfSome};
+ghost use Rattle.std.specs.Prelude.{◌≡◌, ◌+◌, ◌*◌, List, ◌<◌, ◌≤◌, ℕ, length, unwrap_or, IfSome};
 ghost use Rattle.blocks.specs.Reading.{reading_of};
 ghost use Rattle.blocks.specs.declared.Schema.{Schema};
 ghost use Rattle.base.specs.Range.{bit};
@@ -33,18 +33,18 @@ fn answer_of(failing: Option<usize>, used: usize) -> Option<Unheld>
 // here, and up to here a clause: it is known of bytes once they are read, and `Exclusions`, of another crate, indexes any list.
 // `impossible` stands beside the slots: a description that nothing fits has slots as well.
 #[derive(Clone, Copy)]
-pub(crate) struct Supplier<'a, const BUCKETS: usize> {
+pub(crate) struct Supplier<'a, const BUCKETS: usize, const CELLS: usize> {
     pub exclusions: Exclusions<'a>,
-    pub slots: Slots<'a, BUCKETS>,
+    pub slots: Slots<'a, BUCKETS, CELLS>,
     pub impossible: bool,
     ghost ruled: { Ruled (under exclusions.pairs.now) },
 }
 
-impl<'a, const BUCKETS: usize> Supplier<'a, BUCKETS> {
+impl<'a, const BUCKETS: usize, const CELLS: usize> Supplier<'a, BUCKETS, CELLS> {
     ghost use Rattle.slots.specs.code.Lent.{HeldIn};
 
     // The supplier whose slots these are, settled, and whose top has this mark: 1 where it is impossible, else 0.
-    pub(crate) fn new(exclusions: Exclusions<'a>, slots: Slots<'a, BUCKETS>, bad: u8) -> Self
+    pub(crate) fn new(exclusions: Exclusions<'a>, slots: Slots<'a, BUCKETS, CELLS>, bad: u8) -> Self
         requires { Ruled (under exclusions.pairs.now) }
         ensures held { (b : Background) → (c : List ℕ) → Tabled b c slots.entry.used slots.entry.table.now
             → bad ≡ bit (inconsistent 1 (slots_of b c) 0) → HeldIn b c result }
@@ -75,33 +75,30 @@ impl<'a, const BUCKETS: usize> Supplier<'a, BUCKETS> {
 
 // Slots and settles the first description and judges the second by its slots, where both have fewer than N entries. All
 // tables but that of the slots are its own.
-fn judge<const N: usize, const BUCKETS: usize>(
+fn judge<const N: usize, const BUCKETS: usize, const CELLS: usize>(
     exclusions: Exclusions<'_>,
     c: Accepted<'_>,
     d: Accepted<'_>,
     table: &mut [u64],
 ) -> Result<Option<Unheld>, Refusal>
     requires { Ruled (under exclusions.pairs.now) × (c.total < length table.old) × (c.total < N) × (d.total < N)
-        × (N ≤ 1009) × (61 ≤ BUCKETS) × (BUCKETS ≤ 4093) }
+        × (N ≤ 1009) × (251 ≤ BUCKETS) × (BUCKETS ≤ 4093) × (BUCKETS + 2 * N ≤ CELLS) × (CELLS ≤ 8192) }
     ensures { Judges (under exclusions.entry.pairs.now) c.entry.bytes.now d.entry.bytes.now table.old result table.new }
 {
-    let mut next = [0u16; N];
-    let mut head = [0u16; BUCKETS];
+    let mut cells = [0u16; CELLS];
     let mut node = [0u16; N];
     let mut bad = [0u8; N];
     let mut full = [0u8; N];
-    let next = &mut next[..];
-    let head = &mut head;
+    let cells = &mut cells;
     let mut work = Workspace {
-        next: &mut *next,
-        head: &mut *head,
+        cells: &mut *cells,
         node: &mut node,
         bad: &mut bad,
         full: &mut full,
     };
-    let used = chained_slots(exclusions, c, table, &mut work);
+    let used = chained_slots::<BUCKETS, CELLS>(exclusions, c, table, &mut work);
     let top = work.bad[0];
-    let slots = Slots::of(table, next, head, used);
+    let slots = Slots::<BUCKETS, CELLS>::of(table, cells, used);
     let supplier = Supplier::new(exclusions, slots, top);
     let mut states = [0u16; N];
     let e = supplier.judge(d, &mut states);
@@ -127,12 +124,12 @@ fn judge_read(
         });
     }
     if c.total < 64 && d.total < 64 {
-        return judge::<64, 251>(exclusions, c, d, table);
+        return judge::<64, 251, 379>(exclusions, c, d, table);
     }
     if c.total < 253 && d.total < 253 {
-        return judge::<253, 4093>(exclusions, c, d, table);
+        return judge::<253, 4093, 4599>(exclusions, c, d, table);
     }
-    judge::<1009, 4093>(exclusions, c, d, table)
+    judge::<1009, 4093, 6111>(exclusions, c, d, table)
 }
 
 // Reads the second description, where the first is accepted.

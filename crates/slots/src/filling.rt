@@ -1,5 +1,5 @@
 // The slots of a description, built and settled, in tables that the caller lends.
-ghost use Rattle.std.specs.Prelude.{◌≡◌, ◌<◌, ◌≤◌, length};
+ghost use Rattle.std.specs.Prelude.{◌≡◌, ◌+◌, ◌*◌, ◌<◌, ◌≤◌, length};
 ghost use Rattle.pairs.specs.Pairs.{pair_count, under};
 ghost use Rattle.slots.specs.code.Lent.{ChainedIn, Ready, SameTables};
 ghost use Rattle.slots.specs.code.Tables.{Blank, Exact, Settled};
@@ -13,53 +13,50 @@ use crate::workspace::Workspace;
 use blocks::{Cause, Refusal, Schema};
 use pairs::{Exclusions, INDEX_BYTES};
 
-// The slots of a description, settled, with the chains that find them; returns their number. Each table of the workspace
+// The slots of a description, settled, with the cells in which they are found; returns their number. Each table of the workspace
 // has a name first: several are lent to one pass.
-pub(crate) fn chained_slots<const BUCKETS: usize>(
+pub(crate) fn chained_slots<const BUCKETS: usize, const CELLS: usize>(
     exclusions: Exclusions<'_>,
     d: Accepted<'_>,
     table: &mut [u64],
-    work: &mut Workspace<'_, BUCKETS>,
+    work: &mut Workspace<'_, CELLS>,
 ) -> usize
-    requires { (BUCKETS ≤ 4093) × (d.total < length table.old) × Ready d.total work.old }
-    ensures chained { ChainedIn (under exclusions.entry.pairs.now) d.entry.bytes.now result table.old table.new work.new }
+    requires { (BUCKETS ≤ 4093) × (CELLS ≤ 8192) × (d.total < length table.old) × Ready BUCKETS d.total work.old }
+    ensures chained { ChainedIn BUCKETS (under exclusions.entry.pairs.now) d.entry.bytes.now result table.old table.new work.new }
     ensures same { SameTables work.old work.new }
 {
-    let next = &mut *work.next;
-    let head = &mut *work.head;
+    let cells = &mut *work.cells;
     let node = &mut *work.node;
     let bad = &mut *work.bad;
     let full = &mut *work.full;
-    let used = build(d.bytes, d.total, table, next, head, node);
-    restrict_slots(exclusions, table, next, head, used);
+    let used = build::<BUCKETS, CELLS>(d.bytes, d.total, table, cells, node);
+    restrict_slots::<BUCKETS, CELLS>(exclusions, table, cells, used);
     settle(table, bad, full, used);
     used
 }
 
 // The slots of a description of fewer than N entries, settled, with tables of their own for what only the passes need.
-fn settled_within<const N: usize, const BUCKETS: usize>(
+fn settled_within<const N: usize, const BUCKETS: usize, const CELLS: usize>(
     exclusions: Exclusions<'_>,
     d: Accepted<'_>,
     table: &mut [u64],
     bad: &mut [u8],
     full: &mut [u8],
 ) -> usize
-    requires { (d.total < N) × (N ≤ 1009) × (61 ≤ BUCKETS) × (BUCKETS ≤ 4093)
+    requires { (d.total < N) × (N ≤ 1009) × (251 ≤ BUCKETS) × (BUCKETS ≤ 4093) × (BUCKETS + 2 * N ≤ CELLS) × (CELLS ≤ 8192)
         × (d.total < length table.old) × Blank d.total bad.old × Blank d.total full.old }
     ensures { Settled (under exclusions.entry.pairs.now) d.entry.bytes.now result table.new bad.new full.new
         × Exact table.old table.new result }
 {
-    let mut next = [0u16; N];
-    let mut head = [0u16; BUCKETS];
+    let mut cells = [0u16; CELLS];
     let mut node = [0u16; N];
     let mut work = Workspace {
-        next: &mut next,
-        head: &mut head,
+        cells: &mut cells,
         node: &mut node,
         bad,
         full,
     };
-    chained_slots(exclusions, d, table, &mut work)
+    chained_slots::<BUCKETS, CELLS>(exclusions, d, table, &mut work)
 }
 
 // The slots of a description, settled; returns their number. Those of one block, and of four, take smaller tables, which
@@ -76,12 +73,12 @@ fn settled_slots(
         × Exact table.old table.new result }
 {
     if d.total < 64 {
-        return settled_within::<64, 251>(exclusions, d, table, bad, full);
+        return settled_within::<64, 251, 379>(exclusions, d, table, bad, full);
     }
     if d.total < 253 {
-        return settled_within::<253, 4093>(exclusions, d, table, bad, full);
+        return settled_within::<253, 4093, 4599>(exclusions, d, table, bad, full);
     }
-    settled_within::<1009, 4093>(exclusions, d, table, bad, full)
+    settled_within::<1009, 4093, 6111>(exclusions, d, table, bad, full)
 }
 
 // Fills the tables with the slots of an accepted description; or 7 where one of them is too short for it.

@@ -71,9 +71,9 @@ fn stays(exclusions: Exclusions<'_>, key: u64) -> bool
 }
 
 // A slot under the rule: a link's by its name, a property's by whether it is excluded.
-fn restricted<const BUCKETS: usize>(
+fn restricted<const BUCKETS: usize, const CELLS: usize>(
     exclusions: Exclusions<'_>,
-    slots: Slots<'_, BUCKETS>,
+    slots: Slots<'_, BUCKETS, CELLS>,
     x: u64,
 ) -> u64
     requires { key_in x / 131072 < 1024 }
@@ -93,23 +93,17 @@ fn restricted<const BUCKETS: usize>(
 
 // Puts the slots 1 to `used` under the rule. What a place has does not change on the way. It takes the parts of the table: they are lent as Slots
 // for a look, and one is written after it.
-pub(crate) fn restrict_slots<const BUCKETS: usize>(
+pub(crate) fn restrict_slots<const BUCKETS: usize, const CELLS: usize>(
     exclusions: Exclusions<'_>,
     table: &mut [u64],
-    next: &[u16],
-    head: &[u16; BUCKETS],
+    cells: &[u16; CELLS],
     used: usize,
 )
-    requires { Kept table.old next.now head.now used × (used ≤ 1008) × Placed table.old used }
+    requires { Kept table.old BUCKETS cells.now used × (used ≤ 1008) × Placed table.old used }
     ensures { Restricted exclusions.entry.pairs.now table.old used used table.new }
 {
     for s in 1..used + 1 {
-        let slots = Slots {
-            table,
-            next,
-            head,
-            used,
-        };
+        let slots = Slots::<BUCKETS, CELLS> { table, cells, used };
         let x = restricted(exclusions, slots, slots.table[s]);
         table[s] = x;
     }

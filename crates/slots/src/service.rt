@@ -55,7 +55,7 @@ fn check_rest(rest: Enumerate<InOrder<'_>>, level: &mut [u8], input: u16) -> Res
 // the rest. What the tables held does not count. It is not inlined: what its callers keep would take the registers of its loop.
 #[inline(never)]
 fn pass_entries(
-    supplier: Supplier<'_, 4093>,
+    supplier: Supplier<'_, 4093, 6111>,
     d: &[u8],
     total: usize,
     states: &mut [u16; 1009],
@@ -95,7 +95,7 @@ fn judge_broken(d: &[u8], input: u16) -> Result<bool, Refusal>
 
 // Judges a service whose blocks are sound and have `total` entries.
 fn judge_entries(
-    supplier: Supplier<'_, 4093>,
+    supplier: Supplier<'_, 4093, 6111>,
     d: &[u8],
     total: u16,
     input: u16,
@@ -114,7 +114,7 @@ fn judge_entries(
 
 // Reads a service with no names, an input of any number, and judges it. What the tables held does not count.
 pub(crate) fn judge_plain(
-    supplier: Supplier<'_, 4093>,
+    supplier: Supplier<'_, 4093, 6111>,
     d: &[u8],
     input: u16,
     states: &mut [u16; 1009],

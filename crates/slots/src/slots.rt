@@ -1,9 +1,10 @@
 // Slots: one for each place, class and name of a description, with the bounds that all its entries give together. A slot is one number
-// of 64 bits, its key above its two bounds, in a table; chains by a hash of the key find it again.
+// of 64 bits, its key above its two bounds, in a table; cells in which the bits of the key lead find it again.
 ghost use Rattle.std.specs.Prelude.{◌≡◌, Bool, false, true, ◌+◌, ◌*◌, ◌≤◌, ◌<◌, min, max, ℕ, get_or, length, set, unwrap_or, IfSome};
 ghost use Rattle.base.specs.Chain.{last_where};
+ghost use Rattle.base.specs.Ways.{Ends, by_quotient};
 ghost use Rattle.passes.specs.code.Keys.{key_number};
-ghost use Rattle.slots.specs.code.Tables.{key_in, low_part, high_part, slot_number, hash_of, Kept, Entered, link_kind, no_bound};
+ghost use Rattle.slots.specs.code.Tables.{key_in, low_part, high_part, slot_number, Kept, Searchable, keys_of, Entered, link_kind, no_bound};
 
 use blocks::{Entry, Link, Property, kinds};
 
@@ -43,62 +44,53 @@ pub(crate) fn make_slot(key: u64, lo: u64, hi: u64) -> u64
     17179869184 * key + (131072 * lo + hi)
 }
 
-// The bucket of a key. Heads come in two sizes; each divides by a prime that is a constant, which is sooner done than by a number that is
-// known only when the program runs.
-#[tactic(auto, unfolding(crate::specs::code::Tables::hash_of))]
-fn bucket<const BUCKETS: usize>(key: u64) -> usize
-    requires { 61 ≤ BUCKETS }
-    ensures { (result ≡ hash_of BUCKETS key) × (result < BUCKETS) }
-{
-    (key % BUCKETS as u64) as usize
-}
-
-// The slots that stand in lent tables, numbered from 1 on, with the chains that find them by their keys. In `head` and `next` the number 0, which no
-// slot has, ends a chain.
+// The slots that stand in lent tables, numbered from 1 on, with the cells in which they are found by their keys: a search begins in one of the
+// first BUCKETS cells and goes on by the bits of the key, past slots with other keys. In a cell the number 0, which no slot has, is a free one.
+// A division by BUCKETS is one by a constant, which is sooner done than by a number that is known only when the program runs.
 #[derive(Clone, Copy)]
-pub(crate) struct Slots<'a, const BUCKETS: usize> {
+pub(crate) struct Slots<'a, const BUCKETS: usize, const CELLS: usize> {
     pub table: &'a [u64],
-    pub next: &'a [u16],
-    pub head: &'a [u16; BUCKETS],
+    pub cells: &'a [u16; CELLS],
     pub used: usize,
-    ghost kept: { Kept table.now next.now head.now used },
+    ghost kept: { Searchable table.now BUCKETS cells.now used },
     ghost few: { used ≤ 1008 },
-    ghost hashed: { length head.now ≡ BUCKETS },
+    ghost sized: { length cells.now ≡ CELLS },
 }
 
-impl<'a, const BUCKETS: usize> Slots<'a, BUCKETS> {
+impl<'a, const BUCKETS: usize, const CELLS: usize> Slots<'a, BUCKETS, CELLS> {
     // The slots that stand in these tables, which come apart until all of them are written.
-    pub(crate) fn of(
-        table: &'a [u64],
-        next: &'a [u16],
-        head: &'a [u16; BUCKETS],
-        used: usize,
-    ) -> Self
-        requires { Kept table.now next.now head.now used × (used ≤ 1008) }
-        ensures { (result.table.now ≡ table.now) × (result.next.now ≡ next.now) × (result.head.now ≡ head.now)
-            × (result.used ≡ used) }
+    pub(crate) fn of(table: &'a [u64], cells: &'a [u16; CELLS], used: usize) -> Self
+        requires { Kept table.now BUCKETS cells.now used × (used ≤ 1008) }
+        ensures { (result.table.now ≡ table.now) × (result.cells.now ≡ cells.now) × (result.used ≡ used) }
     {
-        Slots {
-            table,
-            next,
-            head,
-            used,
-        }
+        Slots { table, cells, used }
     }
 
-    // The slot of a key. A chain that holds all 1,008 slots costs some microseconds a look, which only keys chosen for it reach.
+    // The cell whose slot has a key, or the free one where such a slot is to stand. Two keys of one bucket part at the first bit in which their
+    // quotients differ, so that no choice of names makes it look at more than 24 cells.
+    fn cell_for(self, key: u64) -> usize
+        requires { key < 1073741824 }
+        ensures { Ends (keys_of self.entry.table.now) self.entry.cells.now (by_quotient BUCKETS) 23 key result × (result < CELLS) }
+    {
+        let mut c = (key % BUCKETS as u64) as usize;
+        let route = key / BUCKETS as u64;
+        for bit in 0..23u32 {
+            let s = usize::from(self.cells[c]);
+            if s == 0 || key_in(self.table[s]) == key {
+                return c;
+            }
+            c = BUCKETS + 2 * s + (route >> bit) as usize % 2;
+        }
+        c
+    }
+
+    // The slot of a key.
     pub(crate) fn search(self, key: u64) -> Option<usize>
+        requires { key < 1073741824 }
         ensures { (unwrap_or result 0 ≡ last_where (λ j. key_in (get_or self.entry.table.now j 0)) key self.entry.used) × IfSome result (λ s. 1 ≤ s) }
     {
-        let b = bucket::<BUCKETS>(key);
-        let mut s = usize::from(self.head[b]);
-        while s != 0 {
-            if key_in(self.table[s]) == key {
-                return Some(s);
-            }
-            s = usize::from(self.next[s]);
-        }
-        None
+        let s = usize::from(self.cells[self.cell_for(key)]);
+        (s != 0).then_some(s)
     }
 }
 
@@ -111,27 +103,6 @@ fn tighten(table: &mut [u64], s: usize, bounds: u64)
     let lo = low_in(bounds);
     let hi = high_in(bounds);
     table[s] = make_slot(key_in(x), low_in(x).max(lo), high_in(x).min(hi));
-}
-
-// Puts a new slot in front of its chain. As `enter`, it takes the parts of the table.
-fn append<const BUCKETS: usize>(
-    table: &mut [u64],
-    next: &mut [u16],
-    head: &mut [u16; BUCKETS],
-    used: usize,
-    key: u64,
-    bounds: u64,
-)
-    requires { (used < 1008) × (used + 1 < length table.old) × (used + 1 < length next.old) × (61 ≤ BUCKETS) × (BUCKETS ≤ 4093) × (key < 1073741824) × (bounds < 17179869184) }
-    ensures { (table.new ≡ set table.old (used + 1) (slot_number key (low_part bounds) (high_part bounds)))
-        × (next.new ≡ set next.old (used + 1) (get_or head.old (hash_of (length head.old) key) 0))
-        × (head.new ≡ set head.old (hash_of (length head.old) key) (used + 1)) }
-{
-    let new = used + 1;
-    let b = bucket::<BUCKETS>(key);
-    table[new] = 17179869184 * key + bounds;
-    next[new] = head[b];
-    head[b] = new as u16;
 }
 
 // The key of a property at a place. Properties and links are numbered apart: only their types say which key a name gets.
@@ -175,29 +146,28 @@ pub(crate) fn entry_key(place: u64, e: Entry) -> u64
     }
 }
 
-// Enters an entry: the slot of its key, found or made, gets the entry's bounds too. Returns the slot's number.
-pub(crate) fn enter<const BUCKETS: usize>(
+// Enters an entry: the slot of its key, found or made, gets the entry's bounds too; a new one takes the free cell where the search for its key
+// ends. Returns the slot's number. It takes the parts of the table, which is written.
+pub(crate) fn enter<const BUCKETS: usize, const CELLS: usize>(
     table: &mut [u64],
-    next: &mut [u16],
-    head: &mut [u16; BUCKETS],
+    cells: &mut [u16; CELLS],
     used: usize,
     key: u64,
     bounds: u64,
 ) -> usize
-    requires { Kept table.old next.old head.old used × (used < 1008) × (used + 1 < length table.old) × (used + 1 < length next.old) × (key < 1073741824) × (bounds < 17179869184) × (high_part bounds ≤ no_bound) }
+    requires { Kept table.old BUCKETS cells.old used × (used < 1008) × (used + 1 < length table.old) × (BUCKETS + 2 * (used + 1) + 2 ≤ length cells.old) × (key < 1073741824) × (bounds < 17179869184) × (high_part bounds ≤ no_bound) }
     ensures { (result ≤ used + 1) × ((v : ℕ) → (b : Bool) → (n : ℕ) → n < 65536 → key ≡ key_number v b n
-        → Entered table.old next.old head.old used v b n (low_part bounds) (high_part bounds) result table.new next.new head.new) }
+        → Entered table.old BUCKETS cells.old used v b n (low_part bounds) (high_part bounds) result table.new cells.new) }
 {
-    let slots = Slots {
-        table,
-        next,
-        head,
-        used,
-    };
-    if let Some(s) = slots.search(key) {
+    let slots = Slots::<BUCKETS, CELLS> { table, cells, used };
+    let c = slots.cell_for(key);
+    let s = usize::from(cells[c]);
+    if s != 0 {
         tighten(table, s, bounds);
         return s;
     }
-    append(table, next, head, used, key, bounds);
-    used + 1
+    let new = used + 1;
+    cells[c] = new as u16;
+    table[new] = 17179869184 * key + bounds;
+    new
 }

@@ -91,7 +91,7 @@ fn state_below(found: Option<usize>, hi: u64) -> u16
     found.map_or(NOWHERE, |s| if hi == 0 { PASSED } else { s as u16 })
 }
 
-impl<const BUCKETS: usize> Slots<'_, BUCKETS> {
+impl<const BUCKETS: usize, const CELLS: usize> Slots<'_, BUCKETS, CELLS> {
     // The slot of an entry at a place.
     fn entry_slot(self, place: u64, e: Entry) -> Option<usize>
         requires { place < 1024 }

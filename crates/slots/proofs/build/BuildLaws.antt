@@ -10,7 +10,8 @@ use mathlib.Core.Logic.{◌≢◌}
 use mathlib.Core.Option.{none, some}
 use mathlib.Core.Path.{◌∙◌, ◌≡◌, ap, fun_ext, refl, sym}
 use native.Mathlib.Omega.{arith}
-use Rattle.base.proofs.ChainLaws.{chains-start}
+use Rattle.base.specs.Ways.{by_quotient}
+use Rattle.base.proofs.WayLaws.{planted-start, quotient-parting}
 use Rattle.base.proofs.Tests.{and_zero, bool_cases, eq-cases, eq-eqb, eqb-eq, iff-eq, lt-ltb, ne_eqb, tests}
 use Rattle.blocks.specs.Entries.{Bounded, entries_of, nth, zero_entry}
 use Rattle.blocks.specs.Owners.{owner_of}
@@ -19,7 +20,7 @@ use Rattle.logic.specs.Place.{kind_of}
 use Rattle.meaning.specs.Description.{row_of}
 use Rattle.meaning.specs.Owned.{Owned}
 use Rattle.passes.specs.code.Slots.{at_top, build, high, is_link, leading, low, position, slots, tighten}
-use Rattle.slots.specs.code.Tables.{Blank, Building, Built, Entered, Exact, Kept, Nodes, Cleared, built_slots, hash_of, high_in, high_kind, key_in, leads_to, link_kind, low_kind, slots_from, slots_in}
+use Rattle.slots.specs.code.Tables.{Blank, Building, Built, Entered, Exact, Kept, Nodes, Cleared, built_slots, high_in, high_kind, keys_of, leads_to, link_kind, low_kind, slots_from, slots_in}
 
 -- ---- kinds by number
 
@@ -102,9 +103,9 @@ build-starts es t node e =
     (λ q. let a : ltb j 1 ≡ false = omega tests in let y : eqb 0 j ≡ false = omega tests in rw (leads_to, ne_eqb q, a, y))) in
     rw same
 
-module _ {es : List Entry} (O : Owned es) {t next head : List ℕ} {used : ℕ} {node : List ℕ} (N : Nodes node used) (n : ℕ) {e : Entry} {s : ℕ} {t' next' head' : List ℕ}
+module _ {es : List Entry} (O : Owned es) {t cells : List ℕ} {most : ℕ} {used : ℕ} {node : List ℕ} (N : Nodes node used) (n : ℕ) {e : Entry} {s : ℕ} {t' cells' : List ℕ}
     (le : n < length es) (there : suc n < length node) (is' : e ≡ nth es (suc n)) (small : e.number < 65536)
-    (E : Entered t next head used (get_or node e.owner 0) (link_kind e.kind) e.name (low_kind e.kind e.number) (high_kind e.kind e.number) s t' next' head') where
+    (E : Entered t most cells used (get_or node e.owner 0) (link_kind e.kind) e.name (low_kind e.kind e.number) (high_kind e.kind e.number) s t' cells') where
   owner-leads : leads_to es node (suc n) e.owner ≡ some (get_or node e.owner 0)
   owner-leads =
       let o : owner_of es (suc n) ≡ e.owner = unfold owner_of in ap (λ (x : Entry). x.owner) (sym is') in
@@ -142,12 +143,12 @@ module _ {es : List Entry} (O : Owned es) {t next head : List ℕ} {used : ℕ} 
   }
 
 -- one entry more
-module _ {d : List ℕ} (O : Owned (entries_of d)) {n used : ℕ} {t next head node : List ℕ} (B : Building d n used t next head node) (le : n < length (entries_of d))
+module _ {d : List ℕ} (O : Owned (entries_of d)) {n used : ℕ} {t cells node : List ℕ} {most : ℕ} (B : Building d n used t most cells node) (le : n < length (entries_of d))
     {e : Entry} (is' : e ≡ nth (entries_of d) (suc n)) where
-  pub building-more : Bounded e → {s m : ℕ} {t' next' head' : List ℕ} → s ≤ used + 1 → m ≡ suc n → length t' ≡ length t → length next' ≡ length next
-      → Entered t next head used (get_or node e.owner 0) (link_kind e.kind) e.name (low_kind e.kind e.number) (high_kind e.kind e.number) s t' next' head'
-      → Building d m (max used s) t' next' head' (set node m s)
-  building-more b {s} small q size sizes E =
+  pub building-more : Bounded e → {s m : ℕ} {t' cells' : List ℕ} → s ≤ used + 1 → m ≡ suc n → length t' ≡ length t
+      → Entered t most cells used (get_or node e.owner 0) (link_kind e.kind) e.name (low_kind e.kind e.number) (high_kind e.kind e.number) s t' cells'
+      → Building d m (max used s) t' most cells' (set node m s)
+  building-more b {s} small q size E =
       let there : suc n < length node = omega (arith, B.places) in
       rw q (record {
         few = omega (arith, B.few);
@@ -156,13 +157,13 @@ module _ {d : List ℕ} (O : Owned (entries_of d)) {n used : ℕ} {t next head n
         slotted = B.slotted ∙ build-goes O B.nodes n le there is' b.number E;
         bounded = λ j lo hi. eq-cases j (suc n) (λ z. rw (z, ← is') b) (λ z. B.bounded j lo (omega arith));
         room = rw size B.room;
-        nexts = rw sizes B.nexts;
+        inside = rw E.sized B.inside;
         places = rw (length-set node (suc n) s) B.places;
       })
 
 -- all entered
-pub building-ends : {d : List ℕ} {n used : ℕ} {origin t next head node : List ℕ} → length (entries_of d) ≤ n → Building d n used t next head node → Exact origin t used
-    → used ≤ length (entries_of d) → Built (built_slots d) d used origin t next head
+pub building-ends : {d : List ℕ} {n used : ℕ} {origin t cells node : List ℕ} {most : ℕ} → length (entries_of d) ≤ n → Building d n used t most cells node → Exact origin t used
+    → used ≤ length (entries_of d) → Built (built_slots d) d used origin t most cells
 unfolding build
 building-ends {d} {n} l B x f = record {
   slotted = B.slotted ∙ rw (rows_none (entries_of d) n l);
@@ -177,29 +178,30 @@ building-ends {d} {n} l B x f = record {
 pub exact-starts : (t : List ℕ) → Exact t t 0
 exact-starts t = record { size = refl; high = λ j a b. absurd (omega arith); top = refl; rest = λ j l. refl }
 
-kept-starts : {t next head : List ℕ} → 0 < length t → 0 < length next → Blank 60 head → length head ≤ 4093 → Kept t next head 0
-kept-starts {t} {next} {head} e f g m =
+kept-starts : {n most : ℕ} {t cells node : List ℕ} → 0 < length t → Cleared n most cells node → Kept t most cells 0
+kept-starts {most = most} {t} e w =
     record {
       room = e;
-      nexts = f;
-      heads = omega (arith, g.room);
-      most = m;
-      chains = chains-start (λ j. hash_of (length head) (key_in (get_or t j 0))) (λ j. get_or next j 0) (λ b h. g.zero' b);
+      wide = w.wide;
+      narrow = w.narrow;
+      small = w.small;
+      keys = λ j lo hi. absurd (omega arith);
+      planted = planted-start (keys_of t) (by_quotient most) (quotient-parting most (omega (arith, w.wide))) (omega (arith, w.inside)) w.zero';
       apart = λ i j a b c. absurd (omega arith);
     }
 
 nodes-start : {k : ℕ} {node : List ℕ} → Blank k node → Nodes node 0
 nodes-start b = record { top = b.zero' 0; small = λ j. omega (arith, b.zero' j) }
 
-pub building-starts : {d t next head node : List ℕ} {total : ℕ} → total ≡ length (entries_of d) → total < length t → Cleared total next head node → Building d 0 0 t next head node
-building-starts {d} {t} {next} {head} {node} e r w =
+pub building-starts : {d t cells node : List ℕ} {most total : ℕ} → total ≡ length (entries_of d) → total < length t → Cleared total most cells node → Building d 0 0 t most cells node
+building-starts {d} {t} {cells} {node} e r w =
     record {
       few = omega arith;
-      kept = kept-starts (omega arith) (omega (arith, w.nexts)) w.heads w.most;
+      kept = kept-starts (omega arith) w;
       nodes = nodes-start w.nodes;
       slotted = build-starts (entries_of d) t node (w.nodes.zero' 0);
       bounded = λ j lo hi. absurd (omega arith);
       room = omega arith;
-      nexts = omega (arith, w.nexts);
+      inside = omega (arith, w.inside);
       places = omega (arith, w.nodes.room);
     }

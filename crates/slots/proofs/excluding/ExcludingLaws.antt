@@ -18,9 +18,9 @@ use Rattle.pairs.specs.code.Index.{PairsIndexed, bucket_of, named_count, partner
 use Rattle.passes.specs.code.Keys.{key_number}
 use Rattle.passes.specs.code.Restrict.{excluded_at, has_at}
 use Rattle.passes.specs.code.Slots.{Slot, same_key, slot}
-use Rattle.slots.proofs.slots.SearchLaws.{keys_of}
+use Rattle.slots.specs.code.Tables.{keys_of}
 use Rattle.slots.proofs.slots.TableLaws.{key-test}
-use Rattle.slots.specs.code.Tables.{Kept, key_in, low_part, slot_in, slots_from}
+use Rattle.slots.specs.code.Tables.{Searchable, key_in, low_part, slot_in, slots_from}
 
 -- ---- on lists
 
@@ -96,7 +96,7 @@ module _ (t : List ℕ) (v q : ℕ) (small : q < 65536) where
       rw (slot_in, has_at, key-test (get_or t i 0) v false q small, h i (omega arith) (omega arith) z)
       (has-found s e (suc i) m (omega arith) (omega arith) (λ j a b. h j (omega arith) (omega arith))))
 
-module _ {t next head : List ℕ} {used : ℕ} (K : Kept t next head used) (v q : ℕ) (small : q < 65536) {s : ℕ}
+module _ {t cells : List ℕ} {most used : ℕ} (K : Searchable t most cells used) (v q : ℕ) (small : q < 65536) {s : ℕ}
     (is : s ≡ last_where (keys_of t) (key_number v false q) used) where
   -- the search finds nothing
   pub has-not : s ≡ 0 → has_at (slots_from t 1 used) v q ≡ false

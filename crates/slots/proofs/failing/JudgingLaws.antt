@@ -57,7 +57,7 @@ module _ (b : Background) (c d t : List ℕ) where
 
 -- ---- both are accepted, and there is room
 
-module _ {b : Background} (law : LawfulBackground b) (c d : List ℕ) {t next head : List ℕ} {used : ℕ} {impossible : Bool} (H : Held b c used t next head impossible) where
+module _ {b : Background} (law : LawfulBackground b) (c d : List ℕ) {t cells : List ℕ} {most : ℕ} {used : ℕ} {impossible : Bool} (H : Held b c used t most cells impossible) where
   -- nothing fits the first: all hold
   pub failing-bottom : impossible ≡ true → 0 ≡ failing_in b c d
   unfolding failing_in
@@ -65,7 +65,7 @@ module _ {b : Background} (law : LawfulBackground b) (c d : List ℕ) {t next he
 
   -- what is found by them is the first that is not held
   pub failing-found : {r m : ℕ} → reading_of Description 2 d ≡ Ok m → impossible ≡ false
-      → ((ss : List Slot) → Indexed ss t next head used → r ≡ first_from (holds_by_slots b ss (entries_of d)) 1 m) → r ≡ failing_in b c d
+      → ((ss : List Slot) → Indexed ss t most cells used → r ≡ first_from (holds_by_slots b ss (entries_of d)) 1 m) → r ≡ failing_in b c d
   unfolding failing_in
   failing-found f z g =
       let T = H.tabled in
@@ -80,8 +80,8 @@ unfolding failing_in
 fails-possible {b} law c d z =
     bool_cases (inconsistent 1 (slots_of b c) 0) (λ q. absurd (z (bottom-first law (entries_of c) (entries_of d) q))) (λ q. q)
 
-module _ {b : Background} (law : LawfulBackground b) {c t t' next head bad full : List ℕ} {n m used : ℕ} (d : List ℕ) (e : reading_of Description 1 c ≡ Ok n) (f : reading_of Description 2 d ≡ Ok m)
-    (h : n < length t) (s : Chained b c used t t' next head bad full) where
+module _ {b : Background} (law : LawfulBackground b) {c t t' cells bad full : List ℕ} {most : ℕ} {n m used : ℕ} (d : List ℕ) (e : reading_of Description 1 c ≡ Ok n) (f : reading_of Description 2 d ≡ Ok m)
+    (h : n < length t) (s : Chained b c used t t' most cells bad full) where
   room : length (entries_of c) < length t
   room = omega (arith, (accepted-few 1 c e).0)
 

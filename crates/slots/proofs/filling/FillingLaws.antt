@@ -1,6 +1,6 @@
 -- Laws of filled tables: every number that stands in them is known by the slots.
 -- Assumes nothing.
-use Prim.Native.Nat.{◌+◌, ◌-◌, ◌<◌, ◌≤◌, suc, zero, ℕ}
+use Prim.Native.Nat.{◌*◌, ◌+◌, ◌-◌, ◌<◌, ◌≤◌, suc, zero, ℕ}
 use lib.Dec.{ltb}
 use lib.ListN.{get_or, length, length-replicate, replicate, set}
 use lib.Seq.{ext_get_or, get_or-set_other, sets}
@@ -10,7 +10,7 @@ use mathlib.Core.Logic.{◌⊎◌, inl, inr, ⊎_elim}
 use mathlib.Core.Path.{◌∙◌, ◌≡◌, ap, refl, sym}
 use native.Mathlib.Nat.{zero-add}
 use native.Mathlib.Omega.{arith}
-use Rattle.base.proofs.Lists.{get_d-listed, length-listed, listed, listed-eq}
+use Rattle.base.proofs.Lists.{get_d-listed, length-listed, listed, listed-eq, zeros-read}
 use Rattle.base.proofs.StoresLaws.{get_d-stored, length-stored}
 use Rattle.base.proofs.Tests.{eq-cases, ge-ltb, lt-cases, lt-ltb}
 use Rattle.base.specs.Range.{bit}
@@ -33,19 +33,21 @@ use Rattle.blocks.specs.declared.Cause.TheVariants.{Room}
 
 -- ---- cleared tables
 
-pub cleared-zeros : (n k m : ℕ) → n < k → 61 ≤ m → m ≤ 4093 → Cleared n (replicate k 0) (replicate m 0) (replicate k 0)
-cleared-zeros n k m h l b =
+pub cleared-zeros : (n k m c : ℕ) → n < k → 251 ≤ m → m ≤ 4093 → m + 2 * k ≤ c → c ≤ 8192 → Cleared n m (replicate c 0) (replicate k 0)
+cleared-zeros n k m c h l b r s =
     record {
-      nexts = rw (length-replicate {A = ℕ} k 0) h;
-      heads = blank-zeros 60 m (omega arith);
-      most = rw (length-replicate {A = ℕ} m 0) b;
+      wide = l;
+      narrow = b;
+      inside = rw (length-replicate {A = ℕ} c 0) (omega arith);
+      small = rw (length-replicate {A = ℕ} c 0) s;
+      zero' = zeros-read c refl;
       nodes = blank-zeros n k h;
     }
 
 -- and what a workspace of such tables is told to be
-pub ready-zeros : (n k m : ℕ) → n < k → 61 ≤ m → m ≤ 4093
-    → Cleared n (replicate k 0) (replicate m 0) (replicate k 0) × Blank n (replicate k 0) × Blank n (replicate k 0)
-ready-zeros n k m h l b = (cleared-zeros n k m h l b, blank-zeros n k h, blank-zeros n k h)
+pub ready-zeros : (n k m c : ℕ) → n < k → 251 ≤ m → m ≤ 4093 → m + 2 * k ≤ c → c ≤ 8192
+    → Cleared n m (replicate c 0) (replicate k 0) × Blank n (replicate k 0) × Blank n (replicate k 0)
+ready-zeros n k m c h l b r s = (cleared-zeros n k m c h l b r s, blank-zeros n k h, blank-zeros n k h)
 
 -- ---- a table of slots
 

@@ -185,7 +185,7 @@ module _ {P o t : List ℕ} {used s : ℕ} (R : Restricted P o used s t) where
   low-stays : (j : ℕ) → low_part (get_or t j 0) ≡ low_part (get_or o j 0)
   low-stays = stays low_part (λ j lo hi. (restricted-bound P (get_or o j 0) (excluded_slot P o used (get_or o j 0))).low)
 
-  pub kept-stays : {next head : List ℕ} → Kept o next head used → Kept t next head used
+  pub kept-stays : {cells : List ℕ} {most : ℕ} → Kept o most cells used → Kept t most cells used
   kept-stays k = kept-keys k R.size key-stays
 
   -- one slot more
@@ -219,8 +219,8 @@ module _ {P o t : List ℕ} {used : ℕ} (R : Restricted P o used used t) where
       }
 
   -- the slots of a description stand there under the list
-  pub built-restricted : {d origin next head : List ℕ} → Built (built_slots d) d used origin o next head
-      → Built (slots_of (under P) d) d used origin t next head
+  pub built-restricted : {d origin cells : List ℕ} {most : ℕ} → Built (built_slots d) d used origin o most cells
+      → Built (slots_of (under P) d) d used origin t most cells
   unfolding slots_under restrict
   built-restricted {d} k =
       record {

@@ -37,25 +37,25 @@ module _ (P c : List ℕ) (i : ℕ) (d : List ℕ) where
   plain-refused e = rw e
 
   -- nothing fits the supplier's
-  pub plain-broken : LawfulBackground (under P) → {t next head : List ℕ} {used : ℕ} {impossible : Bool} → Held (under P) c used t next head impossible → impossible ≡ true
+  pub plain-broken : LawfulBackground (under P) → {t cells : List ℕ} {most : ℕ} {used : ℕ} {impossible : Bool} → Held (under P) c used t most cells impossible → impossible ≡ true
       → {r : Judgement} → r ≡ unless_told (reading_of (Named 0) i d) true → r ≡ plain_judged P c i d
   unfolding plain_judged
   plain-broken law H z e = let none = failing-bottom law c d H z in e ∙ rw (← none)
 
   -- its entries decide
   module _ (total : ℕ) (e : reading_of (Named 0) i d ≡ answer i total (first (entry_faults (Named 0) (entries_of d) 1 total)))
-      (t next head : List ℕ) (used : ℕ) {r : Result (Option ℕ) Refusal} (A : PassedAll (under P) d t next head used total i r) where
+      (t : List ℕ) (most : ℕ) (cells : List ℕ) (used : ℕ) {r : Result (Option ℕ) Refusal} (A : PassedAll (under P) d t most cells used total i r) where
     pub entries-refused : {x : Refusal} → r ≡ Err x → Err x ≡ plain_judged P c i d
     entries-refused {x} q =
-        let f = subst (PassedAll (under P) d t next head used total i) q A in
+        let f = subst (PassedAll (under P) d t most cells used total i) q A in
         let whose : refused x.cause i x.place ≡ Err x = ap (λ (j : ℕ). refused x.cause j x.place) (sym f.1) in
         plain-refused (e ∙ rw (sym (named-first 0 (entries_of d) total) ∙ f.0) whose)
 
-    pub entries-judged : LawfulBackground (under P) → {impossible : Bool} → Held (under P) c used t next head impossible → impossible ≡ false → {f : Option ℕ} {x : Bool} → r ≡ Ok f
+    pub entries-judged : LawfulBackground (under P) → {impossible : Bool} → Held (under P) c used t most cells impossible → impossible ≡ false → {f : Option ℕ} {x : Bool} → r ≡ Ok f
         → x ≡ eqb (unwrap_or f 0) 0 → Ok x ≡ plain_judged P c i d
     unfolding plain_judged
     entries-judged law H z {f} q is =
-        let F = subst (PassedAll (under P) d t next head used total i) q A in
+        let F = subst (PassedAll (under P) d t most cells used total i) q A in
         let accepted : reading_of (Named 0) i d ≡ Ok total = e ∙ rw (sym (named-first 0 (entries_of d) total) ∙ F.0) in
         let whole = plain-read i d accepted in
         let fails : unwrap_or f 0 ≡ failing_in (under P) c d = failing-found law c d H whole z (λ ss x. F.1 (accepted-few 2 d whole).2 ss x) in

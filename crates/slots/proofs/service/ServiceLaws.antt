@@ -41,8 +41,8 @@ module _ (f : ℕ → Bool) (n : ℕ) where
 -- ---- the pass
 
 -- before the first entry
-module _ {b : Background} {d t next head : List ℕ} {used : ℕ} where
-  pub judged-start : (states : List ℕ) → length (entries_of d) < length states → JudgedSoFar b d t next head used 0 (set states 0 0)
+module _ {b : Background} {d t cells : List ℕ} {most : ℕ} {used : ℕ} where
+  pub judged-start : (states : List ℕ) → length (entries_of d) < length states → JudgedSoFar b d t most cells used 0 (set states 0 0)
   unfolding first_from
   judged-start states l =
       record {
@@ -53,13 +53,13 @@ module _ {b : Background} {d t next head : List ℕ} {used : ℕ} where
       }
 
   -- one more, looked up in the state of its owner
-  module _ {n : ℕ} {states : List ℕ} (J : JudgedSoFar b d t next head used n states) (le : n < length (entries_of d)) {e : Entry} (is' : e ≡ nth (entries_of d) (suc n))
+  module _ {n : ℕ} {states : List ℕ} (J : JudgedSoFar b d t most cells used n states) (le : n < length (entries_of d)) {e : Entry} (is' : e ≡ nth (entries_of d) (suc n))
       {s : ℕ} (read : s ≡ get_or states e.owner 0) where
     pub judged-state : e.owner ≤ n → s ≤ passed
     judged-state h = rw read (J.small _ h)
 
     -- it decides, as none before it fails
-    decided : {r : Bool} → Owned (entries_of d) → (ss : List Slot) → Indexed ss t next head used → r ≡ holds_in_state b ss s e
+    decided : {r : Bool} → Owned (entries_of d) → (ss : List Slot) → Indexed ss t most cells used → r ≡ holds_in_state b ss s e
         → cond r 0 (suc n) ≡ first_from (holds_by_slots b ss (entries_of d)) 1 (suc n)
     decided {r} O ss x h =
         let f = holds_by_slots b ss (entries_of d) in
@@ -67,8 +67,8 @@ module _ {b : Background} {d t next head : List ℕ} {used : ℕ} where
         ap (λ (q : Bool). cond q 0 (suc n)) (sym here) ∙ first-last f n (J.none O ss x)
 
     -- it holds
-    pub judged-more : {m y : ℕ} → m ≡ suc n → y ≤ passed → (e.kind ≡ 5 → (ss : List Slot) → Indexed ss t next head used → y ≡ state_below ss s e.name)
-        → ((ss : List Slot) → Indexed ss t next head used → true ≡ holds_in_state b ss s e) → JudgedSoFar b d t next head used m (set states m y)
+    pub judged-more : {m y : ℕ} → m ≡ suc n → y ≤ passed → (e.kind ≡ 5 → (ss : List Slot) → Indexed ss t most cells used → y ≡ state_below ss s e.name)
+        → ((ss : List Slot) → Indexed ss t most cells used → true ≡ holds_in_state b ss s e) → JudgedSoFar b d t most cells used m (set states m y)
     judged-more {m} {y} q small below holds =
         let there : suc n < length states = omega (arith, J.room) in
         record {
@@ -81,8 +81,8 @@ module _ {b : Background} {d t next head : List ℕ} {used : ℕ} where
         }
 
     -- it does not: it is the first of all
-    pub judged-fails : {total : ℕ} → n < total → ((ss : List Slot) → Indexed ss t next head used → false ≡ holds_in_state b ss s e)
-        → Owned (entries_of d) → (ss : List Slot) → Indexed ss t next head used → suc n ≡ first_from (holds_by_slots b ss (entries_of d)) 1 total
+    pub judged-fails : {total : ℕ} → n < total → ((ss : List Slot) → Indexed ss t most cells used → false ≡ holds_in_state b ss s e)
+        → Owned (entries_of d) → (ss : List Slot) → Indexed ss t most cells used → suc n ≡ first_from (holds_by_slots b ss (entries_of d)) 1 total
     judged-fails {total} h holds O ss x =
         let e : total + 1 - 1 ≡ total = omega arith in
         sym (ap (first_from (holds_by_slots b ss (entries_of d)) 1) (sym e)
@@ -94,6 +94,6 @@ unfolding owner_of
 owner-early es {n = n} T one is = rw is (T.early n one (omega arith))
 
 -- all are passed
-pub judged-all : {b : Background} {d t next head : List ℕ} {used n total : ℕ} {states : List ℕ} → JudgedSoFar b d t next head used n states → n ≡ total
-    → Owned (entries_of d) → (ss : List Slot) → Indexed ss t next head used → 0 ≡ first_from (holds_by_slots b ss (entries_of d)) 1 total
+pub judged-all : {b : Background} {d t cells : List ℕ} {most : ℕ} {used n total : ℕ} {states : List ℕ} → JudgedSoFar b d t most cells used n states → n ≡ total
+    → Owned (entries_of d) → (ss : List Slot) → Indexed ss t most cells used → 0 ≡ first_from (holds_by_slots b ss (entries_of d)) 1 total
 judged-all J e O ss x = rw (← e) (J.none O ss x)

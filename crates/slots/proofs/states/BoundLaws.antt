@@ -10,7 +10,7 @@ use mathlib.Core.Logic.{◌≢◌}
 use mathlib.Core.Option.{Option}
 use mathlib.Core.Path.{◌∙◌, ◌≡◌, ap, refl, sym}
 use native.Mathlib.Omega.{arith}
-use Rattle.base.proofs.ChainLaws.{chains-same}
+use Rattle.base.proofs.WayLaws.{planted-same}
 use Rattle.base.proofs.Tests.{eq-cases, eq-eqb, ge-ltb, gt-leb, le-leb, lt-cases, lt-ltb, ne_eqb, tests}
 use Rattle.base.specs.Range.{bit}
 use Rattle.blocks.specs.declared.Entry.{Entry}
@@ -22,9 +22,9 @@ use Rattle.passes.specs.code.Restrict.{excluded_at}
 use Rattle.passes.specs.code.Slots.{Slot}
 use Rattle.slots.proofs.states.SlotSearch.{high-slot, low-slot}
 use Rattle.slots.specs.code.States.{Indexed, beside_bounds, bounds_support, entry_slot, high_at, given, holds_in_state, low_at, needed, nowhere, passed, slot_for, state_below, supported_by}
-use Rattle.slots.specs.code.Tables.{Exact, Kept, Settling, hash_of, high_in, high_part, key_in, link_kind, low_part, no_bound, slots_from}
+use Rattle.slots.specs.code.Tables.{Exact, Kept, Settling, high_in, high_part, key_in, link_kind, low_part, no_bound, slots_from}
 
-module _ {ss : List Slot} {t next head : List ℕ} {used : ℕ} (i : Indexed ss t next head used) {s x : ℕ} (b : s ≤ used) (e : x ≡ cond (eqb s 0) no_bound (get_or t s 0)) where
+module _ {ss : List Slot} {t cells : List ℕ} {most : ℕ} {used : ℕ} (i : Indexed ss t most cells used) {s x : ℕ} (b : s ≤ used) (e : x ≡ cond (eqb s 0) no_bound (get_or t s 0)) where
   pub bounds-low : low_part x ≡ low_at ss s
   unfolding low_part
   bounds-low =
@@ -64,20 +64,21 @@ settled-exact x s =
       rest = λ j l. s.rest j l ∙ x.rest j l;
     }
 
--- a table of the same keys has the same chains
-pub kept-keys : {origin t next head : List ℕ} {used : ℕ} → Kept origin next head used → length t ≡ length origin
-    → ((j : ℕ) → key_in (get_or t j 0) ≡ key_in (get_or origin j 0)) → Kept t next head used
-kept-keys {head = head} k size keys =
+-- a table of the same keys stands in the same cells
+pub kept-keys : {origin t cells : List ℕ} {most : ℕ} {used : ℕ} → Kept origin most cells used → length t ≡ length origin
+    → ((j : ℕ) → key_in (get_or t j 0) ≡ key_in (get_or origin j 0)) → Kept t most cells used
+kept-keys k size keys =
     record {
       room = rw size k.room;
-      nexts = k.nexts;
-      heads = k.heads;
-      most = k.most;
-      chains = chains-same (λ j. ap (hash_of (length head)) (keys j)) k.chains;
+      wide = k.wide;
+      narrow = k.narrow;
+      small = k.small;
+      keys = λ j lo hi. rw (keys j) (k.keys j lo hi);
+      planted = planted-same (λ j lo hi. keys j) k.planted;
       apart = λ i j lo l hi. rw (keys i, keys j) (k.apart i j lo l hi);
     }
 
-pub settled-kept : {origin t next head bad full : List ℕ} {used : ℕ} → Kept origin next head used → Settling origin used 0 t bad full → Kept t next head used
+pub settled-kept : {origin t cells bad full : List ℕ} {most : ℕ} {used : ℕ} → Kept origin most cells used → Settling origin used 0 t bad full → Kept t most cells used
 settled-kept k s = kept-keys k s.size s.keys
 
 -- ---- what the bounds support
@@ -121,7 +122,7 @@ given_support k n lo hi small =
 -- ---- a lack that is implied
 
 -- settled slots exclude what the slots do, so that what the bounds do not support is decided beside them by the table
-pub beside-supported : (P : List ℕ) {ss : List Slot} {t next head : List ℕ} {used : ℕ} → Indexed ss t next head used → (e : Entry) (s lo : ℕ) (hi : Option ℕ)
+pub beside-supported : (P : List ℕ) {ss : List Slot} {t cells : List ℕ} {most : ℕ} {used : ℕ} → Indexed ss t most cells used → (e : Entry) (s lo : ℕ) (hi : Option ℕ)
     → supported_by (under P) (excluded_at (under P) ss s e.name) e.kind e.name e.number lo hi
     ≡ bounds_support e.kind e.number lo hi || beside_bounds standing (excluded_at (under P) (slots_from t 1 used) s e.name) e.kind e.name e.number
 unfolding supported_by bounds_support beside_bounds
@@ -135,7 +136,7 @@ beside-supported P {ss} {t = t} {used = used} i e s lo hi =
 
 -- ---- an entry that was looked up in a place that is not passed
 
-module _ {ss : List Slot} {t next head : List ℕ} {used : ℕ} (i : Indexed ss t next head used) {s x : ℕ} (b : s ≤ used) (is' : x ≡ cond (eqb s 0) no_bound (get_or t s 0)) {v : ℕ} (z : v ≢ passed) (e : Entry)
+module _ {ss : List Slot} {t cells : List ℕ} {most : ℕ} {used : ℕ} (i : Indexed ss t most cells used) {s x : ℕ} (b : s ≤ used) (is' : x ≡ cond (eqb s 0) no_bound (get_or t s 0)) {v : ℕ} (z : v ≢ passed) (e : Entry)
     (found' : s ≡ entry_slot ss v e) where
   -- it holds by the bounds that were found, or beside them
   pub looked-holds : (P : List ℕ) → holds_in_state (under P) ss v e

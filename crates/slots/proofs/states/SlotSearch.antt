@@ -13,7 +13,7 @@ use Rattle.passes.proofs.CellPlaces.FormSettled.{position-settled, taken-settled
 use Rattle.passes.specs.code.Keys.{key_number}
 use Rattle.passes.specs.code.Slots.{Slot, position, settled, slot_at, slot_high, slot_low, taken}
 use Rattle.slots.proofs.TableSearch.{slot-last}
-use Rattle.slots.proofs.slots.SearchLaws.{keys_of}
+use Rattle.slots.specs.code.Tables.{keys_of}
 use Rattle.slots.specs.code.States.{Indexed, high_at, low_at, slot_for}
 use Rattle.slots.specs.code.Tables.{high_in, high_part, key_in, low_part, slot_in, slots_from}
 
@@ -30,7 +30,7 @@ slot-at t i (suc m) j lo hi =
 
 -- ---- the table of settled slots
 
-module _ {ss : List Slot} {t next head : List ℕ} {used : ℕ} (I : Indexed ss t next head used) where
+module _ {ss : List Slot} {t cells : List ℕ} {most : ℕ} {used : ℕ} (I : Indexed ss t most cells used) where
   -- the search for a key finds its slot
   pub search-slot : (v : ℕ) (b : Bool) (n : ℕ) → n < 65536 → {s key : ℕ} → key ≡ key_number v b n → s ≡ last_where (λ j. key_in (get_or t j 0)) key used → s ≡ slot_for ss v b n
   unfolding slot_for

@@ -18,9 +18,9 @@ use Rattle.slots.proofs.HoldingLaws.{state-every}
 use Rattle.slots.proofs.NextEntry.{owner-before}
 use Rattle.slots.specs.code.States.{Indexed, Stated, holds_by_slots, holds_in_state, passed, state_below, state_of}
 
-module _ {d t next head : List ℕ} {used : ℕ} where
+module _ {d t cells : List ℕ} {most : ℕ} {used : ℕ} where
   -- the top's
-  pub stated-start : (states : List ℕ) → length (entries_of d) < length states → Stated d t next head used 0 (set states 0 0)
+  pub stated-start : (states : List ℕ) → length (entries_of d) < length states → Stated d t most cells used 0 (set states 0 0)
   unfolding state_of
   stated-start states l =
       let top : (j : ℕ) → j ≤ 0 → get_or (set states 0 0) j 0 ≡ 0 = λ j h. let z : j ≡ 0 = omega arith in rw z (get_or-set_same states 0 0 0 (omega arith)) in
@@ -31,7 +31,7 @@ module _ {d t next head : List ℕ} {used : ℕ} where
       }
 
   -- one entry more
-  module _ (O : Owned (entries_of d)) {n : ℕ} {states : List ℕ} (S : Stated d t next head used n states) (le : n < length (entries_of d)) {e : Entry} (is' : e ≡ nth (entries_of d) (suc n))
+  module _ (O : Owned (entries_of d)) {n : ℕ} {states : List ℕ} (S : Stated d t most cells used n states) (le : n < length (entries_of d)) {e : Entry} (is' : e ≡ nth (entries_of d) (suc n))
       {s : ℕ} (read : s ≡ get_or states e.owner 0) where
     owner-is : e.owner ≡ owner_of (entries_of d) (suc n)
     unfolding owner_of
@@ -41,13 +41,13 @@ module _ {d t next head : List ℕ} {used : ℕ} where
     pub state-small : s ≤ passed
     state-small = rw read (S.small _ (owner-before O le is'))
 
-    state-read : (ss : List Slot) → Indexed ss t next head used → s ≡ state_of ss (entries_of d) (owner_of (entries_of d) (suc n)) (owner_of (entries_of d) (suc n))
+    state-read : (ss : List Slot) → Indexed ss t most cells used → s ≡ state_of ss (entries_of d) (owner_of (entries_of d) (suc n)) (owner_of (entries_of d) (suc n))
     state-read ss x =
         read ∙ rw owner-is (S.right ss x _ (omega (arith, O.earlier (suc n) (omega arith) (omega arith))) (O.every (suc n) (omega arith) (omega arith)))
 
     -- its own is put in, if it is an 'every'
-    pub stated-more : {m y : ℕ} → m ≡ suc n → y ≤ passed → (e.kind ≡ 5 → (ss : List Slot) → Indexed ss t next head used → y ≡ state_below ss s e.name)
-        → Stated d t next head used m (set states m y)
+    pub stated-more : {m y : ℕ} → m ≡ suc n → y ≤ passed → (e.kind ≡ 5 → (ss : List Slot) → Indexed ss t most cells used → y ≡ state_below ss s e.name)
+        → Stated d t most cells used m (set states m y)
     stated-more {m} {y} q small below =
         let there : suc n < length states = omega (arith, S.room) in
         rw q (record {
@@ -64,7 +64,7 @@ module _ {d t next head : List ℕ} {used : ℕ} where
         })
 
     -- it holds in the state of its owner
-    pub holds-here : {m : ℕ} → m ≡ suc n → {r : Bool} (b : Background) (ss : List Slot) → Indexed ss t next head used → r ≡ holds_in_state b ss s e
+    pub holds-here : {m : ℕ} → m ≡ suc n → {r : Bool} (b : Background) (ss : List Slot) → Indexed ss t most cells used → r ≡ holds_in_state b ss s e
         → holds_by_slots b ss (entries_of d) m ≡ r
     unfolding holds_by_slots
     holds-here q b ss x h = rw (q, ← state-read ss x, ← is') (sym h)

@@ -42,16 +42,16 @@ RestChecked d n total i (Ok u) = first (rule_faults (Named 0) (entries_of d) (n 
 
 -- n entries are passed, all of which hold, and a table has their states. That the states are right needs owners that stand earlier, all of them,
 -- which is known only when all entries are checked.
-pub record JudgedSoFar (b : Background) (d t next head : List ℕ) (used n : ℕ) (states : List ℕ) : Type 0 where
+pub record JudgedSoFar (b : Background) (d t : List ℕ) (most : ℕ) (cells : List ℕ) (used n : ℕ) (states : List ℕ) : Type 0 where
   pub room : length (entries_of d) < length states
   pub small : (j : ℕ) → j ≤ n → get_or states j 0 ≤ passed
-  pub stated : Owned (entries_of d) → Stated d t next head used n states
-  pub none : Owned (entries_of d) → (ss : List Slot) → Indexed ss t next head used → 0 ≡ first_from (holds_by_slots b ss (entries_of d)) 1 n
+  pub stated : Owned (entries_of d) → Stated d t most cells used n states
+  pub none : Owned (entries_of d) → (ss : List Slot) → Indexed ss t most cells used → 0 ≡ first_from (holds_by_slots b ss (entries_of d)) 1 n
 
 -- what going over all of them does
-abbrev pub PassedAll : Background → List ℕ → List ℕ → List ℕ → List ℕ → ℕ → ℕ → ℕ → Result (Option ℕ) Refusal → Type 0
-PassedAll b d t next head used total i (Err e) = (first (rule_faults (Named 0) (entries_of d) 1 total) ≡ Faulty e.cause e.place) × (e.input ≡ i)
-PassedAll b d t next head used total i (Ok f) =
+abbrev pub PassedAll : Background → List ℕ → List ℕ → ℕ → List ℕ → ℕ → ℕ → ℕ → Result (Option ℕ) Refusal → Type 0
+PassedAll b d t most cells used total i (Err e) = (first (rule_faults (Named 0) (entries_of d) 1 total) ≡ Faulty e.cause e.place) × (e.input ≡ i)
+PassedAll b d t most cells used total i (Ok f) =
     (first (rule_faults (Named 0) (entries_of d) 1 total) ≡ Clean)
-    × (Owned (entries_of d) → (ss : List Slot) → Indexed ss t next head used → unwrap_or f 0 ≡ first_from (holds_by_slots b ss (entries_of d)) 1 total)
+    × (Owned (entries_of d) → (ss : List Slot) → Indexed ss t most cells used → unwrap_or f 0 ≡ first_from (holds_by_slots b ss (entries_of d)) 1 total)
     × IfSome f (λ k. 1 ≤ k)

@@ -10,7 +10,7 @@ use Rattle.logic.specs.Background.{Background}
 use Rattle.logic.specs.Normal.{at_most, found}
 use Rattle.passes.specs.code.Restrict.{excluded_at}
 use Rattle.passes.specs.code.Slots.{Slot, position, settled, slot_at, slot_high, slot_low, taken}
-use Rattle.slots.specs.code.Tables.{Kept, link_kind, no_bound, slots_from}
+use Rattle.slots.specs.code.Tables.{Searchable, link_kind, no_bound, slots_from}
 
 -- ---- slots by key
 
@@ -87,13 +87,13 @@ holds_by_slots b ss d n = holds_in_state b ss (state_of ss d (owner_of d n) (own
 -- ---- the tables
 
 -- the settled slots ss stand in the table, on their chains
-pub record Indexed (ss : List Slot) (t next head : List ℕ) (used : ℕ) : Type 0 where
-  pub kept : Kept t next head used
+pub record Indexed (ss : List Slot) (t : List ℕ) (most : ℕ) (cells : List ℕ) (used : ℕ) : Type 0 where
+  pub kept : Searchable t most cells used
   pub slotted : slots_from t 1 used ≡ settled 1 ss
 
 -- the states of the top and of each 'every' among the first n entries are in a table that has room for all, and none that was put in is
 -- above `passed`
-pub record Stated (d : List ℕ) (t next head : List ℕ) (used n : ℕ) (states : List ℕ) : Type 0 where
+pub record Stated (d : List ℕ) (t : List ℕ) (most : ℕ) (cells : List ℕ) (used n : ℕ) (states : List ℕ) : Type 0 where
   pub room : length (entries_of d) < length states
   pub small : (j : ℕ) → j ≤ n → get_or states j 0 ≤ passed
-  pub right : (ss : List Slot) → Indexed ss t next head used → (o : ℕ) → o ≤ n → (o ≢ 0 → (nth (entries_of d) o).kind ≡ 5) → get_or states o 0 ≡ state_of ss (entries_of d) o o
+  pub right : (ss : List Slot) → Indexed ss t most cells used → (o : ℕ) → o ≤ n → (o ≢ 0 → (nth (entries_of d) o).kind ≡ 5) → get_or states o 0 ≡ state_of ss (entries_of d) o o

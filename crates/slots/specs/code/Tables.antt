@@ -1,9 +1,10 @@
 -- Slots as numbers of 64 bits in a table, as the code keeps them. No public promise names these.
 -- Assumes nothing.
-use Rattle.std.specs.Prelude.{◌%◌, ◌*◌, ◌+◌, ◌-◌, ◌/◌, ◌<◌, ◌≤◌, max, suc, zero, ℕ, eqb, ltb, drop, get_or, length, set, Bool, ◌&&◌, ◌||◌, cond, false, not, true, List, [], ◌∷◌, map, ◌≡◌}
+use Rattle.std.specs.Prelude.{◌%◌, ◌*◌, ◌+◌, ◌-◌, ◌/◌, ◌<◌, ◌≤◌, ◌≢◌, max, suc, zero, ℕ, eqb, ltb, drop, get_or, length, set, Bool, ◌&&◌, ◌||◌, cond, false, not, true, List, [], ◌∷◌, map, ◌≡◌}
 use Rattle.std.proofs.Math.Option.{Option, none, some}
 use Rattle.base.specs.Range.{bit}
-use Rattle.base.specs.Chain.{Chains}
+use Rattle.base.specs.Chain.{last_where}
+use Rattle.base.specs.Ways.{Ends, Passed, Planted, by_quotient}
 use Rattle.blocks.specs.Entries.{Bounded, entries_of, nth}
 use Rattle.blocks.specs.code.Blockwise.{Whole}
 use Rattle.blocks.specs.declared.Entry.{Entry}
@@ -70,12 +71,14 @@ pub record Blank (k : ℕ) (l : List ℕ) : Type 0 where
   pub room : k < length l
   pub zero' : (j : ℕ) → get_or l j 0 ≡ 0
 
--- what the passes over n entries need beside the table of slots: numbers for the chains, whatever they are, a blank head for each bucket, of
--- which there are 61 to 4,093, and a blank number for each entry
-pub record Cleared (n : ℕ) (next head node : List ℕ) : Type 0 where
-  pub nexts : n < length next
-  pub heads : Blank 60 head
-  pub most : length head ≤ 4093
+-- what the passes over n entries need beside the table of slots: blank cells, `most` of them for searches to begin in and two more for each
+-- slot, and a blank number for each entry
+pub record Cleared (n most : ℕ) (cells node : List ℕ) : Type 0 where
+  pub wide : 251 ≤ most
+  pub narrow : most ≤ 4093
+  pub inside : most + 2 * n + 2 ≤ length cells
+  pub small : length cells ≤ 8192
+  pub zero' : (c : ℕ) → get_or cells c 0 ≡ 0
   pub nodes : Blank n node
 
 -- a table that was `origin` before its slots were written: they have upper bounds of at most `no_bound`, and all other numbers stay
@@ -85,21 +88,31 @@ pub record Exact (origin t : List ℕ) (used : ℕ) : Type 0 where
   pub top : get_or t 0 0 ≡ get_or origin 0 0
   pub rest : (j : ℕ) → used < j → get_or t j 0 ≡ get_or origin j 0
 
--- the bucket of a key, of m
-unfoldable pub hash_of : ℕ → ℕ → ℕ
-hash_of m key = key % m
+-- the keys of a table
+abbrev pub keys_of : List ℕ → ℕ → ℕ
+keys_of t j = key_in (get_or t j 0)
 
--- the chains of a table, of m buckets: each slot points to the one before it in its bucket
-abbrev pub ChainsIn : ℕ → List ℕ → List ℕ → List ℕ → ℕ → Type 0
-ChainsIn m t next head used = Chains (λ j. hash_of m (key_in (get_or t j 0))) (λ j. get_or next j 0) (λ b. get_or head b 0) m used
-
--- a table of so many slots, no two of one key, on their chains
-pub record Kept (t next head : List ℕ) (used : ℕ) : Type 0 where
+-- A table of so many slots, no two of one key, each in a cell on the way of its key. Keys have 30 bits and their quotients 23, so that a search
+-- looks at 24 cells at most, whatever names were chosen.
+pub record Kept (t : List ℕ) (most : ℕ) (cells : List ℕ) (used : ℕ) : Type 0 where
   pub room : used < length t
-  pub nexts : used < length next
-  pub heads : 61 ≤ length head
-  pub most : length head ≤ 4093
-  pub chains : ChainsIn (length head) t next head used
+  pub wide : 251 ≤ most
+  pub narrow : most ≤ 4093
+  pub small : length cells ≤ 8192
+  pub keys : (j : ℕ) → 1 ≤ j → j ≤ used → keys_of t j < 1073741824
+  pub planted : Planted (keys_of t) (by_quotient most) cells used
+  pub apart : (i j : ℕ) → 1 ≤ i → i < j → j ≤ used → eqb (key_in (get_or t i 0)) (key_in (get_or t j 0)) ≡ false
+
+-- what a search needs of such a table: its cells are there, and where it ends is the slot of its key, if there is one
+pub record Searchable (t : List ℕ) (most : ℕ) (cells : List ℕ) (used : ℕ) : Type 0 where
+  pub room : used < length t
+  pub wide : 251 ≤ most
+  pub narrow : most ≤ 4093
+  pub small : length cells ≤ 8192
+  pub low : (c : ℕ) → get_or cells c 0 ≤ used
+  pub inside : (x turns c : ℕ) → Passed (keys_of t) cells (by_quotient most) x turns c → c < length cells
+  pub last : (x c : ℕ) → x < 1073741824 → Passed (keys_of t) cells (by_quotient most) x 23 c → get_or cells c 0 ≢ 0 → keys_of t (get_or cells c 0) ≡ x
+  pub at : (x c : ℕ) → Ends (keys_of t) cells (by_quotient most) 23 x c → get_or cells c 0 ≡ last_where (keys_of t) x used
   pub apart : (i j : ℕ) → 1 ≤ i → i < j → j ≤ used → eqb (key_in (get_or t i 0)) (key_in (get_or t j 0)) ≡ false
 
 -- ---- the slot of an entry, by its kind number
@@ -128,11 +141,12 @@ unfoldable pub leads_to : List Entry → List ℕ → ℕ → ℕ → Option ℕ
 leads_to es node n j = cond (eqb j 0 || (ltb j n && eqb (nth es j).kind 5)) (some (get_or node j 0)) none
 
 -- what entering a place, class and name with two bounds does: slot r has them now
-pub record Entered (t next head : List ℕ) (used v : ℕ) (b : Bool) (n lo hi r : ℕ) (t' next' head' : List ℕ) : Type 0 where
+pub record Entered (t : List ℕ) (most : ℕ) (cells : List ℕ) (used v : ℕ) (b : Bool) (n lo hi r : ℕ) (t' cells' : List ℕ) : Type 0 where
   pub at : r ≡ position 1 (slots_in t used) v b n
   pub from : 1 ≤ r
   pub tightened : slots_in t' (max used r) ≡ tighten (slots_in t used) v b n lo (high_in hi)
-  pub kept : Kept t' next' head' (max used r)
+  pub kept : Kept t' most cells' (max used r)
+  pub sized : length cells' ≡ length cells
   pub exact : (origin : List ℕ) → Exact origin t used → Exact origin t' (max used r)
 
 -- where entries lead to, as far as `used` slots
@@ -148,21 +162,21 @@ abbrev pub slots_of : Background → List ℕ → List Slot
 slots_of b d = slots_under b (map row_of (entries_of d))
 
 -- the first n entries are entered, and the slots so far with those of the entries left are all of them; the tables have room for these
-pub record Building (d : List ℕ) (n used : ℕ) (t next head node : List ℕ) : Type 0 where
+pub record Building (d : List ℕ) (n used : ℕ) (t : List ℕ) (most : ℕ) (cells node : List ℕ) : Type 0 where
   pub few : used ≤ n
-  pub kept : Kept t next head used
+  pub kept : Kept t most cells used
   pub nodes : Nodes node used
   pub slotted : built_slots d ≡ build (leads_to (entries_of d) node (suc n)) (slots_in t used) (suc n) (drop n (map row_of (entries_of d)))
   pub bounded : (j : ℕ) → 1 ≤ j → j ≤ n → Bounded (nth (entries_of d) j)
   pub room : length (entries_of d) < length t
-  pub nexts : length (entries_of d) < length next
+  pub inside : most + 2 * length (entries_of d) + 2 ≤ length cells
   pub places : length (entries_of d) < length node
 
 -- the slots ss, made of d, stand in the table, which was `origin` before
-pub record Built (ss : List Slot) (d : List ℕ) (used : ℕ) (origin t next head : List ℕ) : Type 0 where
+pub record Built (ss : List Slot) (d : List ℕ) (used : ℕ) (origin t : List ℕ) (most : ℕ) (cells : List ℕ) : Type 0 where
   pub slotted : ss ≡ slots_in t used
   pub exact : Exact origin t used
-  pub kept : Kept t next head used
+  pub kept : Kept t most cells used
   pub few : used ≤ length (entries_of d)
   pub bounded : (n : ℕ) → 1 ≤ n → n ≤ length (entries_of d) → Bounded (nth (entries_of d) n)
 
@@ -245,15 +259,15 @@ pub record Settled (b : Background) (d : List ℕ) (used : ℕ) (t bad full : Li
   pub bads : (v : ℕ) → get_or bad v 0 ≡ bit (inconsistent 1 (slots_of b d) v)
   pub fulls : (v : ℕ) → get_or full v 0 ≡ bit (nonempty 1 (settled 1 (slots_of b d)) v)
 
--- the same, with the chains that find them, in a table that was `origin` before
-pub record Chained (b : Background) (d : List ℕ) (used : ℕ) (origin t next head bad full : List ℕ) : Type 0 where
+-- the same, with the cells that find them, in a table that was `origin` before
+pub record Chained (b : Background) (d : List ℕ) (used : ℕ) (origin t : List ℕ) (most : ℕ) (cells bad full : List ℕ) : Type 0 where
   pub settled' : Settled b d used t bad full
   pub exact : Exact origin t used
-  pub kept : Kept t next head used
+  pub kept : Kept t most cells used
 
--- what judging by the slots of a description needs of them: they stand in the table, settled, on their chains, and it is known whether the
+-- what judging by the slots of a description needs of them: they stand in the table, settled, in their cells, and it is known whether the
 -- top is impossible
-pub record Held (b : Background) (d : List ℕ) (used : ℕ) (t next head : List ℕ) (impossible : Bool) : Type 0 where
-  pub kept : Kept t next head used
+pub record Held (b : Background) (d : List ℕ) (used : ℕ) (t : List ℕ) (most : ℕ) (cells : List ℕ) (impossible : Bool) : Type 0 where
+  pub kept : Searchable t most cells used
   pub tabled : Tabled b d used t
   pub top : impossible ≡ inconsistent 1 (slots_of b d) 0

@@ -30,7 +30,6 @@ loop-before-init g c =
       building = building-starts p.0.0 p.1 p.2;
       exact = exact-starts _;
       tables = refl;
-      nexts = refl;
       nodes = refl;
     }
 
@@ -51,12 +50,12 @@ enter-s-requires g c =
     let h = here g (goal.at.enter-s-requires g c).In-Some in
     let B = c.loop-before.invariant.building in
     let p = c.requires.0 in (
-      omega (arith, B.kept.most, c.told-head),
+      omega arith,
       (
         B.kept,
         omega (arith, B.few, h.same, h.before, p.1),
         omega (arith, B.few, h.same, h.before, p.0, B.room),
-        omega (arith, B.few, h.same, h.before, p.0, B.nexts),
+        omega (arith, B.few, h.same, h.before, p.0, B.inside),
         c.entry_key.ensures.1,
         c.entry_bounds.ensures.3,
         c.entry_bounds.ensures.2,
@@ -86,8 +85,8 @@ loop-before-preserved g c =
     let is : e ≡ nth (entries_of c.args.d.now) (suc c.in-Some.before) = c.from-e.ensures ∙ h.entry_suc in
     let b = bounded g (goal.at.loop-before-preserved g c).After-from-e in
     let place : c.from-place.result ≡ get_or l.node e.owner 0 = c.from-place.ensures ∙ ap (λ (j : ℕ). get_or l.node j 0) c.from.ensures in
-    let E : Entered l.table l.next l.head l.used (get_or l.node e.owner 0) (link_kind e.kind) e.name
-    (low_kind e.kind e.number) (high_kind e.kind e.number) c.enter-s.result _ _ _ =
+    let E : Entered l.table g.row.BUCKETS l.cells l.used (get_or l.node e.owner 0) (link_kind e.kind) e.name
+    (low_kind e.kind e.number) (high_kind e.kind e.number) c.enter-s.result _ _ =
     rw (c.entry_bounds.ensures.0, c.entry_bounds.ensures.1) at
     (c.enter-s.ensures.1 (get_or l.node e.owner 0) (link_kind e.kind) e.name b.name (c.entry_key.ensures.0 ∙ rw place)) in
     let k = c.enter-s.auto in
@@ -95,10 +94,9 @@ loop-before-preserved g c =
       goes = c.in-Some.ensures.goes.keeps;
       ends = tt;
       over = i.over;
-      building = rw (h.more, c.max-used.ensures) (building-more p.2 (rw (← h.same) at i.building) (omega (arith, h.before, p.0)) is b c.enter-s.ensures.0 (omega arith) (omega (arith, k)) (omega (arith, k)) E);
+      building = rw (h.more, c.max-used.ensures) (building-more p.2 (rw (← h.same) at i.building) (omega (arith, h.before, p.0)) is b c.enter-s.ensures.0 (omega arith) (omega (arith, k)) E);
       exact = rw c.max-used.ensures (E.exact _ i.exact);
       tables = omega (arith, k, i.tables);
-      nexts = omega (arith, k, i.nexts);
       nodes = simp length-set i.nodes;
     }
 

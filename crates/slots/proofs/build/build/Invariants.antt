@@ -9,9 +9,8 @@ invariant-loop-before g l = record {
   goes : (goal.iterator-loop-before g).can_next l.before-iterator;
   ends : (goal.iterator-loop-before g).is_finite l.before-iterator;
   over : OverNumbered l.d l.total l.initial.before-iterator;
-  building : Building l.d (length l.yielded) l.used l.table l.next l.head l.node;
+  building : Building l.d (length l.yielded) l.used l.table g.row.BUCKETS l.cells l.node;
   exact : Exact l.initial.table l.table l.used;
   tables : length l.table ≡ length l.initial.table;
-  nexts : length l.next ≡ length l.initial.next;
   nodes : length l.node ≡ length l.initial.node;
 }

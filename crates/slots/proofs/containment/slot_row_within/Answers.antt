@@ -14,22 +14,23 @@ chained_slots-used-requires g c =
       omega arith,
       (
         a.5,
+        a.7,
         omega (arith, short, length-replicate {A = ℕ} g.row.N 0),
-        ready-zeros _ g.row.N g.row.BUCKETS short a.4 a.5,
+        ready-zeros _ g.row.N g.row.BUCKETS g.row.CELLS short a.4 a.5 a.6 a.7,
       ),
     )
 
 pub bounds-work-0 : goal.bounds-work-0
-bounds-work-0 g c = omega (arith, c.chained_slots-used.ensures.same.5, length-replicate {A = ℕ} g.row.N 0, c.requires.2)
+bounds-work-0 g c = omega (arith, c.chained_slots-used.ensures.same.4, length-replicate {A = ℕ} g.row.N 0, c.requires.2)
 
 pub of-slots-requires : goal.of-slots-requires
 of-slots-requires g c =
     let s = c.chained_slots-used.ensures.chained in
-    (omega arith, (omega arith, (kept-again s.kept (search rules) (search rules), s.settled'.tabled.few)))
+    (omega arith, (omega arith, (kept-again s.kept (search rules), s.settled'.tabled.few)))
 
 pub returns : goal.returns
 returns g c =
     let s = c.chained_slots-used.ensures.chained in
     let r = c.of-slots.ensures in
-    let held = c.new-supplier.ensures.held _ _ (rw (r.0, r.3) s.settled'.tabled) (s.settled'.bads 0) in
+    let held = c.new-supplier.ensures.held _ _ (rw (r.0, r.2) s.settled'.tabled) (s.settled'.bads 0) in
     rw (← c.get.ensures.0) ((rw c.new-supplier.ensures.same.0 at c.judge_row.ensures) _ held)

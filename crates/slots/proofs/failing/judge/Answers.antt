@@ -12,21 +12,21 @@ use Rattle.slots.proofs.failing.judge.Goals as goal
 
 pub chained_slots-used-requires : goal.chained_slots-used-requires
 chained_slots-used-requires g c =
-    let a = c.requires in (omega arith, (a.6, a.1, ready-zeros _ _ _ a.2 a.5 a.6))
+    let a = c.requires in (omega arith, (a.6, a.8, a.1, ready-zeros _ _ _ _ a.2 a.5 a.6 a.7 a.8))
 
 pub bounds-work-0 : goal.bounds-work-0
-bounds-work-0 g c = omega (arith, c.chained_slots-used.ensures.same.5, length-replicate {A = ℕ} g.row.N 0, c.requires.2)
+bounds-work-0 g c = omega (arith, c.chained_slots-used.ensures.same.4, length-replicate {A = ℕ} g.row.N 0, c.requires.2)
 
 pub of-slots-requires : goal.of-slots-requires
 of-slots-requires g c =
     let s = c.chained_slots-used.ensures.chained in
-    (omega arith, (omega arith, (kept-again s.kept (search rules) (search rules), s.settled'.tabled.few)))
+    (omega arith, (omega arith, (kept-again s.kept (search rules), s.settled'.tabled.few)))
 
 pub returns : goal.returns
 returns g c =
     let a = c.requires in
     let s = c.chained_slots-used.ensures.chained in
     let r = c.of-slots.ensures in
-    let held = c.new-supplier.ensures.held _ _ (rw (r.0, r.3) s.settled'.tabled) (s.settled'.bads 0) in
+    let held = c.new-supplier.ensures.held _ _ (rw (r.0, r.2) s.settled'.tabled) (s.settled'.bads 0) in
     judging-found a.0.lawful _ c.args.c.read (any-input Description 1 2 _ c.args.d.read) a.1 s
     ((rw c.new-supplier.ensures.same.0 at c.judge-e.ensures.2) _ held) c.answer_of.ensures

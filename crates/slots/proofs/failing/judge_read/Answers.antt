@@ -14,7 +14,7 @@ pub judge-requires-2 : goal.judge-requires-2
 judge-requires-2 c =
     let n = (accepted-few 1 _ c.args.c.read).1 in
     let m = (accepted-few 1 _ c.args.d.read).1 in
-    (c.requires, omega (arith, c.if-table-c.false), omega (arith, n), omega (arith, m), omega arith, omega arith, omega arith)
+    (c.requires, omega (arith, c.if-table-c.false), omega (arith, n), omega (arith, m), omega arith, omega arith, omega arith, omega arith, omega arith)
 
 pub returns : goal.returns
 returns c = c.judge-2.ensures

@@ -10,13 +10,13 @@ use Rattle.slots.proofs.states.BoundLaws.{settled-exact, settled-kept}
 use Rattle.slots.proofs.filling.chained_slots.Goals as goal
 
 pub build-used-requires : goal.build-used-requires
-build-used-requires g c = let a = c.requires in (omega (arith, a.0), (accepted-few 1 _ c.args.d.read, a.1, a.2.0))
+build-used-requires g c = let a = c.requires in (omega (arith, a.1), (accepted-few 1 _ c.args.d.read, a.2, a.3.0))
 
 pub restrict_slots-requires : goal.restrict_slots-requires
 restrict_slots-requires g c =
     let built = c.build-used.ensures in
     let few = accepted-few 1 _ c.args.d.read in
-    (omega (arith, c.requires.0), (built.kept, omega (arith, built.few, few.0, few.1), built-placed (slots-early _) built))
+    (omega (arith, c.requires.1), (built.kept, omega (arith, built.few, few.0, few.1), built-placed (slots-early _) built))
 
 pub settle-requires : goal.settle-requires
 settle-requires g c =
@@ -25,8 +25,8 @@ settle-requires g c =
     let r = built-restricted c.restrict_slots.ensures c.build-used.ensures in (
       r.kept.room,
       built-placed (under-early (under _) _) r,
-      blank-less (omega (arith, r.few, few.0)) a.2.1,
-      blank-less (omega (arith, r.few, few.0)) a.2.2,
+      blank-less (omega (arith, r.few, few.0)) a.3.1,
+      blank-less (omega (arith, r.few, few.0)) a.3.2,
     )
 
 pub returns-clause-chained : goal.returns-clause-chained

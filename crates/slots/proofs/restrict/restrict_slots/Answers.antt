@@ -2,10 +2,11 @@ use Prim.Native.Nat.{◌+◌, ◌-◌}
 use mathlib.Core.Path.{◌≡◌}
 use native.Mathlib.Omega.{arith}
 use Rattle.slots.proofs.restrict.RestrictLaws.{kept-stays, restrict-goes}
+use Rattle.slots.proofs.slots.KeyBounds.{searchable}
 use Rattle.slots.proofs.restrict.restrict_slots.Goals as goal
 
 pub invariant_of-slots-clause-kept : goal.invariant_of-slots-clause-kept
-invariant_of-slots-clause-kept g c = kept-stays c.loop-s.invariant.1 c.requires.0
+invariant_of-slots-clause-kept g c = searchable (kept-stays c.loop-s.invariant.1 c.requires.0)
 
 pub loop-s-preserved : goal.loop-s-preserved
 loop-s-preserved g c =

@@ -13,8 +13,8 @@ invariant-loop-before g l = record {
   goes : (goal.iterator-loop-before g).can_next l.before-iterator;
   ends : (goal.iterator-loop-before g).is_finite l.before-iterator;
   over : OverNumbered l.d l.total l.initial.before-iterator;
-  stated : Stated l.d l.self.table.now l.self.next.now l.self.head.now l.self.used (length l.yielded) l.states;
-  rest : (ss : List Slot) → Indexed ss l.self.table.now l.self.next.now l.self.head.now l.self.used
+  stated : Stated l.d l.self.table.now g.row.BUCKETS l.self.cells.now l.self.used (length l.yielded) l.states;
+  rest : (ss : List Slot) → Indexed ss l.self.table.now g.row.BUCKETS l.self.cells.now l.self.used
       → first_from (holds_by_slots (under l.exclusions.pairs.now) ss (entries_of l.d)) 1 l.total
       ≡ first_from (holds_by_slots (under l.exclusions.pairs.now) ss (entries_of l.d)) (length l.yielded + 1) (l.total + 1 - (length l.yielded + 1));
 }

@@ -7,7 +7,7 @@ use Rattle.base.proofs.ChainLaws.{last-most}
 use Rattle.base.specs.Chain.{last_where}
 use Rattle.passes.specs.code.Keys.{key_number}
 use Rattle.slots.proofs.excluding.ExcludingLaws.{has-low, has-not}
-use Rattle.slots.proofs.slots.SearchLaws.{keys_of}
+use Rattle.slots.specs.code.Tables.{keys_of}
 use Rattle.slots.proofs.slots.Slots.has.Goals.{In-None, In-Some}
 use Rattle.slots.proofs.slots.Slots.has.Goals as goal
 

@@ -19,12 +19,12 @@ unfolding holds_in_state state_below
 returns-then-state-eq-PASSED g c = (omega arith, λ ss i. rw (holds_in_state, eq-eqb c.if-state-eq-PASSED.true), λ k ss i. rw (state_below, eq-eqb c.if-state-eq-PASSED.true))
 
 -- the slot that was found is that of the entry in this state
-slot-found : (g : _) (c : After-holds_at g) → (ss : List Slot) → Indexed ss c.args.self.table.now c.args.self.next.now c.args.self.head.now c.args.self.used
+slot-found : (g : _) (c : After-holds_at g) → (ss : List Slot) → Indexed ss c.args.self.table.now g.row.BUCKETS c.args.self.cells.now c.args.self.used
     → unwrap_or c.entry_slot-s.result 0 ≡ entry_slot ss c.args.state c.args.e
 slot-found g c ss i = c.entry_slot-s.ensures.2 ss i ∙ ap (λ (v : ℕ). entry_slot ss v c.args.e) c.from-place.ensures
 
 -- and whether it holds there is by its bounds, or beside them
-held : (g : _) (c : After-holds_at g) → (ss : List Slot) → Indexed ss c.args.self.table.now c.args.self.next.now c.args.self.head.now c.args.self.used
+held : (g : _) (c : After-holds_at g) → (ss : List Slot) → Indexed ss c.args.self.table.now g.row.BUCKETS c.args.self.cells.now c.args.self.used
     → c.holds_at.result ≡ holds_in_state (under c.args.exclusions.pairs.now) ss c.args.state c.args.e
 held g c ss i =
     let a = c.args in
