@@ -87,6 +87,11 @@ outside: lib gx $(PROGRAM)
 	$(CC) $(CFLAGS) examples/hierarchy.c target/staticlib/libcapi.a -o target/c/hierarchy
 	test "$$(cd examples && ../target/c/hierarchy supplier.blocks services/*.blocks supplier.blocks | paste -s -d,)" = \
 		"supplier.blocks: below services/few-cores.blocks services/with-core.blocks,services/few-cores.blocks: at the top,services/sealed.blocks: at the top,services/with-core.blocks: at the top,supplier.blocks: says the same as supplier.blocks"
+	$(CC) $(CFLAGS) examples/desk.c target/staticlib/libcapi.a -o target/c/desk
+	rm -f target/c/draft
+	test "$$(target/c/desk target/c/draft | paste -s -d,)" = "add: 1 entries,add: 2 entries,name: 2 entries"
+	test "$$(target/c/desk target/c/draft | paste -s -d,)" = \
+		"take off: 1 entries,add: 2 entries,add: refused 5 place 3,go back: 2 entries,write: 2 entries,read: 2 entries"
 	test "$$(bash examples/doubles.sh | paste -s -d ';')" = "clay-and-sand.txt no-samples.txt;clay-without-sand.txt clay.txt;cores-again.txt cores-named.txt cores.txt;three-cores.txt"
 	cargo test --quiet --manifest-path rust/bindings/Cargo.toml
 	cargo test --release --quiet --manifest-path rust/differential/Cargo.toml

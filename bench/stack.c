@@ -14,6 +14,7 @@
 enum { STACK = 1 << 18, PATTERN = 0xa5, BLOCKS = 16, ENTRIES = 63 * BLOCKS, CHAIN = 33, SINGLE = 32768, PAIRS = 64 };
 
 static uint8_t stack[STACK], wide[512 * BLOCKS], chain[512], places[1024], groups[1024 * BLOCKS], out[1024 * BLOCKS];
+static uint8_t desk[GX_DESK_BYTES];
 static uint8_t pairs[4 * PAIRS], list[sizeof chain + sizeof wide];
 static uint8_t dictionary[sizeof wide + sizeof chain + sizeof places], named[3][512];
 static ucontext_t here, there;
@@ -78,6 +79,16 @@ static void make_inputs(void) {
     memcpy(dictionary, wide, sizeof wide);
     memcpy(dictionary + sizeof wide, chain, sizeof chain);
     memcpy(dictionary + sizeof wide + sizeof chain, places, sizeof places);
+    /* A desk with the wide description but its last entry, and four stands that have the same. */
+    for (unsigned n = 1; n < ENTRIES; n++) {
+        const uint8_t *e = wide + 512 * ((n - 1) / 63) + 4 + 8 * ((n - 1) % 63);
+        uint64_t entry = 0;
+        for (unsigned i = 8; i-- > 0;)
+            entry = entry << 8 | e[i];
+        gx_desk_add(desk, sizeof desk, entry);
+    }
+    for (unsigned n = 1; n <= 4; n++)
+        gx_desk_name(desk, sizeof desk, (uint16_t)n);
     for (unsigned n = 0; n < 3; n++) {
         put_entry(named[n], 1, 9, 0, n + 1, 0);
         close_blocks(named[n], 1);
@@ -112,6 +123,12 @@ static void compare_named(void) {
 static void catalogue_named(void) {
     answer = gx_catalogue(pairs, sizeof pairs, dictionary, sizeof dictionary, named[0], 512, named[1], 1024, out, sizeof out);
 }
+static void desk_add(void) { answer = gx_desk_add(desk, sizeof desk, 1 | 7ull << 32); }
+static void desk_take_off(void) { answer = gx_desk_take_off(desk, sizeof desk); }
+static void desk_name(void) { answer = gx_desk_name(desk, sizeof desk, 4); }
+static void desk_go_back(void) { answer = gx_desk_go_back(desk, sizeof desk, 3); }
+static void desk_drop(void) { answer = gx_desk_drop(desk, sizeof desk, 1); }
+static void desk_write(void) { answer = gx_desk_write(desk, sizeof desk, out, sizeof out); }
 static void nothing(void) {}
 
 /* The bytes from the lowest that changed to the top. */
@@ -149,6 +166,12 @@ int main(void) {
     show("gx_compare_with", compare_with);
     show("gx_catalogue", catalogue);
     show("gx_hierarchy", hierarchy);
+    show("gx_desk_add", desk_add);
+    show("gx_desk_take_off", desk_take_off);
+    show("gx_desk_name", desk_name);
+    show("gx_desk_go_back", desk_go_back);
+    show("gx_desk_drop", desk_drop);
+    show("gx_desk_write", desk_write);
     show("gx_unfold", unfold);
     show("gx_fit_with, named", fit_named);
     show("gx_normal_with, named", normal_named);

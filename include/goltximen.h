@@ -1,7 +1,7 @@
 /*
  * Goltximen: soil sample descriptions, what fits them, their normal form, and whether one holds another.
  *
- * The static library is target/staticlib/libcapi.a, for x86-64 Linux; `make lib` builds it. Its twelve functions are proved to
+ * The static library is target/staticlib/libcapi.a, for x86-64 Linux; `make lib` builds it. Its functions are proved to
  * answer what is said here for all bytes and lengths, to read and write no memory but that of their slices and their own
  * stack, and to return.
  *
@@ -40,6 +40,11 @@
  * Lists of services. gx_catalogue and gx_hierarchy take 1 to 64 descriptions laid end to end: the first block and each later one numbered 1
  * begins a service. Only the stored number counts for this, and it is looked at before any check: a block whose number is damaged
  * belongs to another service than it did, or begins one, and a refusal is that of the service in which it then stands.
+ *
+ * A desk is one buffer of GX_DESK_BYTES bytes that the caller keeps between calls, in memory, in a file or from one day to the next;
+ * all zero is the empty desk. It holds one description that is drafted entry by entry, and up to four named stands to return to. The
+ * gx_desk functions read and write no other memory than the buffer, and gx_desk_write only reads it. Each looks first whether the
+ * buffer holds what some list of these calls gives; where it does not, it is refused with 20, so that a damaged desk is not gone on with.
  *
  * The answer is one number of 64 bits, answer + 256 * number + 65,536 * first + 4,294,967,296 * second:
  *
@@ -81,10 +86,17 @@
  *              dictionary, or in the dictionary not that of an earlier description               entry
  *     14       a description, in the dictionary or not, has more than 1,008 entries or an entry
  *              of depth over 32 once unfolded                                                    0
+ *     16       an entry is added to a desk that holds 1,008                                      0
+ *     17       an entry is taken off a desk that holds none                                      0
+ *     18       a stand's number is 0; or, to name one, it is not known and four are; or, to go
+ *              back to it or drop it, it is not known                                            0
+ *     20       a desk's buffer is shorter than GX_DESK_BYTES, or holds what no list of calls
+ *              gives                                                                             0
  *
  * Blocks, entries and pairs count from 1. The input is 1 or 2, in the order of the arguments after pairs and dict; it is 0 for
  * numbers 7 and 11, 100 for a dictionary and 100 + n for its n-th description. A list of services is input 2, and its n-th service
- * is input 1 + n, 2 to 65, also in gx_hierarchy, which has no input 1; blocks and entries count from 1 in each.
+ * is input 1 + n, 2 to 65, also in gx_hierarchy, which has no input 1; blocks and entries count from 1 in each. Of a desk's calls, 20
+ * comes before all other refusals, and all but 7 are of input 1.
  *
  * Stack. The most that each call took of the caller's stack, on the inputs that lead furthest down (`make stack` measures it):
  *
@@ -233,6 +245,42 @@ uint64_t gx_catalogue(const uint8_t *pairs, size_t pairs_len, const uint8_t *dic
  * unchanged.
  */
 uint64_t gx_hierarchy(const uint8_t *pairs, size_t pairs_len, const uint8_t *list, size_t list_len, uint8_t *out, size_t out_len);
+
+/* The bytes of a desk: ten words of two bytes, and five areas of 1,008 entries of 8 bytes; docs/FORMAT.md says what stands where. */
+#define GX_DESK_BYTES ((size_t)40340)
+
+/*
+ * Adds an entry at the end of the description on a desk: a count, how many entries are left; or refused, by the first that applies: 20;
+ * 16; and 4, 5 or 6 at the number that the entry would have, as for that entry of a description (kind 9 is 4). The entry is its 8
+ * bytes as a number, low byte first: kind + 65,536 * owner + 4,294,967,296 * name + 281,474,976,710,656 * number. Where a call on a desk
+ * is refused, every byte of it is unchanged; else bytes past GX_DESK_BYTES are.
+ */
+uint64_t gx_desk_add(uint8_t *desk, size_t desk_len, uint64_t entry);
+
+/* Takes off the last entry: a count, how many entries are left; or refused, with 20, or 17 where there is none. */
+uint64_t gx_desk_take_off(uint8_t *desk, size_t desk_len);
+
+/*
+ * Keeps the description under a number, 1 to 65,535: a count, how many entries it has; or refused, with 20, or 18 for 0 and for a fifth. A
+ * number that is used again replaces its stand, also where four stand.
+ */
+uint64_t gx_desk_name(uint8_t *desk, size_t desk_len, uint16_t stand);
+
+/*
+ * Goes back to a stand, which stays: a count, how many entries are left; or refused, with 20, or 18 where the number is not known. After
+ * any list of calls since the number was last given, in which the stand was not dropped, the description is the one held then.
+ */
+uint64_t gx_desk_go_back(uint8_t *desk, size_t desk_len, uint16_t stand);
+
+/* Drops a stand; the description stays: a count, how many entries it has; or refused, with 20, or 18 where the number is not known. */
+uint64_t gx_desk_drop(uint8_t *desk, size_t desk_len, uint16_t stand);
+
+/*
+ * Writes the description on a desk in blocks from the start of out: a count, how many entries are written; or refused, with 20, or with 7
+ * where out is shorter than GX_BYTES of their number. gx_read_description accepts what is written. Later bytes of out stay. Where refused,
+ * out is unchanged.
+ */
+uint64_t gx_desk_write(const uint8_t *desk, size_t desk_len, uint8_t *out, size_t out_len);
 
 #ifdef __cplusplus
 }

@@ -1,4 +1,4 @@
-// The library's calls for C and Rust [K4]: twelve functions under their plain names, each slice a pointer and a
+// The library's calls for C and Rust [K4]: eighteen functions under their plain names, each slice a pointer and a
 // length. Each is total [K1] and has, for its result and each byte that it may write, the equation of the call that
 // it wraps [K2], with the answer as one number of 64 bits [K5]; include/goltximen.h states the terms for a C program.
 //
@@ -10,7 +10,7 @@
 // They are theorems of `answers` about the same definitions; each record that they name is in its specs/.
 #![tactic(auto)]
 
-ghost use Rattle.std.specs.Prelude.{◌≡◌, ℕ, [], Ok};
+ghost use Rattle.std.specs.Prelude.{◌≡◌, ℕ, List, [], Ok};
 ghost use Rattle.answers.specs.Calls.{CountsPlainly, DecidedPlainly, FitsPlainly, NormalisesPlainly, NothingWritten, ReadExactly, RefusedExactly, Unfolds};
 ghost use Rattle.answers.specs.Promise.{ComparableNamed, DecidedNamed, Fills, FitsNamedExactly, JudgeableNamed, NormalisesNamed};
 ghost use Rattle.answers.specs.Ranking.{HierarchyRefused, Ranks};
@@ -19,6 +19,11 @@ ghost use Rattle.blocks.specs.Reading.{reading_of};
 ghost use Rattle.blocks.specs.declared.Schema.{Schema};
 ghost use Rattle.catalogue.specs.Answer.{catalogue_of, filled_of};
 ghost use Rattle.compare.specs.Promise.{Comparable};
+ghost use Rattle.drafts.specs.Buffer.{after_at, answer_at, entry_numbered, held_at, output_at, run_at, write_at};
+ghost use Rattle.drafts.specs.Draft.{empty, run};
+ghost use Rattle.drafts.specs.Listed.{AllLeave};
+ghost use Rattle.drafts.specs.Promise.{DeskRefused, Drafts, WriteRefused, WritesOut, Zeros};
+ghost use Rattle.drafts.specs.declared.Call.{Call};
 ghost use Rattle.fit.specs.Promise.{Judgeable};
 ghost use Rattle.hierarchy.specs.Answer.{hierarchy_of, ranked_of};
 ghost use Rattle.named.specs.Answer.{compare_named, counted_named, fit_named, normalise_named, normalised_named, output_named};
@@ -26,6 +31,7 @@ ghost use Rattle.packing.specs.Packing.{pack_comparison, pack_counted, pack_fit,
 ghost use Rattle.pairs.specs.Promise.{ListRead};
 ghost use Rattle.unfolding.specs.Answer.{unfold_at, unfolded_at};
 
+use drafts::Call;
 use packing::{pack_comparison, pack_counted, pack_fit, pack_reading};
 
 // Reads a description as input 1: its number of entries, or the refusal.
@@ -181,4 +187,78 @@ pub extern "C" fn gx_hierarchy(pairs: &[u8], list: &[u8], out: &mut [u8]) -> u64
     ensures means { (n : ℕ) → hierarchy_of pairs.now list.now out.old ≡ Ok n → Ranks pairs.now list.now out.old n }
 {
     pack_reading(hierarchy::hierarchy(pairs, list, out))
+}
+
+// ---- a drafting desk [O1] in one buffer; what is promised of it is proved in `drafts`
+
+// Adds an entry at the end, its 8 bytes as a number, low byte first: how many entries are left, or the refusal.
+#[unsafe(no_mangle)]
+pub extern "C" fn gx_desk_add(buffer: &mut [u8], entry: u64) -> u64
+    ensures answer { (result ≡ pack_reading (answer_at buffer.old (Call.Add (entry_numbered entry))))
+        × (buffer.new ≡ after_at buffer.old (Call.Add (entry_numbered entry))) }
+    ensures refuses { RefusedExactly (answer_at buffer.old (Call.Add (entry_numbered entry))) (DeskRefused buffer.old (Call.Add (entry_numbered entry))) }
+    ensures keeps { NothingWritten (answer_at buffer.old (Call.Add (entry_numbered entry))) (after_at buffer.old (Call.Add (entry_numbered entry))) buffer.old }
+    ensures means { (n : ℕ) → answer_at buffer.old (Call.Add (entry_numbered entry)) ≡ Ok n → Drafts buffer.old (Call.Add (entry_numbered entry)) n }
+{
+    pack_reading(desk::buffer::act(buffer, Call::Add(desk::buffer::entry_numbered(entry))))
+}
+
+// Takes off the last entry: how many entries are left, or the refusal.
+#[unsafe(no_mangle)]
+pub extern "C" fn gx_desk_take_off(buffer: &mut [u8]) -> u64
+    ensures answer { (result ≡ pack_reading (answer_at buffer.old Call.TakeOff)) × (buffer.new ≡ after_at buffer.old Call.TakeOff) }
+    ensures refuses { RefusedExactly (answer_at buffer.old Call.TakeOff) (DeskRefused buffer.old Call.TakeOff) }
+    ensures keeps { NothingWritten (answer_at buffer.old Call.TakeOff) (after_at buffer.old Call.TakeOff) buffer.old }
+    ensures means { (n : ℕ) → answer_at buffer.old Call.TakeOff ≡ Ok n → Drafts buffer.old Call.TakeOff n }
+{
+    pack_reading(desk::buffer::act(buffer, Call::TakeOff))
+}
+
+// Keeps the description under a number: how many entries it has, or the refusal.
+#[unsafe(no_mangle)]
+pub extern "C" fn gx_desk_name(buffer: &mut [u8], stand: u16) -> u64
+    ensures answer { (result ≡ pack_reading (answer_at buffer.old (Call.Name stand))) × (buffer.new ≡ after_at buffer.old (Call.Name stand)) }
+    ensures refuses { RefusedExactly (answer_at buffer.old (Call.Name stand)) (DeskRefused buffer.old (Call.Name stand)) }
+    ensures keeps { NothingWritten (answer_at buffer.old (Call.Name stand)) (after_at buffer.old (Call.Name stand)) buffer.old }
+    ensures means { (n : ℕ) → answer_at buffer.old (Call.Name stand) ≡ Ok n → Drafts buffer.old (Call.Name stand) n }
+{
+    pack_reading(desk::buffer::act(buffer, Call::Name(stand)))
+}
+
+// Goes back to the stand of a number: how many entries are left, or the refusal. `returns`: for every list of calls since the number was
+// last given, none of which drops it, what is then held is what was held when it was given.
+#[unsafe(no_mangle)]
+pub extern "C" fn gx_desk_go_back(buffer: &mut [u8], stand: u16) -> u64
+    ensures answer { (result ≡ pack_reading (answer_at buffer.old (Call.GoBack stand))) × (buffer.new ≡ after_at buffer.old (Call.GoBack stand)) }
+    ensures refuses { RefusedExactly (answer_at buffer.old (Call.GoBack stand)) (DeskRefused buffer.old (Call.GoBack stand)) }
+    ensures keeps { NothingWritten (answer_at buffer.old (Call.GoBack stand)) (after_at buffer.old (Call.GoBack stand)) buffer.old }
+    ensures means { (n : ℕ) → answer_at buffer.old (Call.GoBack stand) ≡ Ok n → Drafts buffer.old (Call.GoBack stand) n }
+    ensures returns { (b : List ℕ) (n : ℕ) (later : List Call) → answer_at b (Call.Name stand) ≡ Ok n → AllLeave stand later
+        → buffer.old ≡ run_at (after_at b (Call.Name stand)) later → (result ≡ pack_reading (Ok n)) × ((held_at buffer.new).draft ≡ (held_at b).draft) }
+{
+    pack_reading(desk::buffer::act(buffer, Call::GoBack(stand)))
+}
+
+// Drops the stand of a number: how many entries the description has, or the refusal.
+#[unsafe(no_mangle)]
+pub extern "C" fn gx_desk_drop(buffer: &mut [u8], stand: u16) -> u64
+    ensures answer { (result ≡ pack_reading (answer_at buffer.old (Call.Drop stand))) × (buffer.new ≡ after_at buffer.old (Call.Drop stand)) }
+    ensures refuses { RefusedExactly (answer_at buffer.old (Call.Drop stand)) (DeskRefused buffer.old (Call.Drop stand)) }
+    ensures keeps { NothingWritten (answer_at buffer.old (Call.Drop stand)) (after_at buffer.old (Call.Drop stand)) buffer.old }
+    ensures means { (n : ℕ) → answer_at buffer.old (Call.Drop stand) ≡ Ok n → Drafts buffer.old (Call.Drop stand) n }
+{
+    pack_reading(desk::buffer::act(buffer, Call::Drop(stand)))
+}
+
+// Writes the description out in blocks from the start of the output: how many entries are written, or the refusal. `begins`: after any list
+// of calls from a buffer of zeros, what is held is what these calls give from the empty desk.
+#[unsafe(no_mangle)]
+pub extern "C" fn gx_desk_write(buffer: &[u8], out: &mut [u8]) -> u64
+    ensures answer { (result ≡ pack_reading (write_at buffer.now out.old)) × (out.new ≡ output_at buffer.now out.old) }
+    ensures refuses { RefusedExactly (write_at buffer.now out.old) (WriteRefused buffer.now out.old) }
+    ensures keeps { NothingWritten (write_at buffer.now out.old) (output_at buffer.now out.old) out.old }
+    ensures means { (n : ℕ) → write_at buffer.now out.old ≡ Ok n → WritesOut buffer.now out.old n }
+    ensures begins { (b : List ℕ) (calls : List Call) → Zeros b → buffer.now ≡ run_at b calls → held_at buffer.now ≡ run empty calls }
+{
+    pack_reading(desk::buffer::write_out(buffer, out))
 }

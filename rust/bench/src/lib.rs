@@ -3,6 +3,7 @@
 #![forbid(unsafe_code)]
 
 pub mod catalogue;
+pub mod drafting;
 pub mod excluding;
 pub mod hierarchy;
 pub mod inputs;

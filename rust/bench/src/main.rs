@@ -2,6 +2,7 @@
 
 #![forbid(unsafe_code)]
 
+mod desks;
 mod listed;
 mod named;
 mod ranked;
@@ -58,11 +59,12 @@ type Pair<'a> = (&'a [u8], &'a [u8]);
 
 fn main() {
     print_heading();
-    // With a word, some rows alone.
+    // With a word, the rows of one call alone.
     match std::env::args().nth(1).as_deref() {
         Some("hierarchy") => return ranked::rows(),
         Some("names") => return named::rows(),
         Some("links") => return one_link_rows(),
+        Some("desk") => return desks::rows(),
         _ => {}
     }
     model_rows();
@@ -70,6 +72,7 @@ fn main() {
     named::rows();
     services::rows();
     ranked::rows();
+    desks::rows();
     turns::rows();
 }
 

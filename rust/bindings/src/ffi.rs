@@ -1,4 +1,4 @@
-//! The twelve functions of the library as C declares them, behind calls that take slices. All unsafe code is here.
+//! The functions of the library as C declares them, behind calls that take slices. All unsafe code is here.
 //!
 //! The library is proved to read and write nothing but the memory that its pointers and lengths name, whatever bytes stand
 //! there, and its own stack. Each call below lends it the memory of whole slices for the time of the call. The borrow
@@ -78,6 +78,12 @@ extern "C" {
         out: *mut u8,
         out_len: usize,
     ) -> u64;
+    fn gx_desk_add(desk: *mut u8, desk_len: usize, entry: u64) -> u64;
+    fn gx_desk_take_off(desk: *mut u8, desk_len: usize) -> u64;
+    fn gx_desk_name(desk: *mut u8, desk_len: usize, stand: u16) -> u64;
+    fn gx_desk_go_back(desk: *mut u8, desk_len: usize, stand: u16) -> u64;
+    fn gx_desk_drop(desk: *mut u8, desk_len: usize, stand: u16) -> u64;
+    fn gx_desk_write(desk: *const u8, desk_len: usize, out: *mut u8, out_len: usize) -> u64;
 }
 
 pub(crate) fn read_description(d: &[u8]) -> u64 {
@@ -215,6 +221,36 @@ pub(crate) fn hierarchy(pairs: &[u8], list: &[u8], out: &mut [u8]) -> u64 {
     }
 }
 
+pub(crate) fn desk_add(desk: &mut [u8], entry: u64) -> u64 {
+    // SAFETY: the pointer and the length are those of a slice that is ours alone.
+    unsafe { gx_desk_add(desk.as_mut_ptr(), desk.len(), entry) }
+}
+
+pub(crate) fn desk_take_off(desk: &mut [u8]) -> u64 {
+    // SAFETY: the pointer and the length are those of a slice that is ours alone.
+    unsafe { gx_desk_take_off(desk.as_mut_ptr(), desk.len()) }
+}
+
+pub(crate) fn desk_name(desk: &mut [u8], stand: u16) -> u64 {
+    // SAFETY: the pointer and the length are those of a slice that is ours alone.
+    unsafe { gx_desk_name(desk.as_mut_ptr(), desk.len(), stand) }
+}
+
+pub(crate) fn desk_go_back(desk: &mut [u8], stand: u16) -> u64 {
+    // SAFETY: the pointer and the length are those of a slice that is ours alone.
+    unsafe { gx_desk_go_back(desk.as_mut_ptr(), desk.len(), stand) }
+}
+
+pub(crate) fn desk_drop(desk: &mut [u8], stand: u16) -> u64 {
+    // SAFETY: the pointer and the length are those of a slice that is ours alone.
+    unsafe { gx_desk_drop(desk.as_mut_ptr(), desk.len(), stand) }
+}
+
+pub(crate) fn desk_write(desk: &[u8], out: &mut [u8]) -> u64 {
+    // SAFETY: the pointers and lengths are those of two slices, and the second is ours alone.
+    unsafe { gx_desk_write(desk.as_ptr(), desk.len(), out.as_mut_ptr(), out.len()) }
+}
+
 #[cfg(test)]
 mod tests {
     use super::*;
@@ -248,6 +284,22 @@ mod tests {
             assert_eq!(gx_catalogue(no, 0, no, 0, no, 0, no, 0, none, 0), EMPTY);
             // Refusal 1 of input 2.
             assert_eq!(gx_hierarchy(no, 0, no, 0, none, 0), 256 + 2 * 65_536);
+        }
+    }
+
+    #[test]
+    fn an_empty_desk_may_come_with_any_pointer() {
+        // Refusal 20 of input 1.
+        let due = 20 * 256 + 65_536;
+        let (no, none) = (null(), null_mut());
+        // SAFETY: no memory is lent.
+        unsafe {
+            assert_eq!(gx_desk_add(none, 0, 0), due);
+            assert_eq!(gx_desk_take_off(none, 0), due);
+            assert_eq!(gx_desk_name(none, 0, 1), due);
+            assert_eq!(gx_desk_go_back(none, 0, 1), due);
+            assert_eq!(gx_desk_drop(none, 0, 1), due);
+            assert_eq!(gx_desk_write(no, 0, none, 0), due);
         }
     }
 }

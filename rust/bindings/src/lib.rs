@@ -5,7 +5,7 @@
 //! A description and a specimen are bytes in blocks of 512: the block's number, how many of its 63 entries are used, the
 //! entries of 8 bytes, the second check, which is the sum of all words of two bytes before it, each times its number, and the
 //! first check, which is the sum of all words before it. Any bytes may be handed over; those that break a rule are refused. No
-//! call panics or keeps anything, and only [`Under::catalogue_of`] allocates. `docs/FORMAT.md` has each byte and each refusal.
+//! call panics or keeps anything, and only [`Under::catalogue_of`] and [`Desk`] allocate. `docs/FORMAT.md` has each byte and each refusal.
 //!
 //! Links from 32,768 up lead to one item only. Every promise here is about records that keep this rule: in them no item has two
 //! items by such a link.
@@ -14,6 +14,7 @@
 //! about records that keep the list as well. It also has the dictionary whose descriptions may be named by others, and [`unfold()`]
 //! puts them in where they are named. [`fit()`], [`normal_form`] and [`compare`] are the calls with no list and no dictionary.
 //! [`Under::catalogue`] compares one description with a list of up to 64, and [`hierarchy()`] ranks such a list from special to general.
+//! [`Desk`] is a description that is drafted entry by entry, with stands to return to.
 //!
 //! `k` entries take `512 * k.div_ceil(63).max(1)` bytes, `GX_BYTES(k)` of the C header: a call that writes `k` entries writes
 //! just those bytes, from the start of the output.
@@ -42,6 +43,7 @@
 #![deny(unsafe_code)]
 
 mod catalogue;
+mod desk;
 #[allow(unsafe_code)]
 mod ffi;
 mod hierarchy;
@@ -53,6 +55,7 @@ mod unfold;
 /// The version of the library.
 pub const VERSION: &str = env!("CARGO_PKG_VERSION");
 
+pub use desk::{Desk, DESK_BYTES};
 pub use hierarchy::{hierarchy, hierarchy_bytes, Hierarchy};
 pub use refusal::{Reason, Refusal};
 pub use under::Under;

@@ -7,6 +7,7 @@
 //! unfolded descriptions, and have to give the same.
 
 mod catalogue;
+mod desk;
 mod hierarchy;
 
 use std::fmt;
@@ -20,6 +21,7 @@ use crate::excluding::Given;
 use crate::{length_of, MOST_DESCRIPTION};
 
 pub use catalogue::catalogue;
+pub use desk::{bytes_of, desk_bytes, is_given, Drafting};
 pub use hierarchy::hierarchy;
 
 /// What both answered.

@@ -1,6 +1,7 @@
 //! Rounds of cases, and how often each answer came.
 
 mod catalogue;
+mod desk;
 mod hierarchy;
 
 use std::collections::BTreeMap;
@@ -157,7 +158,7 @@ impl Rounds {
     ///
     /// The difference.
     pub fn any(&mut self) -> Found {
-        match self.chance.below(70) {
+        match self.chance.below(74) {
             0..=13 => self.pair(),
             14..=17 => self.doubles(),
             18..=24 => self.normal(),
@@ -175,7 +176,9 @@ impl Rounds {
             64..=65 => self.catalogues(),
             66..=67 => self.wrong_lists_of_services(),
             68 => self.hierarchies(),
-            _ => self.wrong_hierarchies(),
+            69 => self.wrong_hierarchies(),
+            70..=71 => self.desks(),
+            _ => self.damaged_desks(),
         }
     }
 

@@ -5,6 +5,7 @@
 
 mod catalogue;
 mod compare;
+pub mod desk;
 mod entry;
 mod fit;
 mod hierarchy;
@@ -36,12 +37,12 @@ const BLOCK: usize = 512;
 /// What a refused call answers.
 #[derive(Clone, Copy, Debug, PartialEq, Eq)]
 pub struct Refusal {
-    /// The number in the table of refusals, 1 to 9 or 11 to 14.
+    /// The number in the table of refusals, 1 to 9, 11 to 14, 16 to 18 or 20.
     pub number: u8,
     /// The input, 1 or 2; 0 for numbers 7 and 11, 1 + n for the n-th service of a list, 100 for the dictionary and 100 + n for its
     /// n-th description.
     pub input: u16,
-    /// The block, entry or pair; 0 for numbers 1, 7, 8 and 14 and for a list of a wrong length.
+    /// The block, entry or pair; 0 for numbers 1, 7, 8, 14, 16 to 18 and 20 and for a list of a wrong length.
     pub place: u16,
 }
 

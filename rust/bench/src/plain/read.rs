@@ -253,6 +253,25 @@ fn check_entries<const N: usize>(
     Ok(number)
 }
 
+/// The refusal's number of an entry of a description, if it has one, by the levels of those before it. Else its level is taken down.
+#[inline(always)]
+pub fn judge_next<const N: usize>(
+    entry: Entry,
+    number: usize,
+    levels: &mut [u8; N],
+) -> Result<(), u8> {
+    let level = levels[..number].get(entry.owner()).copied();
+    let level = level.unwrap_or(NEVER);
+    if !is_right(entry, &DESCRIPTION, level) {
+        return Err(fault(entry, &DESCRIPTION, level));
+    }
+    levels[number] = match DESCRIPTION.owns(entry) {
+        true => level + 1,
+        false => NEVER,
+    };
+    Ok(())
+}
+
 /// Whether an entry that is not named breaks no rule at this level.
 #[inline]
 pub fn is_right(entry: Entry, rules: &Rules, level: u8) -> bool {

@@ -64,18 +64,37 @@ impl<const N: usize> Rows<N> {
         let count = self.used.div_ceil(PER_BLOCK).max(1);
         for (index, block) in blocks[..count].iter_mut().enumerate() {
             let rest = &rows[index * PER_BLOCK..];
-            write_block(block, index + 1, &rest[..rest.len().min(PER_BLOCK)]);
+            let rows = &rest[..rest.len().min(PER_BLOCK)];
+            write_block(block, index + 1, rows, |row| row.to_le_bytes());
         }
         self.used
     }
 }
 
-fn write_block(block: &mut [u8; BLOCK], number: usize, rows: &[u64]) {
+/// Writes entries that are stored in blocks from the start of an output, if it is long enough.
+pub fn write_stored(entries: &[[u8; 8]], out: &mut [u8]) -> Option<()> {
+    let count = entries.len().div_ceil(PER_BLOCK).max(1);
+    let blocks = out.as_chunks_mut::<BLOCK>().0.get_mut(..count)?;
+    for (index, block) in blocks.iter_mut().enumerate() {
+        let rest = &entries[index * PER_BLOCK..];
+        let rows = &rest[..rest.len().min(PER_BLOCK)];
+        write_block(block, index + 1, rows, |&row| row);
+    }
+    Some(())
+}
+
+#[inline(always)]
+fn write_block<R>(
+    block: &mut [u8; BLOCK],
+    number: usize,
+    rows: &[R],
+    bytes: impl Fn(&R) -> [u8; 8],
+) {
     block[..2].copy_from_slice(&(number as u16).to_le_bytes());
     block[2..4].copy_from_slice(&(rows.len() as u16).to_le_bytes());
     let cells = block[4..508].as_chunks_mut::<8>().0;
     for (cell, row) in cells.iter_mut().zip(rows) {
-        *cell = row.to_le_bytes();
+        *cell = bytes(row);
     }
     block[4 + 8 * rows.len()..].fill(0);
     // The checks are still zero, so they add nothing to the sums.

@@ -1,6 +1,7 @@
 //! The plain Rust gives the same answers and output bytes as the reference, and so does the proved library.
 
 mod catalogue;
+mod desk;
 mod excluding;
 mod hierarchy;
 mod naming;

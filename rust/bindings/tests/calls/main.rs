@@ -3,6 +3,7 @@
 //! An entry is written as its kind, owner, name and number.
 
 mod catalogue;
+mod desk;
 mod hierarchy;
 mod named;
 mod under;

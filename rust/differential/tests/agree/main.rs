@@ -1,6 +1,7 @@
 //! A fixed number of drawn cases, and sweeps over every byte, place and length that decides.
 
 mod catalogue;
+mod desk;
 mod doubles;
 mod excluding;
 mod hierarchy;
