@@ -246,6 +246,21 @@ uint64_t gx_catalogue(const uint8_t *pairs, size_t pairs_len, const uint8_t *dic
  */
 uint64_t gx_hierarchy(const uint8_t *pairs, size_t pairs_len, const uint8_t *list, size_t list_len, uint8_t *out, size_t out_len);
 
+/* The bytes that gx_earning writes at most: one for each entry of a description. */
+#define GX_EARNING_BYTES 1008
+
+/*
+ * Which entries of the description c, input 1, earn the yes of gx_compare_with for c and d, input 2, under a list of pairs. It writes
+ * a byte of out for each entry of c, from the start: 1 for each entry of a kind other than 5 that is left when leaving out is tried
+ * from the last entry to the first, each time it is c without the entry that is still contained, and for its owners at any depth;
+ * else 0. c cut down to the marked entries, numbered anew, is contained in d; without any one of them that is no 'every' it is not.
+ * Contained, or not contained, and then all bytes are 0; first and second are 0. Or refused, by the first that applies: 11 for the
+ * pairs; input 1; input 2; 7 where out has fewer bytes than c has entries, contained or not. It takes no dictionary, so kind 9 is 4.
+ * Later bytes of out stay. Where refused, out is unchanged.
+ */
+uint64_t gx_earning(const uint8_t *pairs, size_t pairs_len, const uint8_t *c, size_t c_len, const uint8_t *d, size_t d_len, uint8_t *out,
+                    size_t out_len);
+
 /* The bytes of a desk: ten words of two bytes, and five areas of 1,008 entries of 8 bytes; docs/FORMAT.md says what stands where. */
 #define GX_DESK_BYTES ((size_t)40340)
 

@@ -36,3 +36,5 @@ pub mod CatalogueFilled
 pub mod CatalogueUnfolded
 -- Ranking a list of services refuses exactly by the first row that applies, and each byte of its table is the single comparison's.
 pub mod RankingKept
+-- Asking which entries earn a yes refuses exactly by the first row that applies, and what is left is contained by the single comparison.
+pub mod EarningAnswered

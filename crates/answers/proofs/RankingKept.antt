@@ -166,7 +166,7 @@ module _ (P list out : List ℕ) where
 
 -- ---- the single comparison
 
-none-named : dictionary_reading [] ≡ Ok 0
+pub none-named : dictionary_reading [] ≡ Ok 0
 unfolding dictionary_reading parts_reading
 none-named = rw parts-of-nil
 

@@ -6,3 +6,5 @@ pub mod Refusals
 pub mod Calls
 -- Ranking a list of services: by which row it is refused, and what its bytes say.
 pub mod Ranking
+-- Asking which entries earn a yes: by which row it is refused, and what its bytes say.
+pub mod Earning

@@ -1,4 +1,4 @@
-// The library's calls for C and Rust [K4]: eighteen functions under their plain names, each slice a pointer and a
+// The library's calls for C and Rust [K4]: nineteen functions under their plain names, each slice a pointer and a
 // length. Each is total [K1] and has, for its result and each byte that it may write, the equation of the call that
 // it wraps [K2], with the answer as one number of 64 bits [K5]; include/goltximen.h states the terms for a C program.
 //
@@ -10,8 +10,9 @@
 // They are theorems of `answers` about the same definitions; each record that they name is in its specs/.
 #![tactic(auto)]
 
-ghost use Rattle.std.specs.Prelude.{◌≡◌, ℕ, List, [], Ok};
+ghost use Rattle.std.specs.Prelude.{◌≡◌, ℕ, Bool, List, [], Ok};
 ghost use Rattle.answers.specs.Calls.{CountsPlainly, DecidedPlainly, FitsPlainly, NormalisesPlainly, NothingWritten, ReadExactly, RefusedExactly, Unfolds};
+ghost use Rattle.answers.specs.Earning.{AskedRefused, Earns};
 ghost use Rattle.answers.specs.Promise.{ComparableNamed, DecidedNamed, Fills, FitsNamedExactly, JudgeableNamed, NormalisesNamed};
 ghost use Rattle.answers.specs.Ranking.{HierarchyRefused, Ranks};
 ghost use Rattle.answers.specs.Refusals.{CatalogueRefused, ComparisonRefused, FitRefused, NormalRefused, UnfoldRefused};
@@ -24,6 +25,7 @@ ghost use Rattle.drafts.specs.Draft.{empty, run};
 ghost use Rattle.drafts.specs.Listed.{AllLeave};
 ghost use Rattle.drafts.specs.Promise.{DeskRefused, Drafts, WriteRefused, WritesOut, Zeros};
 ghost use Rattle.drafts.specs.declared.Call.{Call};
+ghost use Rattle.earning.specs.Answer.{earned_of, earning_of};
 ghost use Rattle.fit.specs.Promise.{Judgeable};
 ghost use Rattle.hierarchy.specs.Answer.{hierarchy_of, ranked_of};
 ghost use Rattle.named.specs.Answer.{compare_named, counted_named, fit_named, normalise_named, normalised_named, output_named};
@@ -187,6 +189,19 @@ pub extern "C" fn gx_hierarchy(pairs: &[u8], list: &[u8], out: &mut [u8]) -> u64
     ensures means { (n : ℕ) → hierarchy_of pairs.now list.now out.old ≡ Ok n → Ranks pairs.now list.now out.old n }
 {
     pack_reading(hierarchy::hierarchy(pairs, list, out))
+}
+
+// Marks the entries of the description c, input 1, that earn the yes for c and d, input 2: writes a byte for each entry of c, 1 for those that are
+// left when leaving out is tried from the last to the first, and for their owners, else 0. Contained; not contained, with all bytes 0; or the
+// refusal.
+#[unsafe(no_mangle)]
+pub extern "C" fn gx_earning(pairs: &[u8], c: &[u8], d: &[u8], out: &mut [u8]) -> u64
+    ensures answer { (result ≡ pack_fit (earning_of pairs.now c.now d.now out.old)) × (out.new ≡ earned_of pairs.now c.now d.now out.old) }
+    ensures refuses { RefusedExactly (earning_of pairs.now c.now d.now out.old) (AskedRefused pairs.now c.now d.now c.now out.old) }
+    ensures keeps { NothingWritten (earning_of pairs.now c.now d.now out.old) (earned_of pairs.now c.now d.now out.old) out.old }
+    ensures means { (yes : Bool) → earning_of pairs.now c.now d.now out.old ≡ Ok yes → Earns pairs.now c.now d.now out.old yes }
+{
+    pack_fit(earning::earning(pairs, c, d, out))
 }
 
 // ---- a drafting desk [O1] in one buffer; what is promised of it is proved in `drafts`

@@ -110,11 +110,11 @@ module _ {b : Background} (law : LawfulBackground b) (c d : List Entry) (C : Leg
   abbrev P : (ℕ → Bool) → Bool
   P = suffices b c d
 
-  suffices-subsumed : (K : ℕ → Bool) → (P K ≡ true) ↔ Subsumed b (place_of (thinned K 1 c) 0) (place_of d 0)
+  pub suffices-subsumed : (K : ℕ → Bool) → (P K ≡ true) ↔ Subsumed b (place_of (thinned K 1 c) 0) (place_of d 0)
   suffices-subsumed K =
       let x = contained-all law (thinned K 1 c) d D in (λ e. x.0 (eqb-eq e), λ f. eq-eqb (x.1 f))
 
-  more : (K M : ℕ → Bool) → Part K M → P K ≡ true → P M ≡ true
+  pub more : (K M : ℕ → Bool) → Part K M → P K ≡ true → P M ≡ true
   more K M h e =
       (suffices-subsumed M).1 (λ r kept x i g. (suffices-subsumed K).0 e r kept x i (thinner-subsumed {b = b} K M c C h r kept x i g))
 

@@ -1,0 +1,6 @@
+-- The answer, and the output.
+pub mod Answer
+-- What an answer means.
+pub mod Promise
+-- Mirrors of the code: the contracts of its functions cite these, and no promise does.
+pub mod code
