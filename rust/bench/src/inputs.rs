@@ -221,6 +221,30 @@ pub fn one_bucket() -> (Vec<u8>, Vec<u8>) {
     (encode(&given), encode(&[entry(2, 0, named(15), 0); 1008]))
 }
 
+/// 1,008 groups of one link, each of which owns a property of its own.
+fn owning_groups() -> Vec<u8> {
+    let groups = (0..1008).map(|_| entry(7, 0, 1, 0));
+    let owned = (1..=1008).map(|owner| entry(1, owner, owner as u16, 0));
+    encode(&groups.chain(owned).collect::<Vec<Entry>>())
+}
+
+/// These, and one 'every' of the link, which owns the lacks of 1,007 other properties.
+pub fn one_every_of_owning() -> (Vec<u8>, Vec<u8>) {
+    let lacks = (0..1007).map(|i| entry(2, 1, 2000 + i, 0));
+    let description: Vec<Entry> = [entry(5, 0, 1, 0)].into_iter().chain(lacks).collect();
+    (owning_groups(), encode(&description))
+}
+
+/// And 504 'every' of the link, each with one such lack.
+pub fn every_of_owning() -> (Vec<u8>, Vec<u8>) {
+    let every = (0..504).map(|_| entry(5, 0, 1, 0));
+    let lacks = (1..=504).map(|owner| entry(2, owner, 2000 + owner as u16, 0));
+    (
+        owning_groups(),
+        encode(&every.chain(lacks).collect::<Vec<Entry>>()),
+    )
+}
+
 /// 2,016 groups of one link, and 1,008 at least of it.
 pub fn one_link_at_least() -> (Vec<u8>, Vec<u8>) {
     let groups = vec![entry(7, 0, 1, 0); 2016];

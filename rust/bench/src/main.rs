@@ -14,8 +14,9 @@ use std::hint::black_box;
 use std::time::Instant;
 
 use bench::inputs::{
-    entry, one_bucket, one_cell, one_link_at_least, one_link_every, one_link_place, single_links, with_first,
-    with_last, worst_fit, Chance, Model, Shape,
+    entry, every_of_owning, one_bucket, one_cell, one_every_of_owning, one_link_at_least,
+    one_link_every, one_link_place, single_links, with_first, with_last, worst_fit, Chance, Model,
+    Shape,
 };
 use bench::plain;
 use reference::{encode, Entry};
@@ -380,9 +381,14 @@ fn one_link_rows() {
         let times = fit_times(&[(&specimen, &description)], true);
         print_row("fit", sizes, "one link", situation, times);
     }
-    let (specimen, description) = one_bucket();
-    let times = fit_times(&[(&specimen, &description)], true);
-    print_row("fit", "2,016 and 1,008", "one bucket", "chosen", times);
+    for (input, (specimen, description)) in [
+        ("one bucket", one_bucket()),
+        ("one every of owning", one_every_of_owning()),
+        ("every of owning", every_of_owning()),
+    ] {
+        let times = fit_times(&[(&specimen, &description)], true);
+        print_row("fit", "2,016 and 1,008", input, "chosen", times);
+    }
 }
 
 fn read_rows(timed: &Timed) {

@@ -3,9 +3,7 @@
 use std::hint::black_box;
 
 use bench::inputs::Chance;
-use bench::naming::{
-    deep_chain, empty_chain, flat, nested_among_properties, staircase, Case,
-};
+use bench::naming::{deep_chain, empty_chain, flat, nested_among_properties, staircase, Case};
 use bench::plain;
 use goltximen::{unfold, Under};
 use reference::{encode, Entry};
