@@ -2,3 +2,5 @@
 
 -- Numbers that are noted, some done and the rest to do.
 pub mod NoteLaws
+-- Which properties are noted.
+pub mod MemberLaws
