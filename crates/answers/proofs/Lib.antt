@@ -38,3 +38,5 @@ pub mod CatalogueUnfolded
 pub mod RankingKept
 -- Asking which entries earn a yes refuses exactly by the first row that applies, and what is left is contained by the single comparison.
 pub mod EarningAnswered
+-- Fitting all items of a delivered record refuses exactly by the first row that applies, and each byte says whether its item fits.
+pub mod ItemsKept

@@ -170,7 +170,7 @@ pub none-named : dictionary_reading [] ≡ Ok 0
 unfolding dictionary_reading parts_reading
 none-named = rw parts-of-nil
 
-bit-one : (b : Bool) → bit b ≡ 1 → b ≡ true
+pub bit-one : (b : Bool) → bit b ≡ 1 → b ≡ true
 bit-one true e = refl
 bit-one false e = absurd (omega arith)
 

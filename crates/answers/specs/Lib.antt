@@ -8,3 +8,5 @@ pub mod Calls
 pub mod Ranking
 -- Asking which entries earn a yes: by which row it is refused, and what its bytes say.
 pub mod Earning
+-- Fitting all items of a delivered record: by which row it is refused, and what its bytes say.
+pub mod Items
