@@ -3,7 +3,8 @@
  * halves to the end, and chains of owners of the greatest depth, as many as a specimen holds, by a link that leads to one item
  * only. Each place of the description that these are fitted to has an entry before the 'every', so that each level takes a call.
  * The list has the most pairs, all with the property that is asked for last. The services are a deep one and a wide
- * one. The dictionary has these descriptions, and those that are unfolded name them. */
+ * one. The dictionary has these descriptions, and those that are unfolded name them. In another dictionary each description
+ * names the one before, so that all 64 are open at once. */
 #define _GNU_SOURCE
 #include <stdio.h>
 #include <string.h>
@@ -11,12 +12,13 @@
 
 #include "goltximen.h"
 
-enum { STACK = 1 << 18, PATTERN = 0xa5, BLOCKS = 16, ENTRIES = 63 * BLOCKS, CHAIN = 33, SINGLE = 32768, PAIRS = 64 };
+enum { STACK = 1 << 18, PATTERN = 0xa5, BLOCKS = 16, ENTRIES = 63 * BLOCKS, CHAIN = 33, SINGLE = 32768, PAIRS = 64, NAMES = 64 };
 
 static uint8_t stack[STACK], wide[512 * BLOCKS], chain[512], places[1024], groups[1024 * BLOCKS], out[1024 * BLOCKS];
 static uint8_t desk[GX_DESK_BYTES];
 static uint8_t pairs[4 * PAIRS], list[sizeof chain + sizeof wide];
 static uint8_t dictionary[sizeof wide + sizeof chain + sizeof places], named[3][512];
+static uint8_t nested[512 * NAMES], last[512];
 static ucontext_t here, there;
 static uint64_t answer;
 
@@ -93,6 +95,15 @@ static void make_inputs(void) {
         put_entry(named[n], 1, 9, 0, n + 1, 0);
         close_blocks(named[n], 1);
     }
+    for (unsigned n = 1; n <= NAMES; n++) {
+        uint8_t *one = nested + 512 * (n - 1);
+        put_entry(one, 1, 1, 0, n, 0);
+        if (n > 1)
+            put_entry(one, 2, 9, 0, n - 1, 0);
+        close_blocks(one, n > 1 ? 2 : 1);
+    }
+    put_entry(last, 1, 9, 0, NAMES, 0);
+    close_blocks(last, 1);
 }
 
 static void read_description(void) { answer = gx_read_description(wide, sizeof wide); }
@@ -129,6 +140,19 @@ static void desk_name(void) { answer = gx_desk_name(desk, sizeof desk, 4); }
 static void desk_go_back(void) { answer = gx_desk_go_back(desk, sizeof desk, 3); }
 static void desk_drop(void) { answer = gx_desk_drop(desk, sizeof desk, 1); }
 static void desk_write(void) { answer = gx_desk_write(desk, sizeof desk, out, sizeof out); }
+static void unfold_nested(void) { answer = gx_unfold(nested, sizeof nested, last, 512, out, sizeof out); }
+static void fit_nested(void) {
+    answer = gx_fit_with(pairs, sizeof pairs, nested, sizeof nested, groups, sizeof groups, last, 512);
+}
+static void normal_nested(void) {
+    answer = gx_normal_with(pairs, sizeof pairs, nested, sizeof nested, last, 512, out, sizeof out);
+}
+static void compare_nested(void) {
+    answer = gx_compare_with(pairs, sizeof pairs, nested, sizeof nested, last, 512, last, 512, out, sizeof out);
+}
+static void catalogue_nested(void) {
+    answer = gx_catalogue(pairs, sizeof pairs, nested, sizeof nested, last, 512, last, 512, out, sizeof out);
+}
 static void nothing(void) {}
 
 /* The bytes from the lowest that changed to the top. */
@@ -177,5 +201,10 @@ int main(void) {
     show("gx_normal_with, named", normal_named);
     show("gx_compare_with, named", compare_named);
     show("gx_catalogue, named", catalogue_named);
+    show("gx_unfold, nested", unfold_nested);
+    show("gx_fit_with, nested", fit_nested);
+    show("gx_normal_with, nested", normal_nested);
+    show("gx_compare_with, nested", compare_nested);
+    show("gx_catalogue, nested", catalogue_nested);
     return 0;
 }

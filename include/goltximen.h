@@ -106,11 +106,11 @@
  *     gx_fit_counted        50,200 bytes
  *     gx_normal             56,760 bytes
  *     gx_compare            53,992 bytes
- *     gx_unfold             22,008 bytes
+ *     gx_unfold             33,360 bytes
  *     gx_fit_with           59,608 bytes
  *     gx_normal_with        66,088 bytes
  *     gx_compare_with       71,576 bytes
- *     gx_catalogue          65,400 bytes
+ *     gx_catalogue          76,752 bytes
  *     gx_hierarchy          32,632 bytes
  *
  * The library calls memset and memcpy; a program that binds them at their first call took up to 1,072 bytes more there. A
