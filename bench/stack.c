@@ -120,6 +120,9 @@ static void compare_with(void) {
 static void catalogue(void) {
     answer = gx_catalogue(pairs, sizeof pairs, NULL, 0, wide, sizeof wide, list, sizeof list, out, sizeof out);
 }
+static void earning(void) {
+    answer = gx_earning(pairs, sizeof pairs, wide, sizeof wide, wide, sizeof wide, out, sizeof out);
+}
 static void hierarchy(void) { answer = gx_hierarchy(pairs, sizeof pairs, list, sizeof list, out, sizeof out); }
 static void unfold(void) { answer = gx_unfold(dictionary, sizeof dictionary, named[0], 512, out, sizeof out); }
 static void fit_named(void) {
@@ -190,6 +193,7 @@ int main(void) {
     show("gx_compare_with", compare_with);
     show("gx_catalogue", catalogue);
     show("gx_hierarchy", hierarchy);
+    show("gx_earning", earning);
     show("gx_desk_add", desk_add);
     show("gx_desk_take_off", desk_take_off);
     show("gx_desk_name", desk_name);
