@@ -9,8 +9,9 @@ mod naming;
 use std::fmt::Debug;
 
 use bench::inputs::{
-    entry, first_cell, one_cell, one_link_at_least, one_link_every, one_link_place, single_links,
-    worst_fit, Chance, Model, Shape,
+    entry, every_of_owning, first_cell, one_bucket, one_cell, one_every_of_owning,
+    one_link_at_least, one_link_every, one_link_place, single_links, worst_fit, Chance, Model,
+    Shape,
 };
 use bench::plain;
 use reference::{encode, Entry};
@@ -511,7 +512,14 @@ fn inputs_of_the_benchmark() {
     let (groups, every) = one_link_place();
     let shipped = include_bytes!("../../../../crates/fits/stdin");
     assert!([&groups[..], &every[..]].concat() == shipped);
-    let cases = [one_link_at_least(), one_link_every(), worst_fit()];
+    let cases = [
+        one_link_at_least(),
+        one_link_every(),
+        worst_fit(),
+        one_bucket(),
+        one_every_of_owning(),
+        every_of_owning(),
+    ];
     for (groups, description) in cases.iter().chain([&(groups, every)]) {
         assert_eq!(same_fit(groups, description), Some(true));
     }

@@ -2,7 +2,9 @@
 
 use super::excluding::{same_comparison_under, same_fit_under, same_normal_under};
 use super::*;
-use bench::naming::{deep_chain, empty_chain, flat, named, Case, MOST_NAMES};
+use bench::naming::{
+    deep_chain, empty_chain, flat, named, nested_among_properties, staircase, Case, MOST_NAMES,
+};
 use goltximen::Under;
 
 /// The longest description.
@@ -223,4 +225,7 @@ fn inputs_of_the_rows_with_dictionaries() {
         (empty.description.len(), deep.description.len()),
         (1008, 1008)
     );
+    let chosen = [staircase(1), staircase(16), nested_among_properties()];
+    let counts: Vec<_> = chosen.iter().map(unfolded).collect();
+    assert_eq!(counts, [Ok(63), Ok(1008), Ok(1007)]);
 }
