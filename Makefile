@@ -92,7 +92,6 @@ outside: lib gx $(PROGRAM)
 	test "$$(target/c/desk target/c/draft | paste -s -d,)" = "add: 1 entries,add: 2 entries,name: 2 entries"
 	test "$$(target/c/desk target/c/draft | paste -s -d,)" = \
 		"take off: 1 entries,add: 2 entries,add: refused 5 place 3,go back: 2 entries,write: 2 entries,read: 2 entries"
-	test "$$(bash examples/doubles.sh | paste -s -d ';')" = "clay-and-sand.txt no-samples.txt;clay-without-sand.txt clay.txt;cores-again.txt cores-named.txt cores.txt;three-cores.txt"
 	cargo test --quiet --manifest-path rust/bindings/Cargo.toml
 	cargo test --release --quiet --manifest-path rust/differential/Cargo.toml
 	cargo test --release --quiet --manifest-path rust/bench/Cargo.toml

@@ -30,6 +30,8 @@ pub enum Command {
     Catalogue,
     /// Many services from general to special.
     Hierarchy,
+    /// Descriptions that mean the same.
+    Doubles,
     /// A description without named entries.
     Unfold,
     /// The question in OWL.
@@ -40,7 +42,7 @@ pub enum Command {
 
 impl Command {
     /// All commands, in the order of the help.
-    pub const ALL: [Command; 11] = [
+    pub const ALL: [Command; 12] = [
         Command::Show,
         Command::Write,
         Command::Check,
@@ -49,6 +51,7 @@ impl Command {
         Command::Compare,
         Command::Catalogue,
         Command::Hierarchy,
+        Command::Doubles,
         Command::Unfold,
         Command::Owl,
         Command::FromOwl,
@@ -65,6 +68,7 @@ impl Command {
             Command::Compare => "compare",
             Command::Catalogue => "catalogue",
             Command::Hierarchy => "hierarchy",
+            Command::Doubles => "doubles",
             Command::Unfold => "unfold",
             Command::Owl => "owl",
             Command::FromOwl => "from-owl",
@@ -99,6 +103,7 @@ impl Command {
                 | Command::Compare
                 | Command::Catalogue
                 | Command::Hierarchy
+                | Command::Doubles
         )
     }
 }
@@ -178,6 +183,8 @@ pub struct Options {
     pub csv: bool,
     /// A hierarchy is written as a graph for Graphviz.
     pub dot: bool,
+    /// A hierarchy is written as an ontology.
+    pub owl: bool,
 }
 
 /// A shell that completes command lines.

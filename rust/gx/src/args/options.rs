@@ -2,7 +2,8 @@
 //! this table.
 
 use super::Command::{
-    self, Catalogue, Check, Compare, Fit, FromOwl, Hierarchy, Normal, Owl, Show, Unfold, Write,
+    self, Catalogue, Check, Compare, Doubles, Fit, FromOwl, Hierarchy, Normal, Owl, Show, Unfold,
+    Write,
 };
 
 /// An option.
@@ -35,12 +36,14 @@ impl Opt {
 }
 
 const ALL: &[Command] = &Command::ALL;
-const UNDER: &[Command] = &[Check, Normal, Fit, Compare, Catalogue, Hierarchy, Owl];
+const UNDER: &[Command] = &[
+    Check, Normal, Fit, Compare, Catalogue, Hierarchy, Doubles, Owl,
+];
 const NAMING: &[Command] = &[
-    Show, Write, Check, Normal, Fit, Compare, Catalogue, Hierarchy, Unfold, Owl,
+    Show, Write, Check, Normal, Fit, Compare, Catalogue, Hierarchy, Doubles, Unfold, Owl,
 ];
 const READING: &[Command] = &[
-    Show, Write, Check, Normal, Fit, Compare, Catalogue, Hierarchy, Unfold, Owl,
+    Show, Write, Check, Normal, Fit, Compare, Catalogue, Hierarchy, Doubles, Unfold, Owl,
 ];
 const TEXTS: &[Command] = &[Show, Normal, Unfold, FromOwl];
 
@@ -107,7 +110,7 @@ pub const OPTIONS: &[Opt] = &[
         ..file(
             "--out",
             "write into this file; for folders, into this folder",
-            &[Show, Write, Normal, Hierarchy, Unfold, Owl, FromOwl],
+            &[Show, Write, Normal, Hierarchy, Doubles, Unfold, Owl, FromOwl],
         )
     },
     file(
@@ -118,7 +121,7 @@ pub const OPTIONS: &[Opt] = &[
     file(
         "--html",
         "write a page with the answer; for folders, and of a catalogue, into this folder, with an index",
-        &[Fit, Compare, Catalogue, Hierarchy],
+        &[Fit, Compare, Catalogue, Hierarchy, Doubles],
     ),
     file(
         "--specimen",
@@ -131,6 +134,7 @@ pub const OPTIONS: &[Opt] = &[
     word("--only", &["contained"], "tell only the services that contain the description", &[Catalogue]),
     flag("--csv", "write the whole table, a row for each service", &[Hierarchy]),
     flag("--dot", "write a graph for Graphviz", &[Hierarchy]),
+    flag("--owl", "write an ontology with what was found, for a reasoner to agree with", &[Hierarchy]),
     flag("--any", "one service that contains the description is enough for a yes", &[Catalogue]),
     flag("--fact", "write the question in the notation of FaCT++", &[Owl]),
     Opt {

@@ -93,25 +93,10 @@ impl<'a> Line<'a> {
         self.counted()
     }
 
-    /// Whether there are as many files as the command takes.
+    /// Whether there are as many files as the command takes, and whether the options go together.
     fn counted(self) -> Result<Args, String> {
-        let (word, count) = (self.command.word(), self.files.len());
-        let given = match count {
-            1 => "1 is given".into(),
-            _ => format!("{count} are given"),
-        };
-        let catalogue = self.command == Command::Owl && count > 2;
-        if self.command.takes_pair() && count != 2 && !catalogue {
-            return Err(format!("{word} takes two inputs, and {given}"));
-        }
-        if self.command == Command::Catalogue && count < 2 {
-            return Err(format!("{word} takes two inputs or more, and {given}"));
-        }
-        if self.options.csv && self.options.dot {
-            return Err(
-                "--csv and --dot are two forms of one answer; one of them can be written".into(),
-            );
-        }
+        self.enough()?;
+        self.together()?;
         let mut files = self.files;
         if files.is_empty() {
             files.push("-".into());
@@ -128,6 +113,39 @@ impl<'a> Line<'a> {
             return Err("standard input can be read once only".into());
         }
         Ok(Args::Do(self.command, files, Box::new(self.options)))
+    }
+
+    fn enough(&self) -> Result<(), String> {
+        let (word, count) = (self.command.word(), self.files.len());
+        let given = match count {
+            1 => "1 is given".into(),
+            _ => format!("{count} are given"),
+        };
+        let catalogue = self.command == Command::Owl && count > 2;
+        if self.command.takes_pair() && count != 2 && !catalogue {
+            return Err(format!("{word} takes two inputs, and {given}"));
+        }
+        if self.command == Command::Catalogue && count < 2 {
+            return Err(format!("{word} takes two inputs or more, and {given}"));
+        }
+        Ok(())
+    }
+
+    fn together(&self) -> Result<(), String> {
+        let options = &self.options;
+        let forms = [
+            ("--csv", options.csv),
+            ("--dot", options.dot),
+            ("--owl", options.owl),
+        ];
+        let forms = forms.iter().filter(|form| form.1).map(|form| form.0);
+        let forms: Vec<&str> = forms.collect();
+        match forms.as_slice() {
+            [one, other, ..] => Err(format!(
+                "{one} and {other} are two forms of one answer; one of them can be written"
+            )),
+            _ => Ok(()),
+        }
     }
 
     /// `-q`, or `-o FILE` and `-oFILE`.
@@ -205,6 +223,7 @@ impl<'a> Line<'a> {
             "--fact" => &mut options.fact,
             "--csv" => &mut options.csv,
             "--dot" => &mut options.dot,
+            "--owl" => &mut options.owl,
             _ => &mut options.any,
         };
         *flag = true;

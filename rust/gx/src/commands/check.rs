@@ -6,7 +6,7 @@ use super::{dictionary, list, services, Alone, Answer, Context, Status};
 use crate::blocks::BLOCK;
 use crate::dictionary::Naming;
 use crate::entry::Sort;
-use crate::input::{keeping, not_refused};
+use crate::input::{keeping, not_refused, Input};
 use crate::json::Json;
 use crate::trouble::Trouble;
 use crate::words;
@@ -25,27 +25,30 @@ pub(super) fn check(context: &Context, file: &Path) -> Result<Answer, Trouble> {
             unfolded.map_err(|refusal| not_refused(file, refusal))?
         }
     };
+    Ok(accepted(&input))
+}
+
+/// What is told of an accepted input.
+fn accepted(input: &Input) -> Answer {
+    let sort = input.sort.word();
     let (entries, blocks) = (input.sent, input.bytes.len() / BLOCK);
     let unfolded = input.entries.len();
     let mut line = format!(
-        "accepted: a {} of {} in {}",
-        input.sort.word(),
+        "accepted: a {sort} of {} in {}",
         words::entries(entries),
         words::blocks(blocks)
     );
-    if input.is_unfolded() {
-        line.push_str(&format!(", {unfolded} once unfolded"));
-    }
     let mut json = vec![
         ("answer", Json::text("accepted")),
-        ("sort", Json::text(input.sort.word())),
+        ("sort", Json::text(sort)),
         ("entries", Json::number(entries)),
         ("blocks", Json::number(blocks)),
     ];
     if input.is_unfolded() {
+        line.push_str(&format!(", {unfolded} once unfolded"));
         json.push(("unfolded", Json::number(unfolded)));
     }
-    Ok(Answer {
+    Answer {
         status: Status::Yes,
         full: format!("{line}\n").into_bytes(),
         line,
@@ -53,5 +56,5 @@ pub(super) fn check(context: &Context, file: &Path) -> Result<Answer, Trouble> {
         json,
         extras: Vec::new(),
         notes: input.names.settled().to_vec(),
-    })
+    }
 }

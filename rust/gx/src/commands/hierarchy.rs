@@ -3,10 +3,12 @@
 use std::path::Path;
 
 use super::{Answer, Context, Extra, Service, Status};
+use crate::args::Options;
 use crate::hierarchy::Hierarchy;
 use crate::input::{not_refused, Input};
 use crate::library::{self, Refusal, MOST_SERVICES};
 use crate::names::Names;
+use crate::owl::{self, Asked};
 use crate::page;
 use crate::svg;
 use crate::trouble::Trouble;
@@ -53,14 +55,7 @@ impl Context {
         })?;
         let names = services.iter().map(Service::told).collect();
         let hierarchy = Hierarchy::new(names, ranked);
-        let (full, ending) = match (self.options.csv, self.options.dot) {
-            (true, _) => (hierarchy.csv(), "csv"),
-            (_, true) => (hierarchy.dot(), "dot"),
-            _ => (
-                format!("{}\n\n{}", hierarchy.counted(), hierarchy.text()),
-                "txt",
-            ),
-        };
+        let (full, ending) = self.ranked_form(&hierarchy, read, &words);
         let mut extras = Vec::new();
         if self.options.html.is_some() {
             let page = page::hierarchy(&hierarchy, &self.background.list, &self.given);
@@ -78,6 +73,37 @@ impl Context {
             extras,
             notes: words.settled().to_vec(),
         })
+    }
+
+    /// The hierarchy in the form that the options ask for.
+    fn ranked_form(
+        &self,
+        hierarchy: &Hierarchy,
+        read: &[Input],
+        names: &Names,
+    ) -> (String, &'static str) {
+        let Options { csv, dot, owl, .. } = &self.options;
+        match (*csv, *dot, *owl) {
+            (true, ..) => (hierarchy.csv(), "csv"),
+            (_, true, _) => (hierarchy.dot(), "dot"),
+            (.., true) => {
+                let services = hierarchy.names.iter().zip(read);
+                let asked = Asked {
+                    pairs: &self.background.list.pairs,
+                    dictionary: &[],
+                    supplier: &[],
+                    services: services
+                        .map(|(name, input)| (name.as_str(), input.entries.as_slice()))
+                        .collect(),
+                    names,
+                };
+                (owl::ranked(&asked, hierarchy), "ofn")
+            }
+            _ => (
+                format!("{}\n\n{}", hierarchy.counted(), hierarchy.text()),
+                "txt",
+            ),
+        }
     }
 
     /// The blocks of an accepted input once unfolded: the call takes no dictionary.

@@ -4,6 +4,7 @@ mod catalogue;
 mod check;
 mod compare;
 mod dictionary;
+mod doubles;
 mod fit;
 mod hierarchy;
 mod list;

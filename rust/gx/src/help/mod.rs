@@ -135,6 +135,7 @@ fn inputs(command: Command) -> &'static str {
         Command::Owl => "SUPPLIER SERVICE...",
         Command::Catalogue => "SUPPLIER SERVICES...",
         Command::Hierarchy => "SERVICES...",
+        Command::Doubles => "DESCRIPTIONS...",
         _ => "[FILE...]",
     }
 }
@@ -168,6 +169,7 @@ pub fn about(command: Command) -> (&'static str, &'static str) {
             "hierarchy SERVICES",
             "the services from general to special, and which say the same",
         ),
+        Command::Doubles => ("doubles DESCRIPTIONS", "which descriptions mean the same"),
         Command::Unfold => (
             "unfold FILE",
             "a description with its named entries replaced by what they stand for",

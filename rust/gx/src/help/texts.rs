@@ -12,6 +12,7 @@ pub(super) fn detail(command: Command) -> &'static str {
         Command::Compare => COMPARE,
         Command::Catalogue => CATALOGUE,
         Command::Hierarchy => HIERARCHY,
+        Command::Doubles => DOUBLES,
         Command::Unfold => UNFOLD,
         Command::Owl => OWL,
         Command::FromOwl => FROM_OWL,
@@ -104,8 +105,19 @@ first of them, and 'also below' names the others. Services are files, folders of
 catalogue. More than 64 are refused (8), and so is the whole where one of them is: what is missing could stand between two others.
 With --pairs the order is that among the records that keep the list. With --dictionary named entries are unfolded first.
 --csv writes a row for each service: its class, by the first service of it, its direct superiors, and a column for each service with
-1 where that contains it, else 0. --dot writes a graph for Graphviz, in which each class leads up to those directly above. --svg
+1 where that contains it, else 0. --dot writes a graph for Graphviz, in which each class leads up to those directly above. --owl
+writes an ontology in OWL 2 functional syntax: a class for each service with its definition, and what was found, SubClassOf for each
+direct superior and EquivalentClasses for services that say the same, so that a reasoner finds no class elsewhere. --svg
 draws the classes in layers, --html writes a page with the tree, the drawing, and of each class what stands above and below it.
+";
+
+const DOUBLES: &str = "\
+Finds descriptions that mean the same: a line for each meaning that several have, with '=' between their names, and then those that
+stand alone. Two mean the same exactly if their normal forms are the same bytes, and these are compared. So the same items fit both
+in every record, or of both the same items in every record that keeps the list of --pairs; 'gx compare' says of each of the two that
+it is contained in the other. Descriptions are files, folders of files, or lists of services. With --dictionary named entries are
+unfolded first. One that is refused is told, and stops none of the others. --html writes a page with what each meaning is, in normal
+form.
 ";
 
 const FROM_OWL: &str = "\

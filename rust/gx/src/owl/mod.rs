@@ -21,10 +21,12 @@
 mod fact;
 mod lexer;
 mod other;
+mod ranked;
 mod read;
 mod write;
 
 pub use fact::in_fact;
+pub use ranked::ranked;
 pub use read::{read, read_pairs, Found};
 pub use write::{question, questions, Asked};
 

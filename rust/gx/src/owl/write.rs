@@ -41,10 +41,7 @@ pub fn question(pairs: &[Pair], supplier: &[Entry], service: &[Entry], names: &N
 
 /// The ontology that asks it of each service. A named description is a class of its own with its definition.
 pub fn questions(asked: &Asked<'_>) -> String {
-    let mut out = format!("Prefix(:=<{SPACE}>)\nPrefix(owl:=<{OWL}>)\nPrefix(rdfs:=<{RDFS}>)\n");
-    let space = SPACE.trim_end_matches('#');
-    out.push_str(&format!("Ontology(<{space}>\n"));
-    out.push_str(&format!("Annotation(rdfs:comment {})\n", quoted(COMMENT)));
+    let mut out = headed(COMMENT);
     let several = asked.services.len() > 1;
     let ending = |number: usize| {
         if several {
@@ -74,13 +71,22 @@ pub fn questions(asked: &Asked<'_>) -> String {
     out
 }
 
-fn definition(name: &str, entries: &[Entry]) -> String {
+/// What an ontology begins with.
+pub(super) fn headed(comment: &str) -> String {
+    let mut out = format!("Prefix(:=<{SPACE}>)\nPrefix(owl:=<{OWL}>)\nPrefix(rdfs:=<{RDFS}>)\n");
+    let space = SPACE.trim_end_matches('#');
+    out.push_str(&format!("Ontology(<{space}>\n"));
+    out.push_str(&format!("Annotation(rdfs:comment {})\n", quoted(comment)));
+    out
+}
+
+pub(super) fn definition(name: &str, entries: &[Entry]) -> String {
     format!("EquivalentClasses(:{name}\n{})\n", class(entries))
 }
 
 /// The properties and links of all, their words, which links lead to one item only, which properties exclude each other, and the
 /// named descriptions with their definitions.
-fn declared(asked: &Asked<'_>) -> String {
+pub(super) fn declared(asked: &Asked<'_>) -> String {
     let names = asked.names;
     let parts = asked.dictionary.iter().map(|part| part.entries.as_slice());
     let services = asked.services.iter().map(|(_, entries)| *entries);
@@ -97,20 +103,7 @@ fn declared(asked: &Asked<'_>) -> String {
     let mut properties: BTreeSet<Property> = all().filter_map(Says::property).collect();
     properties.extend(asked.pairs.iter().flat_map(|pair| [pair.0, pair.1]));
     let links: BTreeSet<Link> = all().filter_map(Says::link).collect();
-    let mut out = String::new();
-    for &property in &properties {
-        let name = format!(":property_{}", property.0);
-        out.push_str(&format!("Declaration(Class({name}))\n"));
-        out.push_str(&labelled(&name, names.property(property)));
-    }
-    for &link in &links {
-        let name = format!(":link_{}", link.0);
-        out.push_str(&format!("Declaration(ObjectProperty({name}))\n"));
-        if link.leads_to_one() {
-            out.push_str(&format!("FunctionalObjectProperty({name})\n"));
-        }
-        out.push_str(&labelled(&name, names.link(link)));
-    }
+    let mut out = named(&properties, &links, names);
     for Pair(one, other) in asked.pairs {
         let (one, other) = (one.0, other.0);
         out.push_str(&format!(
@@ -129,7 +122,26 @@ fn declared(asked: &Asked<'_>) -> String {
     out
 }
 
-fn labelled(name: &str, word: Option<&str>) -> String {
+/// These properties and links with their words, and which links lead to one item only.
+fn named(properties: &BTreeSet<Property>, links: &BTreeSet<Link>, names: &Names) -> String {
+    let mut out = String::new();
+    for &property in properties {
+        let name = format!(":property_{}", property.0);
+        out.push_str(&format!("Declaration(Class({name}))\n"));
+        out.push_str(&labelled(&name, names.property(property)));
+    }
+    for &link in links {
+        let name = format!(":link_{}", link.0);
+        out.push_str(&format!("Declaration(ObjectProperty({name}))\n"));
+        if link.leads_to_one() {
+            out.push_str(&format!("FunctionalObjectProperty({name})\n"));
+        }
+        out.push_str(&labelled(&name, names.link(link)));
+    }
+    out
+}
+
+pub(super) fn labelled(name: &str, word: Option<&str>) -> String {
     word.map_or(String::new(), |word| {
         format!("AnnotationAssertion(rdfs:label {name} {})\n", quoted(word))
     })

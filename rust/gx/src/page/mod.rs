@@ -3,6 +3,7 @@
 
 mod all;
 mod description;
+mod doubles;
 mod fitting;
 mod folds;
 mod hierarchy;
@@ -26,6 +27,7 @@ use crate::whereabouts;
 use crate::words::{self, Words, APART};
 use description::{listing, Marks};
 
+pub use doubles::{doubles, Meaning};
 pub use fitting::{fitting, Fitting};
 pub use hierarchy::hierarchy;
 pub use index::{index, Row};

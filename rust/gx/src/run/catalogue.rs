@@ -3,7 +3,7 @@
 use std::io::IsTerminal;
 use std::path::PathBuf;
 
-use super::folders::noted;
+use super::folders::{noted, Told};
 use super::print::{complain, end_progress, said_of, show_progress, Said};
 use super::{Run, USAGE};
 use crate::commands::{Contained, Service, Status};
@@ -11,6 +11,7 @@ use crate::input::{named, Input};
 use crate::json::Json;
 use crate::library::MOST_SERVICES;
 use crate::page::Row;
+use crate::text;
 use crate::trouble::Trouble;
 
 /// How the services answered so far.
@@ -79,10 +80,30 @@ impl Run {
                 return Ok((services, Status::Yes));
             }
         }
-        let (sides, worst) = self.sides(given);
-        let files = sides.into_iter().flatten();
-        let services = files.map(|told| Service::of_file(told.path, told.name));
-        Ok((services.collect(), worst))
+        let (sides, mut worst) = self.sides(given);
+        let mut services = Vec::new();
+        for told in sides.into_iter().flatten() {
+            match self.services_of(told) {
+                Ok(found) => services.extend(found),
+                Err(trouble) => worst = worst.max(self.passed_over(&trouble)),
+            }
+        }
+        Ok((services, worst))
+    }
+
+    /// One of several files: a service, or the services of a list by its ending.
+    fn services_of(&self, Told { path, name }: Told) -> Result<Vec<Service>, Trouble> {
+        if path
+            .extension()
+            .is_none_or(|ending| ending != text::SERVICES)
+        {
+            return Ok(vec![Service::of_file(path, name)]);
+        }
+        let mut services = self.context.services(path)?;
+        for service in &mut services {
+            service.name.clone_from(&name);
+        }
+        Ok(services)
     }
 
     /// What is wrong where pages are written: two have one name, or one would replace what is read.

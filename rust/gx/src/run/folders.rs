@@ -93,16 +93,19 @@ impl Run {
         for file in files {
             match self.side(file) {
                 Ok(side) => sides.push(side),
-                Err(trouble) => {
-                    match self.options().json {
-                        true => drop(self.print_trouble(&trouble, true)),
-                        false => complain(&format!("gx: {}", trouble.lines())),
-                    }
-                    worst = worst.max(trouble.status());
-                }
+                Err(trouble) => worst = worst.max(self.passed_over(&trouble)),
             }
         }
         (sides, worst)
+    }
+
+    /// Tells why an argument, or a list among files, is passed over.
+    pub(super) fn passed_over(&self, trouble: &Trouble) -> Status {
+        match self.options().json {
+            true => self.print_trouble(trouble, true),
+            false => complain(&format!("gx: {}", trouble.lines())),
+        }
+        trouble.status()
     }
 
     /// The files that an argument names.

@@ -44,7 +44,7 @@ impl Run {
     }
 
     /// Tells why there is no hierarchy.
-    fn without(&self, trouble: &Trouble) -> u8 {
+    pub(super) fn without(&self, trouble: &Trouble) -> u8 {
         self.print_trouble(trouble, false);
         trouble.status().code()
     }
@@ -57,16 +57,21 @@ impl Run {
         self.tell_given();
         let mut worst = Status::Bad;
         for (service, trouble) in bad {
-            let said = said_of(trouble, &service.name);
-            let mut first = vec![("file", Json::text(&service.name))];
-            let number = service
-                .number
-                .map(|number| ("service", Json::number(number)));
-            first.extend(number);
-            worst = worst.max(self.print_line(&service.told(), first, said, false));
+            worst = worst.max(self.print_bad(service, trouble));
         }
         complain("gx: no hierarchy: what is missing could stand between two others\n");
         worst
+    }
+
+    /// Tells on a line what keeps one of many from an answer.
+    pub(super) fn print_bad(&self, service: &Service, trouble: &Trouble) -> Status {
+        let said = said_of(trouble, &service.name);
+        let mut first = vec![("file", Json::text(&service.name))];
+        let number = service
+            .number
+            .map(|number| ("service", Json::number(number)));
+        first.extend(number);
+        self.print_line(&service.told(), first, said, false)
     }
 }
 

@@ -1,6 +1,7 @@
 //! One run of the program: the inputs of the command line, one by one, and what is printed of each answer.
 
 mod catalogue;
+mod doubles;
 mod folders;
 mod hierarchy;
 mod outputs;
@@ -78,22 +79,13 @@ fn done(command: Command, files: &[PathBuf], options: Options) -> u8 {
         return trouble.status().code();
     }
     run.tell_standard_input(files);
-    if command == Command::Catalogue {
-        return run.catalogue(files);
+    match command {
+        Command::Catalogue => run.catalogue(files),
+        Command::Hierarchy => run.hierarchy(files),
+        Command::Doubles => run.doubles(files),
+        _ if many => run.lines(files),
+        _ => run.alone(files),
     }
-    if command == Command::Hierarchy {
-        return run.hierarchy(files);
-    }
-    if many {
-        return run.lines(files);
-    }
-    let blocks = command == Command::Write || run.options().to == Some(To::Blocks);
-    if blocks && run.to_terminal() {
-        complain("gx: blocks are not for a terminal; --out FILE writes them into a file\n");
-        return USAGE;
-    }
-    let files: Vec<&Path> = files.iter().map(PathBuf::as_path).collect();
-    run.one(&files).code()
 }
 
 struct Run {
@@ -112,8 +104,20 @@ impl Run {
 
     /// Whether what is printed is an answer in words, and not data.
     fn tells(&self) -> bool {
-        let data = self.options().csv || self.options().dot;
+        let Options { csv, dot, owl, .. } = self.options();
+        let data = *csv || *dot || *owl;
         self.command.answers() && !data
+    }
+
+    /// The answer for one input, or for two.
+    fn alone(&self, files: &[PathBuf]) -> u8 {
+        let blocks = self.command == Command::Write || self.options().to == Some(To::Blocks);
+        if blocks && self.to_terminal() {
+            complain("gx: blocks are not for a terminal; --out FILE writes them into a file\n");
+            return USAGE;
+        }
+        let files: Vec<&Path> = files.iter().map(PathBuf::as_path).collect();
+        self.one(&files).code()
     }
 
     fn to_terminal(&self) -> bool {

@@ -52,9 +52,9 @@ impl Run {
                 .find(|(other, there)| other != one && there == path);
             other.map(|(other, _)| (*one, *other, file_name(&named(path))))
         };
-        // A hierarchy is one answer, however many files it is about.
+        // A hierarchy is one answer, however many files it is about, and so are doubles.
         let many = files.iter().any(|file| file.is_dir()) || files.len() > 2;
-        let folders = many && self.command != Command::Hierarchy;
+        let folders = many && !matches!(self.command, Command::Hierarchy | Command::Doubles);
         let (one, other, file) = outputs.iter().find_map(same).filter(|_| !folders)?;
         Some(format!("{one} and {other} would both write {file}"))
     }

@@ -38,7 +38,7 @@ fn a_near_word_is_suggested() {
         ),
         (
             &["show", "d", "--html", "p"],
-            "show has no option '--html'; fit, compare, catalogue, hierarchy has",
+            "show has no option '--html'; fit, compare, catalogue, hierarchy, doubles has",
         ),
         (&["judge"], "there is no command 'judge'\n"),
         (

@@ -9,7 +9,7 @@ use reference::{encode, Entry};
 use crate::support::{description, repository, Folder, Ran};
 
 /// A diamond with a double at the bottom, and one that stands alone.
-fn desk(name: &str) -> Folder {
+pub fn desk(name: &str) -> Folder {
     let folder = Folder::new(name);
     std::fs::create_dir(folder.path().join("services")).unwrap();
     folder
@@ -33,7 +33,7 @@ any.txt
 other.blocks
 ";
 
-fn is(ran: &Ran, status: i32, out: &str) {
+pub fn is(ran: &Ran, status: i32, out: &str) {
     assert_eq!(
         (ran.status, ran.text().as_str(), ran.err.as_str()),
         (status, out, "")
@@ -67,42 +67,6 @@ fn one_file_with_a_list() {
     is(&folder.gx(&["hierarchy", "list"]), 0, due);
     let ran = folder.gx_with(&["hierarchy"], &folder.get("list"));
     is(&ran, 0, &due.replace("list", "standard input"));
-}
-
-#[test]
-fn as_a_table_and_as_a_graph() {
-    let folder = desk("hierarchy-table");
-    let files = ["services/left.txt", "services/any.txt", "services/left.txt"];
-    let ran = folder.gx(&[&["hierarchy", "--csv"], &files[..]].concat());
-    let due = "\
-service,class,superiors,left.txt,any.txt,left.txt
-left.txt,left.txt,any.txt,1,1,1
-any.txt,any.txt,,0,1,0
-left.txt,left.txt,any.txt,1,1,1
-";
-    is(&ran, 0, due);
-    let ran = folder.gx(&[&["hierarchy", "--dot"], &files[..]].concat());
-    let due = "\
-digraph hierarchy {
-    rankdir=BT;
-    node [shape=box];
-    c1 [label=\"left.txt\\nleft.txt\"];
-    c2 [label=\"any.txt\"];
-    c1 -> c2;
-}
-";
-    is(&ran, 0, due);
-    // A name with signs of its own.
-    folder.put("a,\"b\"", "1,7");
-    let ran = folder.gx(&["hierarchy", "a,\"b\"", "--csv"]);
-    let name = "\"a,\"\"b\"\"\"";
-    is(
-        &ran,
-        0,
-        &format!("service,class,superiors,{name}\n{name},{name},,1\n"),
-    );
-    let ran = folder.gx(&["hierarchy", "services", "--csv", "--dot"]);
-    assert_eq!((ran.status, ran.out.len()), (64, 0));
 }
 
 #[test]
