@@ -4,3 +4,5 @@
 pub mod NoteLaws
 -- Which properties are noted.
 pub mod MemberLaws
+-- Of numbers that ascend each is pushed once.
+pub mod ApartLaws
