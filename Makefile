@@ -92,6 +92,8 @@ outside: lib gx $(PROGRAM)
 	test "$$(target/c/desk target/c/draft | paste -s -d,)" = "add: 1 entries,add: 2 entries,name: 2 entries"
 	test "$$(target/c/desk target/c/draft | paste -s -d,)" = \
 		"take off: 1 entries,add: 2 entries,add: refused 5 place 3,go back: 2 entries,write: 2 entries,read: 2 entries"
+	$(CC) $(CFLAGS) examples/delivered.c target/staticlib/libcapi.a -o target/c/delivered
+	test "$$(target/c/delivered | paste -s -d,)" = "item 1 fits,item 2 does not fit,item 3 does not fit"
 	cargo test --quiet --manifest-path rust/bindings/Cargo.toml
 	cargo test --release --quiet --manifest-path rust/differential/Cargo.toml
 	cargo test --release --quiet --manifest-path rust/bench/Cargo.toml

@@ -2,6 +2,7 @@
  * pattern afterwards was used. Each call gets the inputs that lead furthest down: all entries out of order, so that the sort
  * halves to the end, and chains of owners of the greatest depth, as many as a specimen holds, by a link that leads to one item
  * only. Each place of the description that these are fitted to has an entry before the 'every', so that each level takes a call.
+ * The record has as many links that lead to one item only, no two of one owner and link.
  * The list has the most pairs, all with the property that is asked for last. The services are a deep one and a wide
  * one. The dictionary has these descriptions, and those that are unfolded name them. In another dictionary each description
  * names the one before, so that all 64 are open at once. */
@@ -14,7 +15,7 @@
 
 enum { STACK = 1 << 18, PATTERN = 0xa5, BLOCKS = 16, ENTRIES = 63 * BLOCKS, CHAIN = 33, SINGLE = 32768, PAIRS = 64, NAMES = 64 };
 
-static uint8_t stack[STACK], wide[512 * BLOCKS], chain[512], places[1024], groups[1024 * BLOCKS], out[1024 * BLOCKS];
+static uint8_t stack[STACK], wide[512 * BLOCKS], chain[512], places[1024], groups[1024 * BLOCKS], record[1024 * BLOCKS], out[1024 * BLOCKS];
 static uint8_t desk[GX_DESK_BYTES];
 static uint8_t pairs[4 * PAIRS], list[sizeof chain + sizeof wide];
 static uint8_t dictionary[sizeof wide + sizeof chain + sizeof places], named[3][512];
@@ -65,6 +66,8 @@ static void make_inputs(void) {
         unsigned first = n % CHAIN == 1;
         put_entry(groups, n, 7, first ? 0 : n - 1, first ? 1 : SINGLE, 0);
     }
+    for (unsigned n = 1; n <= 2 * ENTRIES; n++)
+        put_entry(record, n, 8, 1 + n * 77 % 256, SINGLE + n / 256, 1 + n % 256);
     for (unsigned i = 0; i < PAIRS; i++) {
         put(pairs + 4 * i, 7);
         put(pairs + 4 * i + 2, 8 + i);
@@ -76,6 +79,7 @@ static void make_inputs(void) {
     close_blocks(chain, CHAIN + 3);
     close_blocks(places, 2 * CHAIN);
     close_blocks(groups, 2 * ENTRIES);
+    close_blocks(record, 2 * ENTRIES);
     memcpy(list, chain, sizeof chain);
     memcpy(list + sizeof chain, wide, sizeof wide);
     memcpy(dictionary, wide, sizeof wide);
@@ -124,6 +128,12 @@ static void earning(void) {
     answer = gx_earning(pairs, sizeof pairs, wide, sizeof wide, wide, sizeof wide, out, sizeof out);
 }
 static void hierarchy(void) { answer = gx_hierarchy(pairs, sizeof pairs, list, sizeof list, out, sizeof out); }
+static void fit_all(void) {
+    answer = gx_fit_all(pairs, sizeof pairs, NULL, 0, 256, record, sizeof record, places, sizeof places, out, sizeof out);
+}
+static void fit_all_named(void) {
+    answer = gx_fit_all(pairs, sizeof pairs, dictionary, sizeof dictionary, 256, record, sizeof record, named[2], 512, out, sizeof out);
+}
 static void unfold(void) { answer = gx_unfold(dictionary, sizeof dictionary, named[0], 512, out, sizeof out); }
 static void fit_named(void) {
     answer = gx_fit_with(pairs, sizeof pairs, dictionary, sizeof dictionary, groups, sizeof groups, named[2], 512);
@@ -200,6 +210,7 @@ int main(void) {
     show("gx_desk_go_back", desk_go_back);
     show("gx_desk_drop", desk_drop);
     show("gx_desk_write", desk_write);
+    show("gx_fit_all", fit_all);
     show("gx_unfold", unfold);
     show("gx_fit_with, named", fit_named);
     show("gx_normal_with, named", normal_named);
@@ -210,5 +221,6 @@ int main(void) {
     show("gx_normal_with, nested", normal_nested);
     show("gx_compare_with, nested", compare_nested);
     show("gx_catalogue, nested", catalogue_nested);
+    show("gx_fit_all, named", fit_all_named);
     return 0;
 }

@@ -20,15 +20,15 @@
  * Links from 32,768 up lead to one item only: a finite record keeps the rule that no item has two items by one of them. What a
  * yes, a no and a normal form promise is about such records.
  *
- * Properties that exclude each other. gx_fit_with, gx_normal_with, gx_compare_with, gx_catalogue and gx_hierarchy take a list of
- * pairs of properties, such as clay and sand, that never hold of one item: 0 to 64 pairs of four bytes, in each pair two properties of
- * two bytes, low byte first. Which of the two stands first says nothing; a pair may stand there twice, and a property in
+ * Properties that exclude each other. gx_fit_with, gx_normal_with, gx_compare_with, gx_catalogue, gx_hierarchy and gx_fit_all take a
+ * list of pairs of properties, such as clay and sand, that never hold of one item: 0 to 64 pairs of four bytes, in each pair two
+ * properties of two bytes, low byte first. Which of the two stands first says nothing; a pair may stand there twice, and a property in
  * several pairs. The list says which records are spoken of: what these calls promise is about every finite record that keeps
  * the list and the rule on links from 32,768 up. So a place of a description with both properties of a pair is impossible, and
  * one with the one of them lacks the other. gx_fit, gx_normal and gx_compare are the first three with no pairs and no
  * dictionary, and stay so.
  *
- * Dictionaries. The first four of these and gx_unfold take a dictionary of named descriptions: 0 to 64 descriptions laid end to
+ * Dictionaries. All of these but gx_hierarchy, and gx_unfold, take a dictionary of named descriptions: 0 to 64 descriptions laid end to
  * end, where the first block and each later one numbered 1 begins a description; of length 0 it has none. In the descriptions
  * that these calls take, an entry of kind 9 with name n and number 0 stands for the n-th description of the dictionary, put in at
  * that place. A description of the dictionary may name only earlier ones. gx_unfold writes the plain description that is meant.
@@ -61,7 +61,8 @@
  * The refusals, of which the first that applies is answered: 11 before all others, then the dictionary's, which are 1, 8 and
  * then those of its descriptions, one after the other, then those of input 1, those of input 2, and 7 last. Those of a list of
  * services are 1, 8 and then those of its services, one after the other. In one input 1, then the lowest block that breaks 2 or
- * 3, 2 before 3, then the lowest entry that breaks 4, 13, 5, 6 or 9, in that order, and 12 or 14 after all of these:
+ * 3, 2 before 3, then the lowest entry that breaks 4, 13, 10, 5, 6 or 9, in that order, and 12 or 14 after all of these.
+ * The 10 of a total comes before the 1 of its record:
  *
  *     number   when                                                                              place
  *     1        an input's length is 0, no multiple of 512, or over the limit; of a dictionary
@@ -77,10 +78,13 @@
  *     6        an entry's depth is over 32                                                       entry
  *     7        the output is too short                                                           0
  *     8        a dictionary has more than 64 descriptions, or a list more than 64 services       0
- *     9        a specimen's group brings its owner a second item by a link from 32,768 up        entry
+ *     9        a specimen's group brings its owner a second item by a link from 32,768 up;
+ *              a delivered record links an item by one to another than an earlier entry did      entry
+ *     10       a delivered record is to have 0 items or more than 256                            0
+ *              otherwise: the number of an item is 0 or above the total                          entry
  *     11       the length of a list of pairs is no multiple of 4, or over 64 pairs               0
  *              otherwise: a pair has a 0 or two equal numbers; the lowest such pair              pair
- *     12       a specimen has an item with both properties of a pair; the lowest entry that
+ *     12       a specimen or a record has an item with both properties of a pair; the lowest entry that
  *              completes one: its owner has the other property from an earlier entry             entry
  *     13       the name of an entry of kind 9 is 0 or above the number of descriptions in the
  *              dictionary, or in the dictionary not that of an earlier description               entry
@@ -296,6 +300,26 @@ uint64_t gx_desk_drop(uint8_t *desk, size_t desk_len, uint16_t stand);
  * out is unchanged.
  */
 uint64_t gx_desk_write(const uint8_t *desk, size_t desk_len, uint8_t *out, size_t out_len);
+
+/* The most items that a delivered record may have, and so the most bytes that gx_fit_all fills. */
+#define GX_ITEMS 256
+
+/*
+ * Judges each item of a delivered record, input 1, by the description d, input 2, under a list of pairs and with a dictionary. The
+ * record is no specimen: its items are numbered 1 to total, may be shared, and links may go round. It has 1 to 32 blocks, with
+ * entries of two kinds, byte 1 zero:
+ *
+ *     kind   owner    name                   number
+ *     1      an item  a property, from 1 up  0           the item has the property
+ *     8      an item  a link, from 1 up      an item     the link leads from the owner to that item
+ *
+ * What is said twice counts once, and items of which nothing is said are there too. It fills a byte of out for each item, from the
+ * first on: 1 exactly if the item fits d in this record, else 0. A count, the number of bytes filled, which is total; or refused, by
+ * the first that applies: 11; the dictionary; 10 for a total of 0 or above 256; the record, by 1, 2, 3, then 4, 10 and 9 entry by
+ * entry, then 12; d in full; 7 where out has fewer than total bytes. Later bytes of out stay. Where refused, out is unchanged.
+ */
+uint64_t gx_fit_all(const uint8_t *pairs, size_t pairs_len, const uint8_t *dict, size_t dict_len, size_t total, const uint8_t *record,
+                    size_t record_len, const uint8_t *d, size_t d_len, uint8_t *out, size_t out_len);
 
 #ifdef __cplusplus
 }

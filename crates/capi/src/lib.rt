@@ -1,4 +1,4 @@
-// The library's calls for C and Rust [K4]: nineteen functions under their plain names, each slice a pointer and a
+// The library's calls for C and Rust [K4]: twenty functions under their plain names, each slice a pointer and a
 // length. Each is total [K1] and has, for its result and each byte that it may write, the equation of the call that
 // it wraps [K2], with the answer as one number of 64 bits [K5]; include/goltximen.h states the terms for a C program.
 //
@@ -13,6 +13,7 @@
 ghost use Rattle.std.specs.Prelude.{◌≡◌, ℕ, Bool, List, [], Ok};
 ghost use Rattle.answers.specs.Calls.{CountsPlainly, DecidedPlainly, FitsPlainly, NormalisesPlainly, NothingWritten, ReadExactly, RefusedExactly, Unfolds};
 ghost use Rattle.answers.specs.Earning.{AskedRefused, Earns};
+ghost use Rattle.answers.specs.Items.{ItemsRefused, MarksItems};
 ghost use Rattle.answers.specs.Promise.{ComparableNamed, DecidedNamed, Fills, FitsNamedExactly, JudgeableNamed, NormalisesNamed};
 ghost use Rattle.answers.specs.Ranking.{HierarchyRefused, Ranks};
 ghost use Rattle.answers.specs.Refusals.{CatalogueRefused, ComparisonRefused, FitRefused, NormalRefused, UnfoldRefused};
@@ -28,6 +29,7 @@ ghost use Rattle.drafts.specs.declared.Call.{Call};
 ghost use Rattle.earning.specs.Answer.{earned_of, earning_of};
 ghost use Rattle.fit.specs.Promise.{Judgeable};
 ghost use Rattle.hierarchy.specs.Answer.{hierarchy_of, ranked_of};
+ghost use Rattle.items.specs.Answer.{items_of, marked_of};
 ghost use Rattle.named.specs.Answer.{compare_named, counted_named, fit_named, normalise_named, normalised_named, output_named};
 ghost use Rattle.packing.specs.Packing.{pack_comparison, pack_counted, pack_fit, pack_reading};
 ghost use Rattle.pairs.specs.Promise.{ListRead};
@@ -276,4 +278,24 @@ pub extern "C" fn gx_desk_write(buffer: &[u8], out: &mut [u8]) -> u64
     ensures begins { (b : List ℕ) (calls : List Call) → Zeros b → buffer.now ≡ run_at b calls → held_at buffer.now ≡ run empty calls }
 {
     pack_reading(desk::buffer::write_out(buffer, out))
+}
+
+// Judges each of the `total` items of a delivered record, input 1, by a description, input 2, where records keep a list of pairs, and fills a byte for
+// each: 1 where it fits, else 0. The number of bytes filled, or the refusal.
+#[unsafe(no_mangle)]
+pub extern "C" fn gx_fit_all(
+    pairs: &[u8],
+    dict: &[u8],
+    total: usize,
+    delivered: &[u8],
+    d: &[u8],
+    out: &mut [u8],
+) -> u64
+    ensures answer { (result ≡ pack_reading (items_of pairs.now dict.now total delivered.now d.now out.old))
+        × (out.new ≡ marked_of pairs.now dict.now total delivered.now d.now out.old) }
+    ensures refuses { RefusedExactly (items_of pairs.now dict.now total delivered.now d.now out.old) (ItemsRefused pairs.now dict.now total delivered.now d.now out.old) }
+    ensures keeps { NothingWritten (items_of pairs.now dict.now total delivered.now d.now out.old) (marked_of pairs.now dict.now total delivered.now d.now out.old) out.old }
+    ensures means { (n : ℕ) → items_of pairs.now dict.now total delivered.now d.now out.old ≡ Ok n → MarksItems pairs.now dict.now total delivered.now d.now out.old n }
+{
+    pack_reading(items::fit_items(pairs, dict, total, delivered, d, out))
 }

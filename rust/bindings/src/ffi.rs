@@ -84,6 +84,19 @@ extern "C" {
     fn gx_desk_go_back(desk: *mut u8, desk_len: usize, stand: u16) -> u64;
     fn gx_desk_drop(desk: *mut u8, desk_len: usize, stand: u16) -> u64;
     fn gx_desk_write(desk: *const u8, desk_len: usize, out: *mut u8, out_len: usize) -> u64;
+    fn gx_fit_all(
+        pairs: *const u8,
+        pairs_len: usize,
+        dict: *const u8,
+        dict_len: usize,
+        total: usize,
+        record: *const u8,
+        record_len: usize,
+        d: *const u8,
+        d_len: usize,
+        out: *mut u8,
+        out_len: usize,
+    ) -> u64;
 }
 
 pub(crate) fn read_description(d: &[u8]) -> u64 {
@@ -201,6 +214,32 @@ pub(crate) fn catalogue(pairs: &[u8], dict: &[u8], c: &[u8], list: &[u8], out: &
             c.len(),
             list.as_ptr(),
             list.len(),
+            out.as_mut_ptr(),
+            out.len(),
+        )
+    }
+}
+
+pub(crate) fn fit_all(
+    pairs: &[u8],
+    dict: &[u8],
+    total: usize,
+    record: &[u8],
+    d: &[u8],
+    out: &mut [u8],
+) -> u64 {
+    // SAFETY: the pointers and lengths are those of five slices, and the last is ours alone.
+    unsafe {
+        gx_fit_all(
+            pairs.as_ptr(),
+            pairs.len(),
+            dict.as_ptr(),
+            dict.len(),
+            total,
+            record.as_ptr(),
+            record.len(),
+            d.as_ptr(),
+            d.len(),
             out.as_mut_ptr(),
             out.len(),
         )

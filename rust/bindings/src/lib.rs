@@ -15,6 +15,7 @@
 //! puts them in where they are named. [`fit()`], [`normal_form`] and [`compare`] are the calls with no list and no dictionary.
 //! [`Under::catalogue`] compares one description with a list of up to 64, and [`hierarchy()`] ranks such a list from special to general.
 //! [`Desk`] is a description that is drafted entry by entry, with stands to return to.
+//! [`Under::fit_all`] judges the items of a delivered record, which may be shared, by links that may go round.
 //!
 //! `k` entries take `512 * k.div_ceil(63).max(1)` bytes, `GX_BYTES(k)` of the C header: a call that writes `k` entries writes
 //! just those bytes, from the start of the output.
@@ -47,6 +48,7 @@ mod desk;
 #[allow(unsafe_code)]
 mod ffi;
 mod hierarchy;
+mod items;
 mod packed;
 mod refusal;
 mod under;
@@ -57,6 +59,7 @@ pub const VERSION: &str = env!("CARGO_PKG_VERSION");
 
 pub use desk::{Desk, DESK_BYTES};
 pub use hierarchy::{hierarchy, hierarchy_bytes, Hierarchy};
+pub use items::MOST_ITEMS;
 pub use refusal::{Reason, Refusal};
 pub use under::Under;
 pub use unfold::unfold;

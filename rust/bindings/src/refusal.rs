@@ -5,7 +5,7 @@ use std::fmt;
 
 /// Why an input or an output is refused: a number of the table of refusals.
 ///
-/// The calls of today answer 1 to 9, 11 to 14, 16 to 18 and 20. The other numbers belong to calls that are still to come; they stand here so
+/// The calls of today answer 1 to 14, 16 to 18 and 20. The other numbers belong to calls that are still to come; they stand here so
 /// that a match over the reasons stays whole when those come.
 #[derive(Clone, Copy, Debug, PartialEq, Eq, Hash)]
 #[repr(u8)]
@@ -29,13 +29,14 @@ pub enum Reason {
     Output = 7,
     /// 8: a dictionary has more than 64 descriptions, or a list more than 64 services.
     TooMany = 8,
-    /// 9: a group of a specimen brings its owner a second item by a link that leads to one item only, one from 32,768 up.
+    /// 9: a group of a specimen brings its owner a second item by a link that leads to one item only, one from 32,768 up; or a
+    /// delivered record links an item by one to another than an earlier entry did.
     SecondItem = 9,
     /// 10: the total of items of a record is 0 or over 256, or an item's number is 0 or above the total.
     Item = 10,
     /// 11: the length of a list of pairs is no multiple of 4 or over 64 pairs, or a pair has a 0 or two equal numbers.
     Pairs = 11,
-    /// 12: a specimen has an item with both properties of a pair of the list.
+    /// 12: a specimen or a record has an item with both properties of a pair of the list.
     BothOfAPair = 12,
     /// 13: the name of an entry of kind 9 is 0, above the dictionary's count, or in the dictionary not that of an earlier
     /// description.

@@ -1,5 +1,5 @@
-//! The calls under a list of properties that exclude each other, with a dictionary of named descriptions. The catalogue, which is
-//! another such call, has a module of its own.
+//! The calls under a list of properties that exclude each other, with a dictionary of named descriptions. The catalogue and
+//! the delivered items, which are such calls too, have modules of their own.
 
 use crate::{ffi, packed, Comparison, Fit, Refusal};
 
