@@ -116,6 +116,8 @@
  *     gx_compare_with       71,576 bytes
  *     gx_catalogue          76,752 bytes
  *     gx_hierarchy          32,632 bytes
+ *     gx_desk_write          9,280 bytes
+ *     other desk calls       1,296 bytes
  *
  * The library calls memset and memcpy; a program that binds them at their first call took up to 1,072 bytes more there. A
  * thread with 128 KiB of stack has room for each call.
