@@ -17,6 +17,10 @@
  * Descriptions have 1 to 16 blocks of 512 bytes, 63 entries to a block, specimens 1 to 32; k entries take GX_BYTES(k) bytes.
  * docs/FORMAT.md says what stands in a block, and examples/build.c makes one.
  *
+ * The shorter stored form has entries of 6 bytes, 84 to a block, in the same frame; each has its depth in place of its owner, and
+ * entries stand in walking order, each followed by what it owns. gx_to_stored writes it, and gx_from_stored reads it back; an input
+ * in it has 1 to 12 blocks, and k entries take GX_STORED_BYTES(k) bytes. No other call takes it.
+ *
  * Links from 32,768 up lead to one item only: a finite record keeps the rule that no item has two items by one of them. What a
  * yes, a no and a normal form promise is about such records.
  *
@@ -34,8 +38,8 @@
  * that place. A description of the dictionary may name only earlier ones. gx_unfold writes the plain description that is meant.
  * All answers and written bytes, numbers of entries included, are those for the unfolded descriptions, and an output is measured
  * by them too; one of them has at most GX_BYTES(1008) bytes. The limit of 16 blocks is about a description as it is sent. gx_fit,
- * gx_fit_counted, gx_normal and gx_compare have a dictionary of length 0, so they refuse every name with 13; the two readers and
- * gx_hierarchy take no dictionary and refuse kind 9 with 4.
+ * gx_fit_counted, gx_normal and gx_compare have a dictionary of length 0, so they refuse every name with 13; the two readers,
+ * gx_hierarchy, gx_to_stored and gx_from_stored take no dictionary and refuse kind 9 with 4.
  *
  * Lists of services. gx_catalogue and gx_hierarchy take 1 to 64 descriptions laid end to end: the first block and each later one numbered 1
  * begins a service. Only the stored number counts for this, and it is looked at before any check: a block whose number is damaged
@@ -61,7 +65,7 @@
  * The refusals, of which the first that applies is answered: 11 before all others, then the dictionary's, which are 1, 8 and
  * then those of its descriptions, one after the other, then those of input 1, those of input 2, and 7 last. Those of a list of
  * services are 1, 8 and then those of its services, one after the other. In one input 1, then the lowest block that breaks 2 or
- * 3, 2 before 3, then the lowest entry that breaks 4, 13, 10, 5, 6 or 9, in that order, and 12 or 14 after all of these.
+ * 3, 2 before 3, then the lowest entry that breaks 4, 13, 10, 15, 5, 6 or 9, in that order, and 12 or 14 after all of these.
  * The 10 of a total comes before the 1 of its record:
  *
  *     number   when                                                                              place
@@ -90,6 +94,8 @@
  *              dictionary, or in the dictionary not that of an earlier description               entry
  *     14       a description, in the dictionary or not, has more than 1,008 entries or an entry
  *              of depth over 32 once unfolded                                                    0
+ *     15       an entry of the stored form has a depth above 0, and the nearest earlier entry of
+ *              lesser depth is no 'every' of a depth one less, or there is none                  entry
  *     16       an entry is added to a desk that holds 1,008                                      0
  *     17       an entry is taken off a desk that holds none                                      0
  *     18       a stand's number is 0; or, to name one, it is not known and four are; or, to go
@@ -322,6 +328,31 @@ uint64_t gx_desk_write(const uint8_t *desk, size_t desk_len, uint8_t *out, size_
  */
 uint64_t gx_fit_all(const uint8_t *pairs, size_t pairs_len, const uint8_t *dict, size_t dict_len, size_t total, const uint8_t *record,
                     size_t record_len, const uint8_t *d, size_t d_len, uint8_t *out, size_t out_len);
+
+/*
+ * The bytes that k entries take in the shorter stored form: 512 times the blocks, of which there are k / 84, rounded up, and at least
+ * one. As GX_BYTES otherwise; GX_STORED_BYTES(1008), 6,144 bytes, are enough for any description.
+ */
+#define GX_STORED_BYTES(k) ((size_t)(512 * (1 + ((int64_t)(k) - 1) / 84)))
+
+/*
+ * Writes the description d, input 1, in the shorter stored form in blocks from the start of out: a count, the number of entries
+ * written, which is that of d; or refused, as gx_read_description refuses d, and with 7 exactly where out is shorter than what is
+ * written. The entries stand in walking order, each followed by what it owns, and those of one owner by their numbers. What is
+ * written is accepted by gx_from_stored, which gives these entries back in that order; the same items fit them as d. Later bytes of
+ * out stay. Where refused, out is unchanged.
+ */
+uint64_t gx_to_stored(const uint8_t *d, size_t d_len, uint8_t *out, size_t out_len);
+
+/*
+ * Writes the description that s, input 1, is in the shorter stored form, in blocks from the start of out: a count, the number of
+ * entries written; or refused, by the first that applies: 1 where s has length 0, no multiple of 512, or more than 12 blocks; the
+ * lowest block that breaks 2 or 3, where 84 entries fill one; the lowest entry that breaks 4, 15 or 6, in that order; and 7 exactly
+ * where out is shorter than what is written. The owner of an entry is the nearest earlier entry of lesser depth. What is written is
+ * accepted as a description, and gx_to_stored writes the bytes of s of it again. Later bytes of out stay. Where refused, out is
+ * unchanged. Of all inputs only two are accepted here and by gx_read_description: no entries, and kind 6 alone.
+ */
+uint64_t gx_from_stored(const uint8_t *s, size_t s_len, uint8_t *out, size_t out_len);
 
 #ifdef __cplusplus
 }

@@ -1,4 +1,4 @@
-// The library's calls for C and Rust [K4]: twenty functions under their plain names, each slice a pointer and a
+// The library's calls for C and Rust [K4]: twenty-two functions under their plain names, each slice a pointer and a
 // length. Each is total [K1] and has, for its result and each byte that it may write, the equation of the call that
 // it wraps [K2], with the answer as one number of 64 bits [K5]; include/goltximen.h states the terms for a C program.
 //
@@ -7,7 +7,7 @@
 // - `refuses`: it refuses exactly where a row of the table in Refusals of `answers` applies, by that row;
 // - `keeps`: a refusal writes nothing;
 // - `means`: what the other answers say of every finite record and of the bytes that are written.
-// They are theorems of `answers` about the same definitions; each record that they name is in its specs/.
+// They are theorems of `answers`, and of `stored`, about the same definitions; each record that they name is in its specs/.
 #![tactic(auto)]
 
 ghost use Rattle.std.specs.Prelude.{◌≡◌, ℕ, Bool, List, [], Ok};
@@ -33,6 +33,8 @@ ghost use Rattle.items.specs.Answer.{items_of, marked_of};
 ghost use Rattle.named.specs.Answer.{compare_named, counted_named, fit_named, normalise_named, normalised_named, output_named};
 ghost use Rattle.packing.specs.Packing.{pack_comparison, pack_counted, pack_fit, pack_reading};
 ghost use Rattle.pairs.specs.Promise.{ListRead};
+ghost use Rattle.stored.specs.Answer.{restored_in, restored_of, stored_in, stored_of};
+ghost use Rattle.stored.specs.Promise.{BothForms, RestoreRefused, Restores, StoreRefused, StoredExchange, Stores};
 ghost use Rattle.unfolding.specs.Answer.{unfold_at, unfolded_at};
 
 use drafts::Call;
@@ -298,4 +300,31 @@ pub extern "C" fn gx_fit_all(
     ensures means { (n : ℕ) → items_of pairs.now dict.now total delivered.now d.now out.old ≡ Ok n → MarksItems pairs.now dict.now total delivered.now d.now out.old n }
 {
     pack_reading(items::fit_items(pairs, dict, total, delivered, d, out))
+}
+
+// ---- the shorter stored form
+
+// Writes a description in the shorter stored form from the start of the output: its number of entries, or the refusal.
+#[unsafe(no_mangle)]
+pub extern "C" fn gx_to_stored(d: &[u8], out: &mut [u8]) -> u64
+    ensures answer { (result ≡ pack_reading (stored_of d.now out.old)) × (out.new ≡ stored_in d.now out.old) }
+    ensures refuses { RefusedExactly (stored_of d.now out.old) (StoreRefused d.now out.old) }
+    ensures keeps { NothingWritten (stored_of d.now out.old) (stored_in d.now out.old) out.old }
+    ensures means { (n : ℕ) → stored_of d.now out.old ≡ Ok n → Stores d.now out.old n }
+{
+    pack_reading(stored::to_stored(d, out))
+}
+
+// Writes the description that an input in the shorter stored form is, from the start of the output: its number of entries, or the refusal. Beside
+// what that means stand two laws of the form: when two entries exchanged are refused, and which inputs are accepted in both forms.
+#[unsafe(no_mangle)]
+pub extern "C" fn gx_from_stored(s: &[u8], out: &mut [u8]) -> u64
+    ensures answer { (result ≡ pack_reading (restored_of s.now out.old)) × (out.new ≡ restored_in s.now out.old) }
+    ensures refuses { RefusedExactly (restored_of s.now out.old) (RestoreRefused s.now out.old) }
+    ensures keeps { NothingWritten (restored_of s.now out.old) (restored_in s.now out.old) out.old }
+    ensures means { (n : ℕ) → restored_of s.now out.old ≡ Ok n → Restores s.now out.old n }
+    ensures exchanged { StoredExchange }
+    ensures both { BothForms }
+{
+    pack_reading(stored::from_stored(s, out))
 }

@@ -7,6 +7,7 @@ mod listed;
 mod named;
 mod ranked;
 mod services;
+mod stores;
 mod turns;
 
 use std::fmt::Debug;
@@ -65,6 +66,7 @@ fn main() {
         Some("hierarchy") => return ranked::rows(),
         Some("names") => return named::rows(),
         Some("links") => return one_link_rows(),
+        Some("stored") => return stores::rows(),
         Some("desk") => return desks::rows(),
         _ => {}
     }
@@ -74,6 +76,7 @@ fn main() {
     services::rows();
     ranked::rows();
     desks::rows();
+    stores::rows();
     turns::rows();
 }
 

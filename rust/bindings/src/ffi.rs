@@ -97,6 +97,8 @@ extern "C" {
         out: *mut u8,
         out_len: usize,
     ) -> u64;
+    fn gx_to_stored(d: *const u8, d_len: usize, out: *mut u8, out_len: usize) -> u64;
+    fn gx_from_stored(s: *const u8, s_len: usize, out: *mut u8, out_len: usize) -> u64;
 }
 
 pub(crate) fn read_description(d: &[u8]) -> u64 {
@@ -290,6 +292,16 @@ pub(crate) fn desk_write(desk: &[u8], out: &mut [u8]) -> u64 {
     unsafe { gx_desk_write(desk.as_ptr(), desk.len(), out.as_mut_ptr(), out.len()) }
 }
 
+pub(crate) fn to_stored(d: &[u8], out: &mut [u8]) -> u64 {
+    // SAFETY: the pointers and lengths are those of two slices, and the second is ours alone.
+    unsafe { gx_to_stored(d.as_ptr(), d.len(), out.as_mut_ptr(), out.len()) }
+}
+
+pub(crate) fn from_stored(s: &[u8], out: &mut [u8]) -> u64 {
+    // SAFETY: the pointers and lengths are those of two slices, and the second is ours alone.
+    unsafe { gx_from_stored(s.as_ptr(), s.len(), out.as_mut_ptr(), out.len()) }
+}
+
 #[cfg(test)]
 mod tests {
     use super::*;
@@ -308,6 +320,8 @@ mod tests {
             assert_eq!(gx_fit_counted(null(), 0, null(), 0), EMPTY);
             assert_eq!(gx_normal(null(), 0, null_mut(), 0), EMPTY);
             assert_eq!(gx_compare(null(), 0, null(), 0, null_mut(), 0), EMPTY);
+            assert_eq!(gx_to_stored(null(), 0, null_mut(), 0), EMPTY);
+            assert_eq!(gx_from_stored(null(), 0, null_mut(), 0), EMPTY);
         }
     }
 

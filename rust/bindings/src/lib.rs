@@ -17,6 +17,8 @@
 //! [`Desk`] is a description that is drafted entry by entry, with stands to return to.
 //! [`Under::fit_all`] judges the items of a delivered record, which may be shared, by links that may go round.
 //!
+//! [`to_stored`] writes a description in the shorter stored form, and [`from_stored`] reads it back.
+//!
 //! `k` entries take `512 * k.div_ceil(63).max(1)` bytes, `GX_BYTES(k)` of the C header: a call that writes `k` entries writes
 //! just those bytes, from the start of the output.
 //!
@@ -51,6 +53,7 @@ mod hierarchy;
 mod items;
 mod packed;
 mod refusal;
+mod stored;
 mod under;
 mod unfold;
 
@@ -61,6 +64,7 @@ pub use desk::{Desk, DESK_BYTES};
 pub use hierarchy::{hierarchy, hierarchy_bytes, Hierarchy};
 pub use items::MOST_ITEMS;
 pub use refusal::{Reason, Refusal};
+pub use stored::{from_stored, stored_bytes, to_stored};
 pub use under::Under;
 pub use unfold::unfold;
 

@@ -9,6 +9,7 @@
 mod catalogue;
 mod desk;
 mod hierarchy;
+mod stored;
 
 use std::fmt;
 
@@ -23,6 +24,7 @@ use crate::{length_of, MOST_DESCRIPTION};
 pub use catalogue::catalogue;
 pub use desk::{bytes_of, desk_bytes, is_given, Drafting};
 pub use hierarchy::hierarchy;
+pub use stored::{from_stored, to_stored};
 
 /// What both answered.
 #[derive(Clone, Copy, Debug, PartialEq, Eq, PartialOrd, Ord)]

@@ -3,6 +3,7 @@
 mod catalogue;
 mod desk;
 mod hierarchy;
+mod stored;
 
 use std::collections::BTreeMap;
 use std::fmt;
@@ -158,7 +159,7 @@ impl Rounds {
     ///
     /// The difference.
     pub fn any(&mut self) -> Found {
-        match self.chance.below(74) {
+        match self.chance.below(78) {
             0..=13 => self.pair(),
             14..=17 => self.doubles(),
             18..=24 => self.normal(),
@@ -178,7 +179,9 @@ impl Rounds {
             68 => self.hierarchies(),
             69 => self.wrong_hierarchies(),
             70..=71 => self.desks(),
-            _ => self.damaged_desks(),
+            72..=73 => self.damaged_desks(),
+            74..=75 => self.stores(),
+            _ => self.wrong_stores(),
         }
     }
 

@@ -21,6 +21,7 @@ mod seen;
 mod single;
 mod slots;
 mod specimen;
+mod stored;
 mod unfold;
 
 pub use catalogue::catalogue;
@@ -30,6 +31,7 @@ pub use hierarchy::hierarchy;
 pub use names::unfold;
 pub use normal::{normal_form, normal_with};
 pub use read::{read_description, read_specimen};
+pub use stored::{from_stored, to_stored};
 
 /// The bytes of a block.
 const BLOCK: usize = 512;
@@ -37,7 +39,7 @@ const BLOCK: usize = 512;
 /// What a refused call answers.
 #[derive(Clone, Copy, Debug, PartialEq, Eq)]
 pub struct Refusal {
-    /// The number in the table of refusals, 1 to 9, 11 to 14, 16 to 18 or 20.
+    /// The number in the table of refusals, 1 to 9, 11 to 18 or 20.
     pub number: u8,
     /// The input, 1 or 2; 0 for numbers 7 and 11, 1 + n for the n-th service of a list, 100 for the dictionary and 100 + n for its
     /// n-th description.

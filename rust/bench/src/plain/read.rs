@@ -29,10 +29,16 @@ impl Rules {
     pub fn owns(&self, entry: Entry) -> bool {
         entry.kind() == self.owner_kind
     }
+
+    /// Whether an entry by itself is as the table has it.
+    #[inline]
+    pub fn allows(&self, entry: Entry) -> bool {
+        entry.form_is_right(self.kinds)
+    }
 }
 
 /// A description where no dictionary is taken.
-const DESCRIPTION: Rules = Rules {
+pub const DESCRIPTION: Rules = Rules {
     most_blocks: 16,
     kinds: 1 << HAS | 1 << LACKS | 1 << AT_LEAST | 1 << AT_MOST | 1 << EVERY | 1 << NOTHING,
     owner_kind: EVERY,
@@ -140,7 +146,7 @@ pub fn right_blocks<'a>(
         return Err(refusal(1, input, 0));
     }
     let refused = |(number, place)| refusal(number, input, place);
-    check_blocks(blocks).map_err(refused)?;
+    check_blocks::<8, PER_BLOCK>(blocks).map_err(refused)?;
     Ok(blocks)
 }
 
@@ -179,12 +185,16 @@ pub fn entry_at(bytes: &[u8], number: usize) -> Entry {
     Entry(u64::from_le_bytes(bytes))
 }
 
-fn check_blocks(blocks: &[Block]) -> Result<(), (u8, usize)> {
+/// Checks blocks of entries of WIDTH bytes, ROOM of them to a block.
+#[inline]
+pub fn check_blocks<const WIDTH: usize, const ROOM: usize>(
+    blocks: &[Block],
+) -> Result<(), (u8, usize)> {
     for (index, block) in blocks.iter().enumerate() {
         if !checks_are_right(block) {
             return Err((2, index + 1));
         }
-        if !frame_is_right(block, index + 1, blocks.len()) {
+        if !frame_is_right::<WIDTH, ROOM>(block, index + 1, blocks.len()) {
             return Err((3, index + 1));
         }
     }
@@ -212,16 +222,23 @@ pub fn sums(block: &Block) -> (u16, u16) {
     })
 }
 
-fn frame_is_right(block: &Block, position: usize, blocks: usize) -> bool {
+fn frame_is_right<const WIDTH: usize, const ROOM: usize>(
+    block: &Block,
+    position: usize,
+    blocks: usize,
+) -> bool {
     let used = used(block);
     let fewest = match (position < blocks, blocks) {
-        (true, _) => PER_BLOCK,
+        (true, _) => ROOM,
         (false, 1) => 0,
         _ => 1,
     };
     usize::from(word(block, 0)) == position
-        && (fewest..=PER_BLOCK).contains(&used)
-        && block[4 + 8 * used..508].iter().fold(0, |all, &b| all | b) == 0
+        && (fewest..=ROOM).contains(&used)
+        && block[4 + WIDTH * used..508]
+            .iter()
+            .fold(0, |all, &b| all | b)
+            == 0
 }
 
 fn check_entries<const N: usize>(
