@@ -75,10 +75,11 @@ impl Rounds {
 
     /// One fault in a stored input of so many entries.
     fn damage_stored(&mut self, s: &mut Vec<u8>, entries: usize) {
-        let block = self.chance.below(s.len().div_ceil(BLOCK).max(1)) * BLOCK;
-        if s.len() < block + BLOCK {
+        // One that is cut short stays as it is.
+        if s.is_empty() || !s.len().is_multiple_of(BLOCK) {
             return;
         }
+        let block = self.chance.below(s.len() / BLOCK) * BLOCK;
         let fault = self.chance.below(16);
         if fault < 10 && entries > 0 {
             let at = place_of(1 + self.chance.below(entries));

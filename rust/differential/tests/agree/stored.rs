@@ -50,7 +50,8 @@ fn wrong_ones() {
         let answer = format!("refused {number} input 1");
         assert!(run.tally.count("to stored", &answer) > 5, "{answer}");
     }
-    for number in [1, 2, 3, 4, 6, 15] {
+    // 6 is left for depth 33 under an 'every' of depth 32: `each_depth` has it.
+    for number in [1, 2, 3, 4, 15] {
         let answer = format!("refused {number} input 1");
         assert!(run.tally.count("from stored", &answer) > 5, "{answer}");
     }
