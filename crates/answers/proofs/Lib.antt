@@ -16,6 +16,8 @@ pub mod EntryOrder
 pub mod Order
 -- 7 last, and the numbers of the other refusals.
 pub mod Seven
+-- Rows by the numbers that are returned.
+pub mod ByNumber
 -- The ways of each call: refused, or everything is accepted.
 pub mod Ways
 -- What is promised of the answers, with names.

@@ -4,7 +4,7 @@ use Rattle.std.specs.Prelude.{◌≡◌, ℕ, ◌*◌, ◌+◌, ◌%◌, ◌<◌
 use Rattle.std.proofs.Math.Option.{none, some}
 use mathlib.Core.List.{Memᴰ}
 use Rattle.answers.specs.Promise.{Admitted, SameItemsNamed, normal_bytes, unfolded_list}
-use Rattle.answers.specs.Refusals.{AcceptedBy, ServicesTaken}
+use Rattle.answers.specs.Refusals.{AcceptedBy, NameRefused, ServicesTaken, SizeRefused}
 use Rattle.base.specs.Ascending.{Sorted}
 use Rattle.base.specs.Exchange.{difference}
 use Rattle.blocks.proofs.Format.WordBytes.{Bytes}
@@ -18,15 +18,19 @@ use Rattle.blocks.specs.Reading as read
 use Rattle.blocks.specs.Refusals.{number_of, refused}
 use Rattle.blocks.specs.declared.Cause.{Cause}
 use Rattle.blocks.specs.declared.Entry.{Entry}
-use Rattle.blocks.specs.declared.Schema.TheVariants.{Description}
+use Rattle.blocks.specs.Faults.{faults}
+use Rattle.blocks.specs.declared.Schema.TheVariants.{Description, Specimen}
 use Rattle.blocks.specs.declared.Schema.{Schema}
 use Rattle.catalogue.specs.Answer.{catalogue_of, filled_of}
+use Rattle.clashes.specs.Clash.{specimen_reading}
+use Rattle.clashes.specs.Promise.{LowestClash}
 use Rattle.compare.specs.Answer as comparison
 use Rattle.compare.specs.Answer.{compare_of, compare_under, not_contained, output_of, output_under}
 use Rattle.compare.specs.Promise as compare
 use Rattle.fit.specs.Answer as fit
 use Rattle.fit.specs.Answer.{fit_of, plain_fit}
 use Rattle.fit.specs.Promise.{Shows}
+use Rattle.lists.specs.Parts.{parts_of}
 use Rattle.logic.specs.Background.{standing}
 use Rattle.meaning.specs.FitExamples.{Case, cases}
 use Rattle.meaning.specs.NormalExamples as forms
@@ -34,7 +38,7 @@ use Rattle.meaning.specs.RowEntries.{entry_before}
 use Rattle.meaning.specs.Rules.{Applies}
 use Rattle.meaning.specs.StarredCases as starred
 use Rattle.named.specs.Answer.{compare_named, fit_named, normalise_named, normalised_named, output_named}
-use Rattle.names.specs.NamedReading.{dictionary_reading, plain_of}
+use Rattle.names.specs.NamedReading.{dictionary_reading, named_reading, plain_of}
 use Rattle.names.specs.Promise.{Plain}
 use Rattle.normal.specs.Answer as normal
 use Rattle.normal.specs.Answer.{normalise_of, normalise_under, normalised_of, normalised_under}
@@ -42,6 +46,7 @@ use Rattle.normal.specs.Promise as form
 use Rattle.normal.specs.Promise.{OwnNormalForm}
 use Rattle.pairs.specs.Pairs.{pair_faults, pairs_reading, under}
 use Rattle.pairs.specs.Promise.{ListRead}
+use Rattle.unfolding.specs.Answer.{unfold_at}
 
 -- ---- bytes and entries
 
@@ -153,6 +158,23 @@ SevenLast =
     ↔ (NoneApplies (pair_faults P) × AcceptedBy D d × (length out < length (plain_of D d))))
     × ((P D c d out : List ℕ) → ((comparison.returned (compare_named P D c d out)).number ≡ 7)
     ↔ (NoneApplies (pair_faults P) × AcceptedBy D c × AcceptedBy D d × (length out < length (plain_of D c) + length (plain_of D d))))
+    × ((D d out : List ℕ) → ((read.returned (unfold_at D 1 d out)).number ≡ 7) ↔ (AcceptedBy D d × (length out < length (plain_of D d))))
+    × ((P D c list out : List ℕ) → ((read.returned (catalogue_of P D c list out)).number ≡ 7)
+    ↔ ((NoneApplies (pair_faults P) × (AcceptedBy D c × ServicesTaken D list)) × (length out < length (parts_of list))))
+
+-- 8 of a dictionary, and of a list of services, which is input 2; 12 of a specimen; 13 and 14 of a description
+abbrev pub RowsByNumber : Type 0
+RowsByNumber =
+    ((D : List ℕ) → ((read.returned (dictionary_reading D)).number ≡ 8) ↔ ((length D % 512 ≡ 0) × (64 < length (parts_of D))))
+    × ((P D c list out : List ℕ)
+    → (((read.returned (catalogue_of P D c list out)).number ≡ 8) × ((read.returned (catalogue_of P D c list out)).input ≡ 2))
+    ↔ ((NoneApplies (pair_faults P) × AcceptedBy D c) × ((length list % 512 ≡ 0) × (64 < length (parts_of list)))))
+    × ((P s : List ℕ) → ((read.returned (specimen_reading P s)).number ≡ 12)
+    ↔ ((NoneApplies (pair_faults P) × NoneApplies (faults Specimen s))
+    × LowestClash P (entries_of s) ((read.returned (specimen_reading P s)).place)))
+    × ((K : List (List Entry)) (i : ℕ) (s : List ℕ) → ((read.returned (named_reading K i s)).number ≡ 13)
+    ↔ NameRefused K s ((read.returned (named_reading K i s)).place))
+    × ((K : List (List Entry)) (i : ℕ) (s : List ℕ) → ((read.returned (named_reading K i s)).number ≡ 14) ↔ SizeRefused K s)
 
 abbrev pub YesAndNo : Type 0
 YesAndNo =

@@ -9,7 +9,7 @@
 #![tactic(auto)]
 
 ghost use Rattle.laws.specs.Laws.{BytesAndEntries, ExchangeOtherwise, ExchangeRefused, WrittenIsAccepted};
-ghost use Rattle.laws.specs.Laws.{DeskExamples, RulesLeaveNothingOut, SevenLast, YesAndNo};
+ghost use Rattle.laws.specs.Laws.{DeskExamples, RowsByNumber, RulesLeaveNothingOut, SevenLast, YesAndNo};
 ghost use Rattle.laws.specs.Laws.{AsUnfolded, ContainedFits, EmptyListAsBefore, WithoutNames};
 ghost use Rattle.laws.specs.Laws.{OneSetOfBytes, SameBytesContained, SameBytesExactly};
 
@@ -73,6 +73,12 @@ pub fn without_names()
 // answer never gives it.
 pub fn seven_last()
     ensures { SevenLast }
+{}
+
+// [R8] [R12] [R13] [R14] Rows by the numbers that are returned: 8 for more than 64 descriptions, 12 at the lowest entry
+// that completes a pair, 13 at a name that may not be given, 14 for what is too large once unfolded; each exactly then.
+pub fn rows_by_number()
+    ensures { RowsByNumber }
 {}
 
 // [K6] The numbers of the comparison's answers: yes and no have number 0, and a refusal is neither.
