@@ -112,6 +112,7 @@ static void make_inputs(void) {
 
 static void read_description(void) { answer = gx_read_description(wide, sizeof wide); }
 static void read_specimen(void) { answer = gx_read_specimen(groups, sizeof groups); }
+static void read_sheet(void) { answer = gx_read_sheet(wide, sizeof wide); }
 static void fit(void) { answer = gx_fit(groups, sizeof groups, places, sizeof places); }
 static void fit_counted(void) { answer = gx_fit_counted(groups, sizeof groups, places, sizeof places); }
 static void normal(void) { answer = gx_normal(wide, sizeof wide, out, sizeof out); }
@@ -194,6 +195,7 @@ int main(void) {
     printf("an empty call: %zu bytes\n", used_by(nothing));
     show("gx_read_description", read_description);
     show("gx_read_specimen", read_specimen);
+    show("gx_read_sheet", read_sheet);
     show("gx_fit", fit);
     show("gx_fit_counted", fit_counted);
     show("gx_normal", normal);

@@ -38,8 +38,8 @@
  * that place. A description of the dictionary may name only earlier ones. gx_unfold writes the plain description that is meant.
  * All answers and written bytes, numbers of entries included, are those for the unfolded descriptions, and an output is measured
  * by them too; one of them has at most GX_BYTES(1008) bytes. The limit of 16 blocks is about a description as it is sent. gx_fit,
- * gx_fit_counted, gx_normal and gx_compare have a dictionary of length 0, so they refuse every name with 13; the two readers,
- * gx_hierarchy, gx_to_stored and gx_from_stored take no dictionary and refuse kind 9 with 4.
+ * gx_fit_counted, gx_normal and gx_compare have a dictionary of length 0, so they refuse every name with 13; the three readers,
+ * gx_hierarchy, gx_earning, gx_to_stored, gx_from_stored and a desk take no dictionary and refuse kind 9 with 4.
  *
  * Lists of services. gx_catalogue and gx_hierarchy take 1 to 64 descriptions laid end to end: the first block and each later one numbered 1
  * begins a service. Only the stored number counts for this, and it is looked at before any check: a block whose number is damaged
@@ -65,7 +65,7 @@
  * The refusals, of which the first that applies is answered: 11 before all others, then the dictionary's, which are 1, 8 and
  * then those of its descriptions, one after the other, then those of input 1, those of input 2, and 7 last. Those of a list of
  * services are 1, 8 and then those of its services, one after the other. In one input 1, then the lowest block that breaks 2 or
- * 3, 2 before 3, then the lowest entry that breaks 4, 13, 10, 15, 5, 6 or 9, in that order, and 12 or 14 after all of these.
+ * 3, 2 before 3, then the lowest entry that breaks 4, 13, 10, 15, 5, 6, 9 or 19, in that order, and 12 or 14 after all of these.
  * The 10 of a total comes before the 1 of its record:
  *
  *     number   when                                                                              place
@@ -100,6 +100,8 @@
  *     17       an entry is taken off a desk that holds none                                      0
  *     18       a stand's number is 0; or, to name one, it is not known and four are; or, to go
  *              back to it or drop it, it is not known                                            0
+ *     19       an entry of a field sheet is of another kind than 1, 3, 4 and 5, has a number
+ *              over 99, or stands more than 3 links deep                                         entry
  *     20       a desk's buffer is shorter than GX_DESK_BYTES, or holds what no list of calls
  *              gives                                                                             0
  *
@@ -112,6 +114,7 @@
  *
  *     gx_read_description    2,232 bytes
  *     gx_read_specimen      26,568 bytes
+ *     gx_read_sheet          @SHEET@ bytes
  *     gx_fit                50,248 bytes
  *     gx_fit_counted        50,200 bytes
  *     gx_normal             56,760 bytes
@@ -166,6 +169,15 @@ uint64_t gx_read_description(const uint8_t *d, size_t d_len);
  * Reading takes no list, so it never refuses with 12.
  */
 uint64_t gx_read_specimen(const uint8_t *s, size_t s_len);
+
+/*
+ * Reads the field sheet d: a count, its number of entries; or refused. A field sheet is a description whose entries are of kinds 1, 3,
+ * 4 and 5, with numbers of at most 99, at most 3 links deep; an 'every' that stands there owns nothing. It is accepted exactly where
+ * gx_read_description accepts it, with the same count, and each entry is one of a sheet. It is refused with 19, which no other call
+ * answers, at the lowest entry that is not, where nothing else refuses the blocks, an entry before that one, or that one itself. Any
+ * other refusal is that of gx_read_description.
+ */
+uint64_t gx_read_sheet(const uint8_t *d, size_t d_len);
 
 /* Whether the top item of the specimen s, input 1, fits the description d, input 2: yes or no; or refused. */
 uint64_t gx_fit(const uint8_t *s, size_t s_len, const uint8_t *d, size_t d_len);

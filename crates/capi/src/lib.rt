@@ -1,4 +1,4 @@
-// The library's calls for C and Rust [K4]: twenty-two functions under their plain names, each slice a pointer and a
+// The library's calls for C and Rust [K4]: twenty-three functions under their plain names, each slice a pointer and a
 // length. Each is total [K1] and has, for its result and each byte that it may write, the equation of the call that
 // it wraps [K2], with the answer as one number of 64 bits [K5]; include/goltximen.h states the terms for a C program.
 //
@@ -11,7 +11,7 @@
 #![tactic(auto)]
 
 ghost use Rattle.std.specs.Prelude.{◌≡◌, ℕ, Bool, List, [], Ok};
-ghost use Rattle.answers.specs.Calls.{CountsPlainly, DecidedPlainly, FitsPlainly, NormalisesPlainly, NothingWritten, ReadExactly, RefusedExactly, Unfolds};
+ghost use Rattle.answers.specs.Calls.{CountsPlainly, DecidedPlainly, FirstLine, FitsPlainly, NormalisesPlainly, NothingWritten, ReadExactly, RefusedExactly, Unfolds};
 ghost use Rattle.answers.specs.Earning.{AskedRefused, Earns};
 ghost use Rattle.answers.specs.Items.{ItemsRefused, MarksItems};
 ghost use Rattle.answers.specs.Promise.{ComparableNamed, DecidedNamed, Fills, FitsNamedExactly, JudgeableNamed, NormalisesNamed};
@@ -33,6 +33,8 @@ ghost use Rattle.items.specs.Answer.{items_of, marked_of};
 ghost use Rattle.named.specs.Answer.{compare_named, counted_named, fit_named, normalise_named, normalised_named, output_named};
 ghost use Rattle.packing.specs.Packing.{pack_comparison, pack_counted, pack_fit, pack_reading};
 ghost use Rattle.pairs.specs.Promise.{ListRead};
+ghost use Rattle.sheets.specs.Promise.{SheetRead};
+ghost use Rattle.sheets.specs.Sheet.{sheet_faults, sheet_reading};
 ghost use Rattle.stored.specs.Answer.{restored_in, restored_of, stored_in, stored_of};
 ghost use Rattle.stored.specs.Promise.{BothForms, RestoreRefused, Restores, StoreRefused, StoredExchange, Stores};
 ghost use Rattle.unfolding.specs.Answer.{unfold_at, unfolded_at};
@@ -56,6 +58,16 @@ pub extern "C" fn gx_read_specimen(s: &[u8]) -> u64
     ensures exactly { ReadExactly Schema.Specimen s.now }
 {
     pack_reading(reading::read_specimen(s))
+}
+
+// Reads a field sheet as input 1: its number of entries, or the refusal, 19 at an entry that no sheet has.
+#[unsafe(no_mangle)]
+pub extern "C" fn gx_read_sheet(d: &[u8]) -> u64
+    ensures answer { result ≡ pack_reading (sheet_reading d.now) }
+    ensures refuses { RefusedExactly (sheet_reading d.now) (FirstLine (sheet_faults d.now)) }
+    ensures means { SheetRead d.now }
+{
+    pack_reading(sheets::read_sheet(d))
 }
 
 // Writes the plain description that a description stands for under a dictionary from the start of the output: its number of entries, or the

@@ -1,6 +1,6 @@
 -- The laws that src/lib.rt lists, each under the name of its function.
 -- Assumes nothing.
-use Rattle.std.specs.Prelude.{◌≡◌, ℕ, ◌*◌, ◌+◌, ◌%◌, ◌<◌, ◌≤◌, true, false, List, [], length, None, Ok, ◌≢◌, ◌↔◌}
+use Rattle.std.specs.Prelude.{◌≡◌, ℕ, ◌*◌, ◌+◌, ◌%◌, ◌<◌, ◌≤◌, true, false, List, [], length, None, Ok, ◌≢◌, ◌↔◌, ◌⊎◌}
 use Rattle.std.proofs.Math.Option.{none, some}
 use mathlib.Core.List.{Memᴰ}
 use Rattle.answers.specs.Promise.{Admitted, SameItemsNamed, normal_bytes, unfolded_list}
@@ -31,7 +31,9 @@ use Rattle.fit.specs.Answer as fit
 use Rattle.fit.specs.Answer.{fit_of, plain_fit}
 use Rattle.fit.specs.Promise.{Shows}
 use Rattle.lists.specs.Parts.{parts_of}
-use Rattle.logic.specs.Background.{standing}
+use Rattle.logic.specs.Background.{Keeps, standing}
+use Rattle.logic.specs.Record.{Record, fits}
+use Rattle.meaning.specs.Description.{place_of}
 use Rattle.meaning.specs.FitExamples.{Case, cases}
 use Rattle.meaning.specs.NormalExamples as forms
 use Rattle.meaning.specs.RowEntries.{entry_before}
@@ -39,6 +41,7 @@ use Rattle.meaning.specs.Rules.{Applies}
 use Rattle.meaning.specs.StarredCases as starred
 use Rattle.named.specs.Answer.{compare_named, fit_named, normalise_named, normalised_named, output_named}
 use Rattle.names.specs.NamedReading.{dictionary_reading, named_reading, plain_of}
+use Rattle.narrow.specs.Narrowest.{narrowest_entries}
 use Rattle.names.specs.Promise.{Plain}
 use Rattle.normal.specs.Answer as normal
 use Rattle.normal.specs.Answer.{normalise_of, normalise_under, normalised_of, normalised_under}
@@ -46,6 +49,7 @@ use Rattle.normal.specs.Promise as form
 use Rattle.normal.specs.Promise.{OwnNormalForm}
 use Rattle.pairs.specs.Pairs.{pair_faults, pairs_reading, under}
 use Rattle.pairs.specs.Promise.{ListRead}
+use Rattle.sheets.specs.Sheet.{sheet_reading}
 use Rattle.unfolding.specs.Answer.{unfold_at}
 
 -- ---- bytes and entries
@@ -76,6 +80,19 @@ abbrev pub ExchangeOtherwise : Type 0
 ExchangeOtherwise =
     Exchanges (λ σ i s t b e p. (p * difference (entry_words plain s b e) (entry_words plain s b (e + p))) % 16384 ≡ 0
     → (k : Cause) (j q : ℕ) → reading_of σ i t ≡ refused k j q → 4 ≤ number_of k)
+
+-- ---- field sheets
+
+-- the narrowest description that contains c and d, under no list of pairs
+abbrev pub narrowest_of : List ℕ → List ℕ → List Entry
+narrowest_of c d = narrowest_entries standing [] (entries_of c) (entries_of d)
+
+-- it is a field sheet where c and d are, some item of some record fits one of them, and one description has room for it
+abbrev pub NarrowestOfSheets : Type 0
+NarrowestOfSheets =
+    (c d : List ℕ) (n m : ℕ) → sheet_reading c ≡ Ok n → sheet_reading d ≡ Ok m → (R : Record) → Keeps standing R → (x : ℕ) → x < R.size
+    → (fits R (place_of (entries_of c) 0) x ≡ true) ⊎ (fits R (place_of (entries_of d) 0) x ≡ true)
+    → length (narrowest_of c d) ≤ 1008 → sheet_reading (encode (narrowest_of c d)) ≡ Ok (length (narrowest_of c d))
 
 -- ---- the desk's examples
 

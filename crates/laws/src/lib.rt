@@ -9,7 +9,7 @@
 #![tactic(auto)]
 
 ghost use Rattle.laws.specs.Laws.{BytesAndEntries, ExchangeOtherwise, ExchangeRefused, WrittenIsAccepted};
-ghost use Rattle.laws.specs.Laws.{DeskExamples, RowsByNumber, RulesLeaveNothingOut, SevenLast, YesAndNo};
+ghost use Rattle.laws.specs.Laws.{DeskExamples, NarrowestOfSheets, RowsByNumber, RulesLeaveNothingOut, SevenLast, YesAndNo};
 ghost use Rattle.laws.specs.Laws.{AsUnfolded, ContainedFits, EmptyListAsBefore, WithoutNames};
 ghost use Rattle.laws.specs.Laws.{OneSetOfBytes, SameBytesContained, SameBytesExactly};
 
@@ -46,6 +46,12 @@ pub fn one_set_of_bytes()
     ensures exactly { SameBytesExactly }
     ensures accepted { OneSetOfBytes }
     ensures compared { SameBytesContained }
+{}
+
+// [W6] With no excluding pairs, the narrowest description of two field sheets is read as a field sheet, where some item
+// of some record fits at least one of them.
+pub fn narrowest_of_sheets()
+    ensures { NarrowestOfSheets }
 {}
 
 // [C15] What fits a description fits every description that contains it.

@@ -1,16 +1,17 @@
--- What is promised of reading a sheet: accepted exactly where it is as a description and each entry is in the profile;
+-- What is promised of reading a sheet: refused exactly by the first line that applies; accepted exactly where it is as a description and each entry is in the profile;
 -- any refusal but 19 is that of the description; and 19 exactly at the lowest entry outside the profile.
 -- Assumes nothing.
 use Rattle.std.proofs.Common.{◌≡◌, ◌≢◌, ◌↔◌, ℕ, List, length, Ok, sym, refl, ◌∙◌, arith}
 use Rattle.base.proofs.Missing.{not-true}
 use Rattle.base.proofs.Tests.{bool_cases, both_ways}
-use Rattle.blocks.proofs.Refusing.FirstFault.{clean-none, first-append, none-clean}
+use Rattle.blocks.proofs.Refusing.FirstFault.{clean-none, first-append, first_found, found_first, none-clean}
 use Rattle.blocks.proofs.Refusing.Readings.{accepted-finding, refused-finding}
 use Rattle.blocks.proofs.RoundTrip.RefusalNumbers.{description-number}
 use Rattle.blocks.specs.Entries.{entries_of, form_ok, nth}
 use Rattle.blocks.specs.Faults.{Clean, Fault, Faulty, entry_faults, entry_rows, faults, first}
 use Rattle.blocks.specs.Frame.{plain, total_in}
 use Rattle.blocks.specs.Owners.{depth_ok, owner_ok}
+use Rattle.blocks.specs.Promise.{FirstOf}
 use Rattle.blocks.specs.Reading.{reading_of}
 use Rattle.blocks.specs.Refusals.{refused}
 use Rattle.blocks.specs.declared.Cause.{Cause}
@@ -116,5 +117,14 @@ module _ (s : List ℕ) where
         rw (sheet-lines, g, h.0),
   )
 
+  pub first-line : (k : Cause) (i p : ℕ) → (sheet_reading s ≡ refused k i p) ↔ ((i ≡ 1) × FirstOf (sheet_faults s) k p)
+  unfolding sheet_reading
+  first-line k i p = (
+    λ e.
+        let f = refused-finding 1 (total_in plain s) (first (sheet_faults s)) e in
+        (f.0, found_first (sheet_faults s) k p f.1),
+    λ h. let z = h.0 in rw (z, first_found (sheet_faults s) k p h.1),
+  )
+
   pub sheet-read : SheetRead s
-  sheet-read = record { accepted = sheet-exactly; others = other-than-nineteen; outside = nineteen-found }
+  sheet-read = record { first = first-line; accepted = sheet-exactly; others = other-than-nineteen; outside = nineteen-found }

@@ -4,14 +4,14 @@ use Rattle.std.specs.Prelude.{◌≡◌, ◌≢◌, ◌↔◌, ◌<◌, ◌≤�
 use Rattle.blocks.specs.Entries.{entries_of}
 use Rattle.blocks.specs.Faults.{block_faults, entry_rows, fault, length_wrong}
 use Rattle.blocks.specs.Frame.{blocks_in, plain}
-use Rattle.blocks.specs.Promise.{NoneApplies}
+use Rattle.blocks.specs.Promise.{FirstOf, NoneApplies}
 use Rattle.blocks.specs.Reading.{reading_of}
 use Rattle.blocks.specs.Refusals.{refused}
 use Rattle.blocks.specs.declared.Cause.{Cause}
 use Rattle.blocks.specs.declared.Cause.TheVariants.{Length, Profile}
 use Rattle.blocks.specs.declared.Schema.TheVariants.{Description}
 use Rattle.narrow.specs.Profile.{InProfile, Sheet}
-use Rattle.sheets.specs.Sheet.{sheet_reading}
+use Rattle.sheets.specs.Sheet.{sheet_faults, sheet_reading}
 
 -- [W4] entry p of s is the lowest outside the profile, and no other line applies to the blocks, to an entry before it,
 -- or to itself
@@ -26,6 +26,8 @@ pub record LowestOutside (s : List ℕ) (p : ℕ) : Type 0 where
 
 -- what reading s as a sheet answers
 pub record SheetRead (s : List ℕ) : Type 0 where
+  -- [R24, W3] it is refused exactly by the first line that applies, as input 1
+  pub first : (k : Cause) (i p : ℕ) → (sheet_reading s ≡ refused k i p) ↔ ((i ≡ 1) × FirstOf (sheet_faults s) k p)
   -- [W2] it is accepted exactly where it is as a description, with as many entries, and each is in the profile
   pub accepted : (n : ℕ) → (sheet_reading s ≡ Ok n) ↔ ((reading_of Description 1 s ≡ Ok n) × Sheet (entries_of s))
   -- [W3] any refusal but 19 is that of the description

@@ -1,9 +1,9 @@
-// Reads vectors from standard input, at most 1,600, makes the call of each, and prints a line for each: the vector's
+// Reads vectors from standard input, at most 3,000, makes the call of each, and prints a line for each: the vector's
 // number, the call, the answer, and for a call with an output a digest of all the output's bytes [K8]. The vectors,
 // and the lines to be printed, are made by the version of other hands (rust/reference), which `make vectors` runs.
 //
 // A vector is a header of eight words, low byte first, and then the bytes of its list of pairs, its dictionary and its two inputs. The words:
-// the call (1 read a description, 2 read a specimen, 3 fit, 4 normal form, 5 compare, 6 unfold, 7 catalogue, 8 hierarchy), the lengths of these four, the
+// the call (1 read a description, 2 read a specimen, 3 fit, 4 normal form, 5 compare, 6 unfold, 7 catalogue, 8 hierarchy, 9 read a field sheet), the lengths of these four, the
 // length of the output, and two that are 0. No dictionary and no second input is longer than 33,792 bytes, 66 blocks, and nothing else than
 // 17,408, 34 blocks. Each byte of the output is 165 before the call.
 #![tactic(auto)]
@@ -105,10 +105,11 @@ fn run_call(rt: &impl Print, v: &Vector, out: &mut [u8]) -> io::Result<()> {
             let answer = catalogue::catalogue(v.pairs, v.dictionary, v.first, v.second, out);
             print_written(rt, "catalogue", answer, out)
         }
-        _ => {
+        8 => {
             let answer = hierarchy::hierarchy(v.pairs, v.second, out);
             print_written(rt, "hierarchy", answer, out)
         }
+        _ => print_reading(rt, "sheet", sheets::read_sheet(v.first)),
     }
 }
 
@@ -150,7 +151,7 @@ fn next_vector(rt: &(impl Print + Input), n: u64) -> io::Result<bool> {
 }
 
 fn main(rt: HostRuntime) -> io::Result<()> {
-    for n in 1..=1600u64 {
+    for n in 1..=3000u64 {
         if !next_vector(&rt, n)? {
             break;
         }

@@ -192,6 +192,24 @@ pub fn with_middle(kind: u8, name: u16, entries: &[Entry]) -> Vec<Entry> {
     entries
 }
 
+/// A field sheet of this many entries: has, at least and at most with numbers of at most 99, all at the top, or spread over the top
+/// and a chain of three 'every'.
+pub fn sheet(entries: usize, shape: Shape, chance: &mut Chance) -> Vec<Entry> {
+    let chain = match shape {
+        Shape::Wide => 0,
+        Shape::Deep => 3,
+    };
+    let every = (0..chain).map(|owner| entry(5, owner, 1, 0));
+    let mut sheet: Vec<Entry> = every.collect();
+    while sheet.len() < entries {
+        let kind = [1, 3, 4][chance.below(3)];
+        let number = if kind == 1 { 0 } else { chance.below(100) };
+        let (owner, name) = (chance.below(chain + 1), chance.name(65_535));
+        sheet.push(entry(kind, owner, name, number as u16));
+    }
+    sheet
+}
+
 /// An 'every' of link 1 that owns 1,007 at most of different links.
 fn every_at_most() -> Vec<u8> {
     let owned = (1..=1007).map(|link| entry(4, 1, link, 0));

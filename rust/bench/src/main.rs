@@ -7,6 +7,7 @@ mod listed;
 mod named;
 mod ranked;
 mod services;
+mod sheets;
 mod stores;
 mod turns;
 
@@ -66,6 +67,7 @@ fn main() {
         Some("hierarchy") => return ranked::rows(),
         Some("names") => return named::rows(),
         Some("links") => return one_link_rows(),
+        Some("sheets") => return sheets::rows(),
         Some("stored") => return stores::rows(),
         Some("desk") => return desks::rows(),
         _ => {}
@@ -77,6 +79,7 @@ fn main() {
     ranked::rows();
     desks::rows();
     stores::rows();
+    sheets::rows();
     turns::rows();
 }
 

@@ -7,6 +7,7 @@
 extern "C" {
     fn gx_read_description(d: *const u8, d_len: usize) -> u64;
     fn gx_read_specimen(s: *const u8, s_len: usize) -> u64;
+    fn gx_read_sheet(d: *const u8, d_len: usize) -> u64;
     fn gx_fit(s: *const u8, s_len: usize, d: *const u8, d_len: usize) -> u64;
     fn gx_fit_counted(s: *const u8, s_len: usize, d: *const u8, d_len: usize) -> u64;
     fn gx_normal(d: *const u8, d_len: usize, out: *mut u8, out_len: usize) -> u64;
@@ -109,6 +110,11 @@ pub(crate) fn read_description(d: &[u8]) -> u64 {
 pub(crate) fn read_specimen(s: &[u8]) -> u64 {
     // SAFETY: the pointer and the length are those of a slice.
     unsafe { gx_read_specimen(s.as_ptr(), s.len()) }
+}
+
+pub(crate) fn read_sheet(d: &[u8]) -> u64 {
+    // SAFETY: the pointer and the length are those of a slice.
+    unsafe { gx_read_sheet(d.as_ptr(), d.len()) }
 }
 
 pub(crate) fn fit(s: &[u8], d: &[u8]) -> u64 {
@@ -316,6 +322,7 @@ mod tests {
         unsafe {
             assert_eq!(gx_read_description(null(), 0), EMPTY);
             assert_eq!(gx_read_specimen(null(), 0), EMPTY);
+            assert_eq!(gx_read_sheet(null(), 0), EMPTY);
             assert_eq!(gx_fit(null(), 0, null(), 0), EMPTY);
             assert_eq!(gx_fit_counted(null(), 0, null(), 0), EMPTY);
             assert_eq!(gx_normal(null(), 0, null_mut(), 0), EMPTY);

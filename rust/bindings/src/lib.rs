@@ -162,6 +162,37 @@ pub fn read_specimen(s: &[u8]) -> Result<u16, Refusal> {
     packed::count(ffi::read_specimen(s))
 }
 
+/// Reads a field sheet, a description of a small profile, and returns its number of entries: kinds 1, 3, 4 and 5 only, with
+/// numbers of at most 99, at most 3 links deep. What is accepted is accepted by [`read_description`] too, with the same number.
+///
+/// ```
+/// use goltximen::{read_description, read_sheet, Reason};
+///
+/// // One block with one entry: "has property 7".
+/// let mut d = [0u8; 512];
+/// (d[0], d[2], d[4], d[8]) = (1, 1, 1, 7);
+/// d[508] = 1 + 2 * 1 + 3 * 1 + 5 * 7;
+/// d[510] = 1 + 1 + 1 + 7 + d[508];
+/// assert_eq!(read_sheet(&d), Ok(1));
+///
+/// // "lacks property 7" is a description, and of no field sheet.
+/// d[4] = 2;
+/// d[508] = 1 + 2 * 1 + 3 * 2 + 5 * 7;
+/// d[510] = 1 + 1 + 2 + 7 + d[508];
+/// assert_eq!(read_description(&d), Ok(1));
+/// let refusal = read_sheet(&d).unwrap_err();
+/// assert_eq!(refusal.reason, Reason::Sheet);
+/// assert_eq!(refusal.to_string(), "refused 19 input 1 place 1");
+/// ```
+///
+/// # Errors
+///
+/// The refusal by the first number of the table that applies: at one entry [`Reason::Sheet`] after all others. Any other refusal is
+/// that of [`read_description`].
+pub fn read_sheet(d: &[u8]) -> Result<u16, Refusal> {
+    packed::count(ffi::read_sheet(d))
+}
+
 /// Whether the top item of a specimen, input 1, fits a description, input 2.
 ///
 /// ```

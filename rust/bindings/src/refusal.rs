@@ -5,8 +5,7 @@ use std::fmt;
 
 /// Why an input or an output is refused: a number of the table of refusals.
 ///
-/// The calls of today answer 1 to 18 and 20. The other numbers belong to calls that are still to come; they stand here so
-/// that a match over the reasons stays whole when those come.
+/// Each call says which of them it answers.
 #[derive(Clone, Copy, Debug, PartialEq, Eq, Hash)]
 #[repr(u8)]
 pub enum Reason {

@@ -9,6 +9,7 @@
 mod catalogue;
 mod desk;
 mod hierarchy;
+mod sheets;
 mod stored;
 
 use std::fmt;
@@ -24,6 +25,7 @@ use crate::{length_of, MOST_DESCRIPTION};
 pub use catalogue::catalogue;
 pub use desk::{bytes_of, desk_bytes, is_given, Drafting};
 pub use hierarchy::hierarchy;
+pub use sheets::read_sheet;
 pub use stored::{from_stored, to_stored};
 
 /// What both answered.

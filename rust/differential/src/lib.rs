@@ -6,8 +6,8 @@
 //! exactly if each is contained in the other, and 'contained' has to be true in small records. Records and specimens
 //! keep the rule that links from 32,768 up never lead to two items, and the list of properties that exclude each
 //! other which a call is given. A call with a dictionary has to give what the call without one gives for the unfolded
-//! descriptions, and the catalogue and the hierarchy what single comparisons give. A drafting desk has to hold what the
-//! reference's desk holds after the same calls.
+//! descriptions, the catalogue and the hierarchy what single comparisons give, and a field sheet what its profile says of
+//! a description. A drafting desk has to hold what the reference's desk holds after the same calls.
 //!
 //! | Module | Subject |
 //! |---|---|

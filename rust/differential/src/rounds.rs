@@ -3,6 +3,7 @@
 mod catalogue;
 mod desk;
 mod hierarchy;
+mod sheets;
 mod stored;
 
 use std::collections::BTreeMap;
@@ -159,7 +160,7 @@ impl Rounds {
     ///
     /// The difference.
     pub fn any(&mut self) -> Found {
-        match self.chance.below(78) {
+        match self.chance.below(80) {
             0..=13 => self.pair(),
             14..=17 => self.doubles(),
             18..=24 => self.normal(),
@@ -181,6 +182,7 @@ impl Rounds {
             70..=71 => self.desks(),
             72..=73 => self.damaged_desks(),
             74..=75 => self.stores(),
+            76..=77 => self.sheets(),
             _ => self.wrong_stores(),
         }
     }
@@ -265,7 +267,7 @@ impl Rounds {
         Ok(answer)
     }
 
-    /// Reads the bytes as a description and as a specimen.
+    /// Reads the bytes as a description, as a specimen and as a field sheet.
     ///
     /// # Errors
     ///
@@ -278,7 +280,7 @@ impl Rounds {
         self.tally
             .add("read description", With::default(), description);
         self.tally.add("read specimen", With::default(), specimen);
-        Ok(())
+        self.read_sheet(bytes)
     }
 
     /// A description compared with others: one drawn on its own, a weaker one, and one that misses by an entry.

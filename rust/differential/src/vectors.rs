@@ -16,7 +16,7 @@
 //! After byte 15 come the list, the dictionary, input 1 and input 2, with nothing between them and nothing before the next header.
 //! The fit answer, the normal form, the comparison and the catalogue are always made with the list and the dictionary, which may be
 //! empty; the unfolding is made with the dictionary, and its list has length 0; the hierarchy is made with the list, and its
-//! dictionary and its input 1 have length 0; the two readers take neither. A call without pairs is one with a list of length 0, and
+//! dictionary and its input 1 have length 0; the three readers take neither. A call without pairs is one with a list of length 0, and
 //! one without a dictionary one with a dictionary of length 0. No length of a dictionary is above [`MOST_DICTIONARY`], none of a
 //! list of services above [`MOST_LIST`], and no other above [`MOST_LENGTH`]. Each byte of the output is [`FILL`] before the call.
 
@@ -36,7 +36,7 @@ pub const MOST_DICTIONARY: usize = 33_792;
 /// The most bytes of the list of services of a vector: 66 blocks.
 pub const MOST_LIST: usize = 33_792;
 /// The most vectors of a list.
-pub const MOST_VECTORS: usize = 1600;
+pub const MOST_VECTORS: usize = 3000;
 /// What the digest of an output stays below, the largest prime below 2^32.
 const MODULUS: u64 = 4_294_967_291;
 
@@ -59,12 +59,17 @@ pub enum Call {
     Catalogue = 7,
     /// The services of the list in input 2 ranked, under the list of pairs.
     Hierarchy = 8,
+    /// Input 1 is read as a field sheet.
+    Sheet = 9,
 }
 
 impl Call {
     /// Whether the call has an output.
     pub fn writes(self) -> bool {
-        !matches!(self, Call::Description | Call::Specimen | Call::Fit)
+        !matches!(
+            self,
+            Call::Description | Call::Specimen | Call::Sheet | Call::Fit
+        )
     }
 }
 
@@ -79,6 +84,7 @@ impl fmt::Display for Call {
             Call::Unfold => "unfold",
             Call::Catalogue => "catalogue",
             Call::Hierarchy => "hierarchy",
+            Call::Sheet => "sheet",
         })
     }
 }
@@ -157,6 +163,11 @@ impl Vector {
     /// Reading as a specimen.
     pub fn specimen(first: Vec<u8>) -> Vector {
         Vector::of(Call::Specimen, first, Vec::new(), 0)
+    }
+
+    /// Reading as a field sheet.
+    pub fn sheet(first: Vec<u8>) -> Vector {
+        Vector::of(Call::Sheet, first, Vec::new(), 0)
     }
 
     /// The fit answer.
@@ -242,6 +253,7 @@ impl Vector {
         let answer = match self.call {
             Call::Description => reference::read_description(first).map(Answer::Accepted),
             Call::Specimen => reference::read_specimen(first).map(Answer::Accepted),
+            Call::Sheet => reference::read_sheet(first).map(Answer::Accepted),
             Call::Fit => reference::fit_with(pairs, dict, first, second).map(Answer::Fits),
             Call::NormalForm => {
                 reference::normal_with(pairs, dict, first, &mut out).map(Answer::Wrote)
@@ -291,6 +303,7 @@ pub fn all() -> Vec<Vector> {
         named::naming::all(),
         named::catalogue::all(),
         named::hierarchy::all(),
+        named::sheets::all(),
         named::doubles::all(),
         named::desk(),
         named::report(),

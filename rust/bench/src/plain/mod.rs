@@ -30,7 +30,7 @@ pub use fit::{fit, fit_with};
 pub use hierarchy::hierarchy;
 pub use names::unfold;
 pub use normal::{normal_form, normal_with};
-pub use read::{read_description, read_specimen};
+pub use read::{read_description, read_sheet, read_specimen};
 pub use stored::{from_stored, to_stored};
 
 /// The bytes of a block.
@@ -39,7 +39,7 @@ const BLOCK: usize = 512;
 /// What a refused call answers.
 #[derive(Clone, Copy, Debug, PartialEq, Eq)]
 pub struct Refusal {
-    /// The number in the table of refusals, 1 to 9, 11 to 18 or 20.
+    /// The number in the table of refusals, 1 to 20.
     pub number: u8,
     /// The input, 1 or 2; 0 for numbers 7 and 11, 1 + n for the n-th service of a list, 100 for the dictionary and 100 + n for its
     /// n-th description.

@@ -21,6 +21,9 @@ pub struct Rules {
     owner_kind: u16,
     /// Whether a named entry is one whose name is not there, and otherwise one of a wrong kind.
     names: bool,
+    /// The largest number, and the deepest that an entry may stand.
+    most_number: u16,
+    deepest: u8,
 }
 
 impl Rules {
@@ -43,6 +46,16 @@ pub const DESCRIPTION: Rules = Rules {
     kinds: 1 << HAS | 1 << LACKS | 1 << AT_LEAST | 1 << AT_MOST | 1 << EVERY | 1 << NOTHING,
     owner_kind: EVERY,
     names: false,
+    most_number: u16::MAX,
+    deepest: DEEPEST,
+};
+
+/// A field sheet. What it refuses and a description does not is outside its profile.
+const SHEET: Rules = Rules {
+    kinds: 1 << HAS | 1 << AT_LEAST | 1 << AT_MOST | 1 << EVERY,
+    most_number: 99,
+    deepest: 3,
+    ..DESCRIPTION
 };
 
 /// A description where a dictionary is taken, of length 0.
@@ -55,7 +68,7 @@ pub const SPECIMEN: Rules = Rules {
     most_blocks: 32,
     kinds: 1 << HAS | 1 << GROUP,
     owner_kind: GROUP,
-    names: false,
+    ..DESCRIPTION
 };
 
 /// A description of a call that takes a dictionary.
@@ -102,6 +115,14 @@ pub fn read_service(bytes: &[u8], input: u16) -> Result<usize, Refusal> {
     match size(bytes.len()) {
         Size::Small => read::<64>(bytes, &DESCRIPTION, input, |_, _| ()),
         _ => read::<1024>(bytes, &DESCRIPTION, input, |_, _| ()),
+    }
+}
+
+/// Reads a field sheet and answers its number of entries.
+pub fn read_sheet(bytes: &[u8]) -> Result<usize, Refusal> {
+    match size(bytes.len()) {
+        Size::Small => read::<64>(bytes, &SHEET, 1, |_, _| ()),
+        _ => read::<1024>(bytes, &SHEET, 1, |_, _| ()),
     }
 }
 
@@ -292,16 +313,27 @@ pub fn judge_next<const N: usize>(
 /// Whether an entry that is not named breaks no rule at this level.
 #[inline]
 pub fn is_right(entry: Entry, rules: &Rules, level: u8) -> bool {
-    entry.form_is_right(rules.kinds) & (level <= DEEPEST)
+    let small = entry.number() <= rules.most_number;
+    entry.form_is_right(rules.kinds) & small & (level <= rules.deepest)
 }
 
 /// The refusal's number for an entry that breaks a rule.
 #[cold]
 pub fn fault(entry: Entry, rules: &Rules, level: u8) -> u8 {
     match entry.form_is_right(rules.kinds) {
+        _ if rules.deepest < DEEPEST => outside(entry, level),
         false if rules.names && entry.is_named() => 13,
         false => 4,
         true => place_fault(level),
+    }
+}
+
+/// The same for an entry that is not in a field sheet.
+#[cold]
+fn outside(entry: Entry, level: u8) -> u8 {
+    match is_right(entry, &DESCRIPTION, level) {
+        true => 19,
+        false => fault(entry, &DESCRIPTION, level),
     }
 }
 

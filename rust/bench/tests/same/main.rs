@@ -5,6 +5,7 @@ mod desk;
 mod excluding;
 mod hierarchy;
 mod naming;
+mod sheets;
 mod stored;
 
 use std::fmt::Debug;

@@ -6,6 +6,7 @@ mod catalogue;
 mod desk;
 mod hierarchy;
 mod named;
+mod sheets;
 mod under;
 
 use goltximen::{

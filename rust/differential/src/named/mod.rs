@@ -5,6 +5,7 @@ pub mod doubles;
 pub mod excluding;
 pub mod hierarchy;
 pub mod naming;
+pub mod sheets;
 
 use reference::notation::{blocks, entry};
 use reference::{encode, Entry};

@@ -6,6 +6,7 @@ mod doubles;
 mod excluding;
 mod hierarchy;
 mod naming;
+mod sheets;
 mod stored;
 
 use differential::agree::{self, Answer, Difference};

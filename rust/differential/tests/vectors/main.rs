@@ -6,6 +6,7 @@ mod doubles;
 mod excluding;
 mod hierarchy;
 mod naming;
+mod sheets;
 
 use std::collections::{BTreeMap, BTreeSet};
 use std::sync::OnceLock;
@@ -120,7 +121,7 @@ fn the_digest() {
 fn as_many_and_as_long_as_allowed() {
     let vectors = all();
     assert!(vectors.len() <= MOST_VECTORS);
-    assert!(standard_input(vectors).len() < 3_100_000);
+    assert!(standard_input(vectors).len() < 4_000_000);
     for vector in vectors {
         let [pairs, dictionary, first, second] = vector.parts().map(<[u8]>::len);
         assert!(dictionary <= MOST_DICTIONARY);
@@ -295,6 +296,7 @@ fn the_library_agrees() {
             Call::Unfold => agree::unfold(&mut chance, under.dictionary, first, vector.output),
             Call::Catalogue => agree::catalogue(&mut chance, under, first, second, vector.output),
             Call::Hierarchy => agree::hierarchy(&mut chance, under.pairs, second, vector.output),
+            Call::Sheet => agree::read_sheet(first),
         };
         if let Err(difference) = agreed {
             panic!("vector {number}: {difference}");
