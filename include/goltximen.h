@@ -125,6 +125,7 @@
  *     gx_compare_with       71,576 bytes
  *     gx_catalogue          76,752 bytes
  *     gx_hierarchy          32,632 bytes
+ *     gx_fit_all            58,568 bytes
  *     gx_desk_write          9,280 bytes
  *     other desk calls       1,296 bytes
  *
