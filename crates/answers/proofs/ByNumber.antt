@@ -1,7 +1,7 @@
 -- Rows of the table of refusals, each by the number that is returned: 8 of a dictionary and of a list of services, 12, 13 and 14, and 7 of
 -- unfolding and of the catalogue. No two causes have one number.
 -- Assumes nothing.
-use Rattle.std.proofs.Common.{◌≡◌, ℕ, ◌+◌, ◌<◌, ◌≤◌, ◌≢◌, ◌⊎◌, ◌↔◌, ◌%◌, List, [], ◌∷◌, length, get_or, Ok, Err, Result, refl, sym, ap, inl, inr, ⊎_elim, arith}
+use Rattle.std.proofs.Common.{◌≡◌, ◌∙◌, ℕ, ◌+◌, ◌<◌, ◌≤◌, ◌≢◌, ◌⊎◌, ◌↔◌, ◌%◌, List, [], ◌∷◌, length, get_or, Ok, Err, Result, refl, sym, ap, inl, inr, ⊎_elim, arith}
 use Rattle.answers.proofs.AnswerLaws.{refused-answered, same-refused}
 use Rattle.answers.proofs.CatalogueOrder.{catalogue-refused-exactly}
 use Rattle.answers.proofs.DictionaryOrder.{dictionary-refused-exactly, line-refused-exactly}
@@ -89,8 +89,8 @@ not-eight : {n : ℕ} → LineNumber n → n ≢ 8
 not-eight h z = ⊎_elim (λ l. omega arith) (λ r. ⊎_elim (λ l. omega arith) (λ l. omega arith) r) h
 
 -- where there are descriptions there are bytes
-listed : {list : List ℕ} → 64 < length (parts_of list) → length list ≢ 0
-listed {list} h z = let n : length (parts_of list) ≡ 0 = rw (parts_none list z) refl in omega (arith, h, n)
+listed : (list : List ℕ) → 64 < length (parts_of list) → length list ≢ 0
+listed list h z = let n : length (parts_of list) ≡ 0 = rw (parts_none list z) refl in omega (arith, h, n)
 
 -- ---- a description, and a specimen
 
@@ -208,6 +208,6 @@ module _ (P D c list out : List ℕ) where
         let w : i ≡ 2 = rw q at e.1 in
         catalogue-many-row ((catalogue-refused-exactly P D c list out Count i p).0 q) refl w),
     λ h.
-        let q = (catalogue-refused-exactly P D c list out Count 2 0).1 (catalogue-many h.0.0 h.0.1 (listed h.1.1) h.1.0 h.1.1) in
+        let q = (catalogue-refused-exactly P D c list out Count 2 0).1 (catalogue-many h.0.0 h.0.1 (listed list h.1.1) h.1.0 h.1.1) in
         rw q (refl, refl),
   )

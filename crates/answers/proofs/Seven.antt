@@ -50,15 +50,15 @@ line-number K s f =
     (λ t. same-refused (λ x i q. LineNumber (number_of x)) (named-large K 1 s r t) e (inr (inr refl)))
     (λ t. refused-answered e (named-taken K 1 s r t)))
 
-not-seven : {n : ℕ} → LineNumber n → n ≢ 7
+pub not-seven : {n : ℕ} → LineNumber n → n ≢ 7
 not-seven h z = ⊎_elim (λ l. omega arith) (λ r. ⊎_elim (λ l. omega arith) (λ l. omega arith) r) h
 
 -- 11 of the list
-list-number : (P : List ℕ) {k : Cause} {p : ℕ} → FirstOf (pair_faults P) k p → number_of k ≢ 7
+pub list-number : (P : List ℕ) {k : Cause} {p : ℕ} → FirstOf (pair_faults P) k p → number_of k ≢ 7
 list-number P f = list.list-number P (list.pairs-refused P f)
 
 -- of a dictionary these, and 1 and 8 of its own
-dictionary-number : (D : List ℕ) {k : Cause} {i p : ℕ} → DictionaryRefused D k i p → number_of k ≢ 7
+pub dictionary-number : (D : List ℕ) {k : Cause} {i p : ℕ} → DictionaryRefused D k i p → number_of k ≢ 7
 dictionary-number D (broken h) z = omega arith
 dictionary-number D (many w h) z = omega arith
 dictionary-number D (part w h r) z = not-seven (line-number _ _ r.first) z
