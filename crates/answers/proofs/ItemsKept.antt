@@ -177,9 +177,9 @@ marks-items P D total r d out {n} e =
     let long : length bytes ≡ total = length-listed _ 0 total in
     let plainly = none-unfolds (plain_of D d) (plain-read D d A 2) in
     let same : items_of P [] total r (plain_of D d) out ≡ Ok total =
-        rw (items_of, sym (description-last P [] total r (plain_of D d) none-taken t (sym plainly)), ge-ltb room) in
+    rw (items_of, sym (description-last P [] total r (plain_of D d) none-taken t (sym plainly)), ge-ltb room) in
     let entries : entries_of (sent_of [] (plain_of D d)) ≡ entries_of (sent_of D d) =
-        ap entries_of (sent-itself [] (plain_of D d) refl) ∙ plain-entries D d A ∙ sym ((sent-accepted D 1 d (A.read 1) 1).1) in
+    ap entries_of (sent-itself [] (plain_of D d) refl) ∙ plain-entries D d A ∙ sym ((sent-accepted D 1 d (A.read 1) 1).1) in
     record {
       count = count;
       some = T.some;

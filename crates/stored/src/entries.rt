@@ -4,8 +4,8 @@ ghost use Rattle.blocks.specs.Frame.{stored_frame, entry_pos};
 ghost use Rattle.stored.specs.Stored.{owned_entry, stored_at, stored_packed};
 
 use crate::StoredEntry;
-use blocks::sizes::{BLOCK, STORED_ENTRIES, STORED_ENTRY};
 use blocks::Entry;
+use blocks::sizes::{BLOCK, STORED_ENTRIES, STORED_ENTRY};
 
 // Entry n of an input, counted from 1, whose bytes are all there.
 #[tactic(auto, unfolding(blocks::specs::Frame::entry_pos, blocks::specs::Words::word_at, crate::specs::Stored::stored_at, crate::specs::Stored::stored_from))]

@@ -17,8 +17,7 @@ returns-clause-means c = drafts _ _
 
 pub returns-clause-returns : goal.returns-clause-returns
 returns-clause-returns c = λ b n later named leaves e.
-    let R = returns b c.args.stand n later named leaves in
-    (
+    let R = returns b c.args.stand n later named leaves in (
       c.pack_reading.ensures ∙ ap pack_reading (c.act.ensures.0 ∙ ap (λ (x : List ℕ). answer_at x (call.GoBack c.args.stand)) e ∙ R.accepted),
       ap (λ (x : List ℕ). (held_at x).draft) (c.act.ensures.1 ∙ ap (λ (x : List ℕ). after_at x (call.GoBack c.args.stand)) e) ∙ R.yields,
     )
