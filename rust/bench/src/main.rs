@@ -2,6 +2,7 @@
 
 #![forbid(unsafe_code)]
 
+mod delivered;
 mod desks;
 mod listed;
 mod named;
@@ -65,6 +66,7 @@ fn main() {
     // With a word, the rows of one call alone.
     match std::env::args().nth(1).as_deref() {
         Some("hierarchy") => return ranked::rows(),
+        Some("delivered") => return delivered::rows(),
         Some("names") => return named::rows(),
         Some("links") => return one_link_rows(),
         Some("sheets") => return sheets::rows(),
@@ -80,6 +82,7 @@ fn main() {
     desks::rows();
     stores::rows();
     sheets::rows();
+    delivered::rows();
     turns::rows();
 }
 

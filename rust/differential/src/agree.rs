@@ -9,6 +9,7 @@
 mod catalogue;
 mod desk;
 mod hierarchy;
+mod items;
 mod sheets;
 mod stored;
 
@@ -25,6 +26,7 @@ use crate::{length_of, MOST_DESCRIPTION};
 pub use catalogue::catalogue;
 pub use desk::{bytes_of, desk_bytes, is_given, Drafting};
 pub use hierarchy::hierarchy;
+pub use items::fit_all;
 pub use sheets::read_sheet;
 pub use stored::{from_stored, to_stored};
 

@@ -3,6 +3,7 @@
 mod catalogue;
 mod desk;
 mod hierarchy;
+mod items;
 mod sheets;
 mod stored;
 
@@ -160,7 +161,7 @@ impl Rounds {
     ///
     /// The difference.
     pub fn any(&mut self) -> Found {
-        match self.chance.below(80) {
+        match self.chance.below(83) {
             0..=13 => self.pair(),
             14..=17 => self.doubles(),
             18..=24 => self.normal(),
@@ -183,7 +184,9 @@ impl Rounds {
             72..=73 => self.damaged_desks(),
             74..=75 => self.stores(),
             76..=77 => self.sheets(),
-            _ => self.wrong_stores(),
+            78..=79 => self.wrong_stores(),
+            80..=81 => self.deliveries(),
+            _ => self.wrong_deliveries(),
         }
     }
 

@@ -9,6 +9,7 @@ pub mod desk;
 mod entry;
 mod fit;
 mod hierarchy;
+mod items;
 mod list;
 mod names;
 mod normal;
@@ -28,6 +29,7 @@ pub use catalogue::catalogue;
 pub use compare::{compare, compare_with, Comparison};
 pub use fit::{fit, fit_with};
 pub use hierarchy::hierarchy;
+pub use items::fit_all;
 pub use names::unfold;
 pub use normal::{normal_form, normal_with};
 pub use read::{read_description, read_sheet, read_specimen};
@@ -44,7 +46,7 @@ pub struct Refusal {
     /// The input, 1 or 2; 0 for numbers 7 and 11, 1 + n for the n-th service of a list, 100 for the dictionary and 100 + n for its
     /// n-th description.
     pub input: u16,
-    /// The block, entry or pair; 0 for numbers 1, 7, 8, 14, 16 to 18 and 20 and for a list of a wrong length.
+    /// The block, entry or pair; 0 for numbers 1, 7, 8, 14, 16 to 18 and 20, of a total's 10, and for a list of a wrong length.
     pub place: u16,
 }
 

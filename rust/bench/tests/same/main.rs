@@ -4,6 +4,7 @@ mod catalogue;
 mod desk;
 mod excluding;
 mod hierarchy;
+mod items;
 mod naming;
 mod sheets;
 mod stored;

@@ -5,6 +5,7 @@ mod desk;
 mod doubles;
 mod excluding;
 mod hierarchy;
+mod items;
 mod naming;
 mod sheets;
 mod stored;
