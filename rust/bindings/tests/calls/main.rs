@@ -4,6 +4,7 @@
 
 mod catalogue;
 mod desk;
+mod earning;
 mod hierarchy;
 mod named;
 mod sheets;
