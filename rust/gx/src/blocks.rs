@@ -123,9 +123,18 @@ pub struct Frame {
 
 /// The frame of a block, counted from 1, if there is that block.
 pub fn frame(bytes: &[u8], block: usize) -> Option<Frame> {
+    frame_of(bytes, block, (ENTRY_BYTES, BLOCK_ENTRIES))
+}
+
+/// The same where entries have so many bytes, and a block has room for so many.
+pub(crate) fn frame_of(
+    bytes: &[u8],
+    block: usize,
+    (entry_bytes, most): (usize, usize),
+) -> Option<Frame> {
     let block = bytes.chunks_exact(BLOCK).nth(block.checked_sub(1)?)?;
     let used = word(block, 2);
-    let unused_at = ENTRIES_AT + ENTRY_BYTES * usize::from(used).min(BLOCK_ENTRIES);
+    let unused_at = ENTRIES_AT + entry_bytes * usize::from(used).min(most);
     let not_zero = (unused_at..SECOND_AT).find(|&at| block[at] != 0);
     Some(Frame {
         number: word(block, 0),

@@ -69,6 +69,8 @@ pub fn decode(bytes: &[u8]) -> Vec<Part> {
 pub enum Naming<'a> {
     /// Nothing: it is for a call that takes no dictionary.
     Nothing,
+    /// Nothing either: it has to be a field sheet.
+    Sheet,
     /// Any description that some dictionary may have.
     Any,
     /// The descriptions of this dictionary.

@@ -4,7 +4,8 @@
 //!
 //! | Module | Subject |
 //! |---|---|
-//! | [`entry`], [`blocks`], [`tree`] | entries, entries as blocks, which entry owns which |
+//! | [`entry`], [`blocks`], [`stored`], [`tree`] | entries, entries as blocks and in the stored form, which entry owns which |
+//! | [`delivered`], [`draft`] | records of what was delivered; the steps of a drafting desk |
 //! | [`pairs`], [`dictionary`], [`services`] | properties that exclude each other, named descriptions, lists of services, and their bytes |
 //! | [`background`] | what all answers of a run are about: the list and the dictionary |
 //! | [`names`], [`text`] | the words of properties, links and descriptions; descriptions, specimens, lists and dictionaries as text |
@@ -27,7 +28,9 @@ pub mod background;
 pub mod blocks;
 pub mod commands;
 pub mod completions;
+pub mod delivered;
 pub mod dictionary;
+pub mod draft;
 pub mod entry;
 pub mod explain;
 pub mod given;
@@ -48,6 +51,7 @@ pub mod settings;
 pub mod sha256;
 pub mod shown;
 pub mod specimen;
+pub mod stored;
 pub mod suggest;
 pub mod svg;
 pub mod text;

@@ -1,9 +1,9 @@
 //! The calls of the proved library. Every answer that is printed comes from here. The calls under a list of properties that
 //! exclude each other and a dictionary take these first; without pairs and descriptions they are the plain calls.
 
-pub use goltximen::{Comparison, Fit, Reason, Refusal, Under};
+pub use goltximen::{Comparison, Desk, Fit, Reason, Refusal, Under};
 
-use crate::blocks::{decode, encode, BLOCK, BLOCK_ENTRIES};
+use crate::blocks::{decode, encode, entry_bytes, BLOCK, BLOCK_ENTRIES};
 use crate::entry::{Entry, Sort};
 
 /// The bytes of the longest description, also once unfolded.
@@ -19,6 +19,15 @@ pub fn read(sort: Sort, bytes: &[u8]) -> Result<u16, Refusal> {
         Sort::Description => goltximen::read_description(bytes),
         Sort::Specimen => goltximen::read_specimen(bytes),
     }
+}
+
+/// The number of entries of a field sheet, or its refusal.
+///
+/// # Errors
+///
+/// The library's refusal.
+pub fn read_sheet(description: &[u8]) -> Result<u16, Refusal> {
+    goltximen::read_sheet(description)
 }
 
 /// The refusal of a list of pairs, if it has one. No call reads a list alone: it is the first thing that a call looks at, so one
@@ -84,6 +93,107 @@ pub fn normal(under: Under<'_>, description: &[u8]) -> Result<Vec<u8>, Refusal> 
     let mut out = vec![0; MOST_BYTES];
     let entries = under.normal_form(description, &mut out)?;
     out.truncate(length_of(entries.into()));
+    Ok(out)
+}
+
+/// Which entries of a supplier's plain description earn its being contained in a service's; none where it is not contained.
+///
+/// # Errors
+///
+/// The library's refusal.
+pub fn earning(
+    pairs: &[u8],
+    supplier: &[Entry],
+    service: &[Entry],
+) -> Result<Option<Vec<bool>>, Refusal> {
+    let mut out = vec![0; supplier.len()];
+    let contained = goltximen::earning(pairs, &encode(supplier), &encode(service), &mut out)?;
+    Ok(contained.then(|| marks(&out)))
+}
+
+/// A byte for each entry as a mark.
+fn marks(bytes: &[u8]) -> Vec<bool> {
+    bytes.iter().map(|&byte| byte == 1).collect()
+}
+
+/// Which items of a delivered record fit a description.
+///
+/// # Errors
+///
+/// The library's refusal.
+pub fn fit_all(
+    under: Under<'_>,
+    items: usize,
+    record: &[u8],
+    description: &[u8],
+) -> Result<Vec<bool>, Refusal> {
+    under.fit_all(items, record, description)
+}
+
+/// A step at a drafting desk.
+#[derive(Clone, Copy, Debug, PartialEq, Eq)]
+pub enum Step {
+    /// An entry is added at the end.
+    Add(Entry),
+    /// The last entry is taken off.
+    TakeOff,
+    /// What is held is named as this stand.
+    Stand(u16),
+    /// Back to this stand.
+    Back(u16),
+    /// This stand is dropped.
+    Drop(u16),
+}
+
+/// Makes a step at a desk; where it is refused nothing is altered.
+///
+/// # Errors
+///
+/// The library's refusal.
+pub fn step(desk: &mut Desk, step: Step) -> Result<usize, Refusal> {
+    let left = match step {
+        Step::Add(e) => desk.add(entry_bytes(&e)),
+        Step::TakeOff => desk.take_off(),
+        Step::Stand(stand) => desk.name(stand),
+        Step::Back(stand) => desk.go_back(stand),
+        Step::Drop(stand) => desk.drop_stand(stand),
+    };
+    left.map(usize::from)
+}
+
+/// The blocks of the description that a desk holds.
+///
+/// # Errors
+///
+/// The library's refusal.
+pub fn held(desk: &Desk) -> Result<Vec<u8>, Refusal> {
+    let mut out = vec![0; MOST_BYTES];
+    let entries = desk.write_out(&mut out)?;
+    out.truncate(length_of(entries.into()));
+    Ok(out)
+}
+
+/// A plain description in the stored form.
+///
+/// # Errors
+///
+/// The library's refusal.
+pub fn to_stored(description: &[u8]) -> Result<Vec<u8>, Refusal> {
+    let mut out = vec![0; MOST_BYTES];
+    let entries = goltximen::to_stored(description, &mut out)?;
+    out.truncate(goltximen::stored_bytes(entries));
+    Ok(out)
+}
+
+/// The blocks of a description that is given in the stored form.
+///
+/// # Errors
+///
+/// The library's refusal.
+pub fn from_stored(bytes: &[u8]) -> Result<Vec<u8>, Refusal> {
+    let mut out = vec![0; MOST_BYTES];
+    let entries = goltximen::from_stored(bytes, &mut out)?;
+    out.truncate(length_of(entries));
     Ok(out)
 }
 

@@ -1,6 +1,7 @@
 //! What is shown is read back: a text is given to its own reader, and has to be what it was written from.
 
 use crate::blocks::encode;
+use crate::delivered::Delivered;
 use crate::dictionary::{self, Dictionary};
 use crate::entry::{Entry, Sort};
 use crate::explain::Failure;
@@ -66,6 +67,17 @@ pub fn services(text: String, of: &Services) -> Result<String, Trouble> {
     shown(text, same, &of.title)
 }
 
+/// The text of a delivered record, if its reader gives it again.
+///
+/// # Errors
+///
+/// An error of this program: it does not.
+pub fn record(text: String, of: &Delivered) -> Result<String, Trouble> {
+    let same = text::parse_record(&text, &of.names);
+    let same = same.is_ok_and(|parsed| parsed.items == of.items && parsed.entries == of.entries);
+    shown(text, same, &of.title)
+}
+
 /// The lines of a specimen after a no, if they say what it has. Of many groups only those of its path are shown.
 ///
 /// # Errors
@@ -118,7 +130,7 @@ fn is_specimen(text: &str, failure: &Failure, words: Words<'_>) -> Option<bool> 
 /// An error of this program: one does not.
 pub fn surroundings(text: String, input: &Input, names: &Names) -> Result<String, Trouble> {
     let same = |line: &str| {
-        let line = line.trim_start_matches([' ', '>']);
+        let line = line.trim_start_matches([' ', '>', '+']);
         let Some((number, entry)) = line.split_once("  ") else {
             return line == "...";
         };

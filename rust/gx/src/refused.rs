@@ -2,7 +2,10 @@
 //!
 //! That an input is refused, by which row and where, is the library's answer. Here it is only looked up what stands there.
 
+mod record;
+mod sheet;
 mod shown;
+mod stored;
 
 use goltximen::{Reason, Refusal};
 
@@ -16,7 +19,9 @@ use crate::text;
 use crate::tree::owners;
 use crate::words::{self, grouped, Words};
 
+pub use record::{shown_record, why_record};
 pub use shown::{shown, shown_dictionary, shown_pairs};
+pub use stored::{shown_stored, why_stored};
 
 /// The most entries of a description, also once unfolded.
 const MOST_ENTRIES: usize = 1008;
@@ -50,27 +55,21 @@ pub fn why(refusal: Refusal, sort: Sort, bytes: &[u8], naming: Naming<'_>) -> St
             };
             format!("entry {place}: {fault}")
         }
+        Reason::Sheet => sheet::fault(&blocks::decode(bytes), place),
         _ => rule(refusal),
     }
 }
 
 /// The rule that is broken, in words, where nothing is looked up.
-fn rule(refusal: Refusal) -> String {
-    let place = refusal.place;
+pub fn rule(refusal: Refusal) -> String {
     match refusal.reason {
         Reason::Output => "the output is too short".into(),
-        Reason::Item if place == 0 => "a record has 1 to 256 items".into(),
-        Reason::Item => format!("entry {place}: it names an item that the record does not have"),
-        Reason::Order => {
-            format!("entry {place}: no 'every' one less deep stands before it to own it")
-        }
         Reason::DeskFull => format!(
             "the desk holds {} entries, and takes no more",
             grouped(MOST_ENTRIES as u32)
         ),
         Reason::DeskEmpty => "the desk holds no entry that could be taken off".into(),
         Reason::Stand => "the number is that of no stand, or it would be the fifth".into(),
-        Reason::Sheet => format!("entry {place}: it is outside the field-sheet profile"),
         Reason::Desk => "no list of calls gives this desk, or its memory is too short".into(),
         // The others have words of their own.
         _ => refusal.to_string(),
@@ -226,21 +225,25 @@ fn check_faults(frame: Frame, block: usize) -> String {
 
 /// Which of the block's number, its used count and its zero bytes is wrong.
 fn frame_fault(frame: Frame, block: usize, bytes: &[u8]) -> String {
-    let total = bytes.len() / BLOCK;
+    in_order_fault(frame, block, bytes.len() / BLOCK, BLOCK_ENTRIES)
+}
+
+/// The same of one of so many blocks, each with room for so many entries.
+fn in_order_fault(frame: Frame, block: usize, total: usize, most: usize) -> String {
     let used = usize::from(frame.used);
     let least = if block < total {
-        BLOCK_ENTRIES
+        most
     } else {
         usize::from(total > 1)
     };
     if usize::from(frame.number) != block {
         return format!("its number says {}", frame.number);
     }
-    if used > BLOCK_ENTRIES || used < least {
+    if used > most || used < least {
         let due = match (block < total, total) {
-            (true, _) => "every block but the last uses 63".into(),
-            (_, 1) => "a block uses 0 to 63".to_string(),
-            _ => "the last of several uses 1 to 63".into(),
+            (true, _) => format!("every block but the last uses {most}"),
+            (_, 1) => format!("a block uses 0 to {most}"),
+            _ => format!("the last of several uses 1 to {most}"),
         };
         return format!("it says that {used} entries are used, and {due}");
     }
@@ -252,14 +255,18 @@ fn frame_fault(frame: Frame, block: usize, bytes: &[u8]) -> String {
 
 /// Which field of an entry is outside the table.
 fn form_fault(sort: Sort, e: Entry, naming: Naming<'_>) -> String {
-    let named = !matches!(naming, Naming::Nothing);
+    let named = !matches!(naming, Naming::Nothing | Naming::Sheet);
     let (allowed, kinds) = match sort {
         Sort::Description if named => ((1..=6).contains(&e.kind) || e.kind == 9, "1 to 6 and 9"),
         Sort::Description => ((1..=6).contains(&e.kind), "1 to 6"),
         Sort::Specimen => (e.kind == 1 || e.kind == 7, "1 and 7"),
     };
     if !allowed && sort == Sort::Description && e.kind == 9 {
-        return "its kind is 9, which names a description, and no dictionary is given".into();
+        let none = match naming {
+            Naming::Sheet => "a field sheet names none",
+            _ => "no dictionary is given",
+        };
+        return format!("its kind is 9, which names a description, and {none}");
     }
     if !allowed {
         let sort = sort.word();
@@ -289,7 +296,7 @@ fn name_fault(e: Entry, naming: Naming<'_>) -> String {
         Naming::Before(of, Named(number)) if usize::from(name) <= of.parts.len() => {
             return format!("{names}, and description {number} may name only earlier ones")
         }
-        Naming::Any | Naming::Nothing => {
+        Naming::Any | Naming::Nothing | Naming::Sheet => {
             return format!("{names}, and a dictionary has at most {MOST_DESCRIPTIONS}")
         }
         Naming::All(of) if of.title.is_empty() => {
@@ -306,7 +313,7 @@ fn name_fault(e: Entry, naming: Naming<'_>) -> String {
 /// The descriptions that may be named, as large as they are once unfolded.
 fn measures(naming: Naming<'_>) -> Vec<Measure> {
     match naming {
-        Naming::Nothing | Naming::Any => Vec::new(),
+        Naming::Nothing | Naming::Sheet | Naming::Any => Vec::new(),
         Naming::All(of) => of.measures(of.parts.len()),
         Naming::Before(of, Named(number)) => of.measures(usize::from(number).saturating_sub(1)),
     }

@@ -49,6 +49,20 @@ pub fn owners(entries: &[Entry], number: usize) -> Vec<usize> {
     chain
 }
 
+/// The entries that are marked, with owners by their new numbers. The owners of one that is marked are marked.
+pub fn cut_down(entries: &[Entry], marks: &[bool]) -> Vec<Entry> {
+    let mut numbers = vec![0; entries.len() + 1];
+    let mut kept = Vec::new();
+    for (number, e) in (1..).zip(entries) {
+        if marks.get(number - 1) == Some(&true) {
+            let owner = numbers.get(usize::from(e.owner)).copied().unwrap_or(0);
+            kept.push(Entry { owner, ..*e });
+            numbers[number] = kept.len() as u16;
+        }
+    }
+    kept
+}
+
 /// An entry with its owners, and nothing else: the description that an item fits exactly if it meets the entry.
 pub fn alone(entries: &[Entry], entry: usize) -> Vec<Entry> {
     let chain = owners(entries, entry).into_iter().chain([entry]);

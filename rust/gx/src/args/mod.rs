@@ -26,10 +26,16 @@ pub enum Command {
     Fit,
     /// The comparison.
     Compare,
+    /// The entries that earn a yes.
+    Keep,
     /// One description compared with many.
     Catalogue,
     /// Many services from general to special.
     Hierarchy,
+    /// The items of a delivered record that fit.
+    Delivered,
+    /// A description in the making.
+    Desk,
     /// Descriptions that mean the same.
     Doubles,
     /// A description without named entries.
@@ -42,15 +48,18 @@ pub enum Command {
 
 impl Command {
     /// All commands, in the order of the help.
-    pub const ALL: [Command; 12] = [
+    pub const ALL: [Command; 15] = [
         Command::Show,
         Command::Write,
         Command::Check,
         Command::Normal,
         Command::Fit,
         Command::Compare,
+        Command::Keep,
         Command::Catalogue,
         Command::Hierarchy,
+        Command::Delivered,
+        Command::Desk,
         Command::Doubles,
         Command::Unfold,
         Command::Owl,
@@ -66,8 +75,11 @@ impl Command {
             Command::Normal => "normal",
             Command::Fit => "fit",
             Command::Compare => "compare",
+            Command::Keep => "keep",
             Command::Catalogue => "catalogue",
             Command::Hierarchy => "hierarchy",
+            Command::Delivered => "delivered",
+            Command::Desk => "desk",
             Command::Doubles => "doubles",
             Command::Unfold => "unfold",
             Command::Owl => "owl",
@@ -91,7 +103,10 @@ impl Command {
 
     /// Whether it takes two inputs, and not any number of them.
     pub fn takes_pair(self) -> bool {
-        matches!(self, Command::Fit | Command::Compare | Command::Owl)
+        matches!(
+            self,
+            Command::Fit | Command::Compare | Command::Keep | Command::Delivered | Command::Owl
+        )
     }
 
     /// Whether what it prints is an answer and not data: then a refusal is an answer too.
@@ -101,8 +116,10 @@ impl Command {
             Command::Check
                 | Command::Fit
                 | Command::Compare
+                | Command::Keep
                 | Command::Catalogue
                 | Command::Hierarchy
+                | Command::Delivered
                 | Command::Doubles
         )
     }
@@ -117,6 +134,8 @@ pub enum To {
     Desk,
     /// Blocks.
     Blocks,
+    /// The stored form.
+    Stored,
 }
 
 /// What an input is, or is to be written.
@@ -130,6 +149,8 @@ pub enum Content {
     Dictionary,
     /// A list of services.
     Services,
+    /// A delivered record.
+    Record,
 }
 
 /// The options.
@@ -165,6 +186,12 @@ pub struct Options {
     pub class: Option<String>,
     /// All entries that fail are told.
     pub all: bool,
+    /// The services that a draft is compared with.
+    pub against: Option<PathBuf>,
+    /// How many items a record in blocks has.
+    pub items: Option<usize>,
+    /// The description has to be a field sheet; of two that are compared the first.
+    pub sheet: bool,
     /// Folders stand for the files in their folders too.
     pub recursive: bool,
     /// No settings of a laboratory are looked for.

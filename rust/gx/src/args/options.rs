@@ -2,8 +2,8 @@
 //! this table.
 
 use super::Command::{
-    self, Catalogue, Check, Compare, Doubles, Fit, FromOwl, Hierarchy, Normal, Owl, Show, Unfold,
-    Write,
+    self, Catalogue, Check, Compare, Delivered, Desk, Doubles, Fit, FromOwl, Hierarchy, Keep,
+    Normal, Owl, Show, Unfold, Write,
 };
 
 /// An option.
@@ -37,15 +37,18 @@ impl Opt {
 
 const ALL: &[Command] = &Command::ALL;
 const UNDER: &[Command] = &[
-    Check, Normal, Fit, Compare, Catalogue, Hierarchy, Doubles, Owl,
+    Check, Normal, Fit, Compare, Keep, Catalogue, Hierarchy, Delivered, Desk, Doubles, Owl,
 ];
 const NAMING: &[Command] = &[
-    Show, Write, Check, Normal, Fit, Compare, Catalogue, Hierarchy, Doubles, Unfold, Owl,
+    Show, Write, Check, Normal, Fit, Compare, Keep, Catalogue, Hierarchy, Delivered, Desk, Doubles,
+    Unfold, Owl,
 ];
 const READING: &[Command] = &[
-    Show, Write, Check, Normal, Fit, Compare, Catalogue, Hierarchy, Doubles, Unfold, Owl,
+    Show, Write, Check, Normal, Fit, Compare, Keep, Catalogue, Hierarchy, Delivered, Desk, Doubles,
+    Unfold, Owl,
 ];
-const TEXTS: &[Command] = &[Show, Normal, Unfold, FromOwl];
+const TO: &[Command] = &[Show, Write, Normal, Keep, Desk, Unfold, FromOwl];
+const TEXTS: &[Command] = &[Show, Normal, Keep, Unfold, FromOwl];
 
 const fn flag(name: &'static str, about: &'static str, of: &'static [Command]) -> Opt {
     Opt {
@@ -90,19 +93,20 @@ pub const OPTIONS: &[Opt] = &[
         ..flag("--quiet", "print nothing but what is wrong; the exit status answers", ALL)
     },
     flag("--recursive", "a folder stands for the files in its folders too", ALL),
-    word("--from", &["blocks", "text"], "the inputs are 'blocks' or 'text', whatever they look like", READING),
+    word("--from", &["blocks", "text", "stored"], "the inputs are 'blocks', 'text' or in the 'stored' form, whatever they look like", READING),
     word(
         "--sort",
-        &["description", "specimen", "pairs", "dictionary", "services"],
-        "the input is a 'description', a 'specimen', a list of 'pairs' or of 'services', or a 'dictionary'; of from-owl, write the \
+        &["description", "specimen", "pairs", "dictionary", "services", "record"],
+        "the input is a 'description', a 'specimen', a list of 'pairs' or of 'services', a 'dictionary' or a 'record'; of from-owl, write the \
          'description' or the 'pairs'",
         &[Show, Write, Check, FromOwl],
     ),
     word(
         "--to",
-        &["text", "desk", "blocks"],
-        "write 'text' (without this option), 'desk' (5,1 [3,2,1; 4,2,1]) or 'blocks'",
-        TEXTS,
+        &["text", "desk", "blocks", "stored"],
+        "write 'text' (without this option), 'desk' (5,1 [3,2,1; 4,2,1]), 'blocks' or the shorter 'stored' form; write knows the last \
+         two",
+        TO,
     ),
     flag("--numbers", "in text, write each entry's number", TEXTS),
     Opt {
@@ -110,7 +114,7 @@ pub const OPTIONS: &[Opt] = &[
         ..file(
             "--out",
             "write into this file; for folders, into this folder",
-            &[Show, Write, Normal, Hierarchy, Doubles, Unfold, Owl, FromOwl],
+            &[Show, Write, Normal, Keep, Hierarchy, Desk, Doubles, Unfold, Owl, FromOwl],
         )
     },
     file(
@@ -121,7 +125,9 @@ pub const OPTIONS: &[Opt] = &[
     file(
         "--html",
         "write a page with the answer; for folders, and of a catalogue, into this folder, with an index",
-        &[Fit, Compare, Catalogue, Hierarchy, Doubles],
+        &[
+            Fit, Compare, Keep, Catalogue, Hierarchy, Delivered, Doubles,
+        ],
     ),
     file(
         "--specimen",
@@ -129,6 +135,20 @@ pub const OPTIONS: &[Opt] = &[
         &[Compare],
     ),
     flag("--whole", "draw each group of a large specimen", &[Compare]),
+    flag(
+        "--sheet",
+        "the description has to be a field sheet, else it is refused (19); of a comparison the supplier's",
+        &[Check, Normal, Fit, Compare, Keep, Delivered],
+    ),
+    file(
+        "--against",
+        "after each step at the desk, tell which services of this folder contain the draft",
+        &[Desk],
+    ),
+    Opt {
+        value: Some("N"),
+        ..flag("--items", "how many items a record has that is given as blocks", &[Show, Write, Check, Delivered])
+    },
     flag("--all", "tell all entries that fail, not only the first", &[Compare]),
     flag("--why", "tell of each no which entry fails first", &[Catalogue]),
     word("--only", &["contained"], "tell only the services that contain the description", &[Catalogue]),

@@ -121,6 +121,9 @@ impl<'a> Line<'a> {
             1 => "1 is given".into(),
             _ => format!("{count} are given"),
         };
+        if self.command == Command::Desk && count == 0 {
+            return Err("desk takes the file of a desk".into());
+        }
         let catalogue = self.command == Command::Owl && count > 2;
         if self.command.takes_pair() && count != 2 && !catalogue {
             return Err(format!("{word} takes two inputs, and {given}"));
@@ -133,6 +136,14 @@ impl<'a> Line<'a> {
 
     fn together(&self) -> Result<(), String> {
         let options = &self.options;
+        let sort = options.sort.unwrap_or(Content::Entries(Sort::Description));
+        if options.sheet && sort != Content::Entries(Sort::Description) {
+            return Err("a field sheet is a description; --sort says something else".into());
+        }
+        let written = [None, Some(To::Blocks), Some(To::Stored)];
+        if self.command == Command::Write && !written.contains(&options.to) {
+            return Err("write writes blocks or the stored form; gx show writes text".into());
+        }
         let forms = [
             ("--csv", options.csv),
             ("--dot", options.dot),
@@ -216,6 +227,7 @@ impl<'a> Line<'a> {
             "--numbers" => &mut options.numbers,
             "--whole" => &mut options.whole,
             "--all" => &mut options.all,
+            "--sheet" => &mut options.sheet,
             "--recursive" => &mut options.recursive,
             "--no-lab" => &mut options.no_lab,
             "--quiet" => &mut options.quiet,
@@ -240,6 +252,8 @@ impl<'a> Line<'a> {
             "--svg" => options.svg = Some(value.into()),
             "--html" => options.html = Some(value.into()),
             "--specimen" => options.specimen = Some(value.into()),
+            "--against" => options.against = Some(value.into()),
+            "--items" => options.items = Some(count(name, &value)?),
             "--class" => options.class = Some(value.to_string_lossy().into_owned()),
             "--from" => options.from = Some(one_of(name, &value, FORMS)?),
             "--only" => options.only_contained = one_of(name, &value, ONLY)?,
@@ -256,7 +270,11 @@ impl<'a> Line<'a> {
     }
 }
 
-const FORMS: &[(&str, Form)] = &[("blocks", Form::Blocks), ("text", Form::Text)];
+const FORMS: &[(&str, Form)] = &[
+    ("blocks", Form::Blocks),
+    ("text", Form::Text),
+    ("stored", Form::Stored),
+];
 const ONLY: &[(&str, bool)] = &[("contained", true)];
 const SORTS: &[(&str, Content)] = &[
     ("description", Content::Entries(Sort::Description)),
@@ -264,6 +282,7 @@ const SORTS: &[(&str, Content)] = &[
     ("pairs", Content::Pairs),
     ("dictionary", Content::Dictionary),
     ("services", Content::Services),
+    ("record", Content::Record),
 ];
 const SORTS_FROM_OWL: &[(&str, Content)] = &[
     ("description", Content::Entries(Sort::Description)),
@@ -273,7 +292,13 @@ const TARGETS: &[(&str, To)] = &[
     ("text", To::Text),
     ("desk", To::Desk),
     ("blocks", To::Blocks),
+    ("stored", To::Stored),
 ];
+
+fn count(option: &str, value: &OsStr) -> Result<usize, String> {
+    let read = value.to_str().and_then(|value| value.parse().ok());
+    read.ok_or_else(|| format!("{option} takes a number"))
+}
 
 fn one_of<T: Copy>(option: &str, value: &OsStr, list: &[(&str, T)]) -> Result<T, String> {
     let found = list.iter().find(|(word, _)| value == *word);

@@ -77,6 +77,7 @@ impl Context {
         let is_list = match self.reading.form_of(&bytes) {
             Form::Text => self.reading.is_headed(&bytes, text::SERVICES),
             Form::Blocks => split(&bytes).len() > 1,
+            Form::Stored => false,
         };
         if !is_list {
             return Ok(vec![Service {

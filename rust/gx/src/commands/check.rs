@@ -2,7 +2,7 @@
 
 use std::path::Path;
 
-use super::{dictionary, list, services, Alone, Answer, Context, Status};
+use super::{delivered, dictionary, list, services, Alone, Answer, Context, Status};
 use crate::blocks::BLOCK;
 use crate::dictionary::Naming;
 use crate::entry::Sort;
@@ -17,6 +17,7 @@ pub(super) fn check(context: &Context, file: &Path) -> Result<Answer, Trouble> {
         Alone::Pairs(pairs) => return Ok(list::check(&pairs)),
         Alone::Dictionary(of) => return Ok(dictionary::check(&of)),
         Alone::Services(of) => return Ok(services::check(&of)),
+        Alone::Record(of) => return Ok(delivered::check(&of)),
     };
     let input = match input.sort {
         Sort::Specimen => keeping(file, input, &context.background.list)?,
@@ -25,12 +26,15 @@ pub(super) fn check(context: &Context, file: &Path) -> Result<Answer, Trouble> {
             unfolded.map_err(|refusal| not_refused(file, refusal))?
         }
     };
-    Ok(accepted(&input))
+    let sort = match context.options.sheet {
+        true => "field sheet",
+        false => input.sort.word(),
+    };
+    Ok(accepted(&input, sort))
 }
 
 /// What is told of an accepted input.
-fn accepted(input: &Input) -> Answer {
-    let sort = input.sort.word();
+fn accepted(input: &Input, sort: &str) -> Answer {
     let (entries, blocks) = (input.sent, input.bytes.len() / BLOCK);
     let unfolded = input.entries.len();
     let mut line = format!(

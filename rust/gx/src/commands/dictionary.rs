@@ -21,7 +21,7 @@ pub(super) fn show(context: &Context, of: &Dictionary) -> Result<Answer, Trouble
             (readback::dictionary(text, of)?.into_bytes(), "txt")
         }
         To::Desk => (format!("{desk}\n").into_bytes(), "txt"),
-        To::Blocks => (of.bytes.clone(), ENDING),
+        To::Blocks | To::Stored => (of.bytes.clone(), ENDING),
     };
     Ok(Answer {
         full,

@@ -21,7 +21,7 @@ pub(super) fn fit(context: &Context, specimen: &Path, file: &Path) -> Result<Ans
     let reading = &context.reading;
     let shown = reading.input(specimen, Some(Sort::Specimen), 1, Naming::Nothing)?;
     let shown = keeping(specimen, context.worded(shown)?, &context.background.list)?;
-    let description = context.description(file, 2)?;
+    let description = context.supplied(file, 2)?;
     let names = words_of(&description, &shown)?;
     let under = context.background.under();
     let fits = library::fits(under, &shown.bytes, &description.bytes);

@@ -21,7 +21,7 @@ pub(super) fn show(context: &Context, list: &List) -> Result<Answer, Trouble> {
             (readback::pairs(text, list)?.into_bytes(), "txt")
         }
         To::Desk => (format!("{desk}\n").into_bytes(), "txt"),
-        To::Blocks => (list.bytes.clone(), ENDING),
+        To::Blocks | To::Stored => (list.bytes.clone(), ENDING),
     };
     Ok(Answer {
         full,

@@ -3,10 +3,12 @@
 mod catalogue;
 mod check;
 mod compare;
+mod delivered;
 mod dictionary;
 mod doubles;
 mod fit;
 mod hierarchy;
+mod keep;
 mod list;
 mod normal;
 mod owl;
@@ -18,19 +20,23 @@ use std::path::Path;
 
 use crate::args::{Command, Content, Options, To};
 use crate::background::Background;
+use crate::delivered::Delivered;
 use crate::dictionary::{Dictionary, Naming};
 use crate::entry::{Entry, Sort};
 use crate::given::Given;
-use crate::input::{bytes_of, not_refused, Input, Reading};
+use crate::input::{bytes_of, not_refused, Form, Input, Reading};
 use crate::json::Json;
+use crate::library::{self, Reason};
 use crate::names::{Conflict, Names};
 use crate::pairs::List;
 use crate::readback;
 use crate::services::Services;
+use crate::stored;
 use crate::text::{self, Numbers};
 use crate::trouble::Trouble;
 
 pub use catalogue::{Contained, Service};
+pub use delivered::Unmet;
 
 /// How an answer ends the program.
 #[derive(Clone, Copy, Debug, PartialEq, Eq, PartialOrd, Ord)]
@@ -66,6 +72,8 @@ pub enum Extra {
     Svg,
     /// The blocks of the specimen.
     Specimen,
+    /// What --out is for beside an answer in words.
+    Out,
 }
 
 /// What a command answers.
@@ -118,6 +126,8 @@ enum Alone {
     Dictionary(Dictionary),
     /// A list of services.
     Services(Services),
+    /// A delivered record.
+    Record(Delivered),
 }
 
 impl Context {
@@ -136,6 +146,8 @@ impl Context {
             (Command::FromOwl, &[file]) => owl::from_owl(self, file),
             (Command::Fit, &[specimen, description]) => fit::fit(self, specimen, description),
             (Command::Compare, &[c, d]) => compare::compare(self, c, d),
+            (Command::Keep, &[c, d]) => keep::keep(self, c, d),
+            (Command::Delivered, &[record, d]) => delivered::delivered(self, record, d),
             (Command::Owl, [c, services @ ..]) => owl::owl(self, c, services),
             _ => Err(Trouble::File {
                 file: command.word().into(),
@@ -150,9 +162,14 @@ impl Context {
             (text::PAIRS, Content::Pairs),
             (text::DICTIONARY, Content::Dictionary),
             (text::SERVICES, Content::Services),
+            (text::RECORD, Content::Record),
         ];
         let headed = |word| self.reading.is_headed(bytes, word);
         let ended = |word| file.extension().is_some_and(|ending| ending == word);
+        let table = std::str::from_utf8(bytes).is_ok_and(text::is_table);
+        if table && self.reading.form_of(bytes) == Form::Text {
+            return Some(Content::Record);
+        }
         let by_heading = words.iter().find(|&&(word, _)| headed(word));
         let told = by_heading.or_else(|| words.iter().find(|&&(word, _)| ended(word)));
         told.map(|&(_, content)| content)
@@ -163,7 +180,12 @@ impl Context {
     fn alone(&self, file: &Path, naming: Naming<'_>) -> Result<Alone, Trouble> {
         let reading = &self.reading;
         let bytes = bytes_of(file)?;
-        let sort = match self.options.sort.or_else(|| self.told(file, &bytes)) {
+        let sheet = self
+            .options
+            .sheet
+            .then_some(Content::Entries(Sort::Description));
+        let said = sheet.or(self.options.sort);
+        let sort = match said.or_else(|| self.told(file, &bytes)) {
             Some(Content::Pairs) => return reading.list_of(file, bytes).map(Alone::Pairs),
             Some(Content::Dictionary) => {
                 let read = reading.dictionary_of(file, bytes);
@@ -175,6 +197,7 @@ impl Context {
                 joined.map_err(Trouble::Words)?;
                 return Ok(Alone::Services(read));
             }
+            Some(Content::Record) => return self.record(file, bytes).map(Alone::Record),
             Some(Content::Entries(sort)) => Some(sort),
             None => None,
         };
@@ -183,9 +206,21 @@ impl Context {
         self.worded(read).map(Alone::Entries)
     }
 
+    /// The bytes of a file as a delivered record.
+    fn record(&self, file: &Path, bytes: Vec<u8>) -> Result<Delivered, Trouble> {
+        let under = self.background.list.under();
+        let mut read = self
+            .reading
+            .record(file, bytes, self.options.items, under)?;
+        let joined = read.names.join(&self.background.names);
+        joined.map_err(Trouble::Words)?;
+        Ok(read)
+    }
+
     /// What a description may name: what the dictionary has; without one, these.
     fn naming<'a>(&'a self, without: Naming<'a>) -> Naming<'a> {
         match self.options.dictionary {
+            _ if self.options.sheet => Naming::Sheet,
             Some(_) => Naming::All(&self.background.dictionary),
             None => without,
         }
@@ -203,6 +238,22 @@ impl Context {
     /// The same for the bytes of that file.
     fn description_of(&self, file: &Path, bytes: Vec<u8>, input: u16) -> Result<Input, Trouble> {
         let naming = Naming::All(&self.background.dictionary);
+        self.described(file, bytes, input, naming)
+    }
+
+    /// The same for a description of a supplier, which has to be a field sheet where the options say so.
+    fn supplied(&self, file: &Path, input: u16) -> Result<Input, Trouble> {
+        let naming = self.naming(Naming::All(&self.background.dictionary));
+        self.described(file, bytes_of(file)?, input, naming)
+    }
+
+    fn described(
+        &self,
+        file: &Path,
+        bytes: Vec<u8>,
+        input: u16,
+        naming: Naming<'_>,
+    ) -> Result<Input, Trouble> {
         let sort = Some(Sort::Description);
         self.unfolded(
             file,
@@ -240,6 +291,7 @@ impl Context {
             }
             To::Desk => ((of.desk()? + "\n").into_bytes(), "txt"),
             To::Blocks => (crate::blocks::encode(of.entries), "blocks"),
+            To::Stored => (of.stored()?, stored::ENDING),
         })
     }
 }
@@ -263,6 +315,24 @@ impl<'a> Written<'a> {
             names: &input.names,
             title: &input.title,
         }
+    }
+
+    /// The stored form, which specimens do not have, nor descriptions that name others.
+    fn stored(self) -> Result<Vec<u8>, Trouble> {
+        let why = |why: &str| Trouble::Unwritten {
+            file: self.title.into(),
+            why: why.into(),
+        };
+        if self.sort == Sort::Specimen {
+            return Err(why(
+                "only descriptions have a stored form, and this is a specimen",
+            ));
+        }
+        let stored = library::to_stored(&crate::blocks::encode(self.entries));
+        stored.map_err(|refusal| match refusal.reason {
+            Reason::Form => why("it names descriptions, which the stored form does not have; gx unfold puts them in"),
+            _ => why(&refusal.to_string()),
+        })
     }
 
     /// The line in desk notation.

@@ -10,7 +10,7 @@ use crate::trouble::Trouble;
 use crate::words;
 
 pub(super) fn normal(context: &Context, file: &Path) -> Result<Answer, Trouble> {
-    let input: Input = context.description(file, 1)?;
+    let input: Input = context.supplied(file, 1)?;
     let blocks = library::normal(context.background.under(), &input.bytes);
     let blocks = blocks.map_err(|refusal| not_refused(file, refusal))?;
     let entries = library::entries(&blocks);

@@ -20,7 +20,7 @@ pub(super) fn show(context: &Context, of: &Services) -> Result<Answer, Trouble> 
             (readback::services(text, of)?.into_bytes(), "txt")
         }
         To::Desk => (format!("{desk}\n").into_bytes(), "txt"),
-        To::Blocks => (of.bytes.clone(), ENDING),
+        To::Blocks | To::Stored => (of.bytes.clone(), ENDING),
     };
     Ok(Answer {
         full,

@@ -2,7 +2,9 @@
 
 use std::path::Path;
 
-use super::{dictionary, entries_json, list, services, Alone, Answer, Context, Status, Written};
+use super::{
+    delivered, dictionary, entries_json, list, services, Alone, Answer, Context, Status, Written,
+};
 use crate::dictionary::Naming;
 use crate::input::Input;
 use crate::json::Json;
@@ -15,6 +17,7 @@ pub(super) fn show(context: &Context, file: &Path) -> Result<Answer, Trouble> {
         Alone::Pairs(pairs) => return list::show(context, &pairs),
         Alone::Dictionary(of) => return dictionary::show(context, &of),
         Alone::Services(of) => return services::show(context, &of),
+        Alone::Record(of) => return delivered::show(context, &of),
     };
     let written = Written::of(&input);
     let (full, ending) = context.written(written)?;
@@ -35,8 +38,13 @@ pub(super) fn write(context: &Context, file: &Path) -> Result<Answer, Trouble> {
         Alone::Pairs(pairs) => return Ok(list::write(&pairs)),
         Alone::Dictionary(of) => return Ok(dictionary::write(&of)),
         Alone::Services(of) => return Ok(services::write(&of)),
+        Alone::Record(of) => return Ok(delivered::write(&of)),
     };
     let blocks = input.bytes.len() / crate::blocks::BLOCK;
+    let (full, ending) = match context.options.to {
+        Some(_) => context.written(Written::of(&input))?,
+        None => (input.bytes.clone(), "blocks"),
+    };
     Ok(Answer {
         status: Status::Yes,
         line: format!(
@@ -46,8 +54,8 @@ pub(super) fn write(context: &Context, file: &Path) -> Result<Answer, Trouble> {
             words::blocks(blocks)
         ),
         json: fields(&input),
-        full: input.bytes.clone(),
-        ending: "blocks",
+        full,
+        ending,
         extras: Vec::new(),
         notes: input.names.settled().to_vec(),
     })

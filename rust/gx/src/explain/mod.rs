@@ -62,8 +62,8 @@ pub struct Specimen {
 /// The answer of the comparison, explained where it is a no.
 #[derive(Clone, Debug)]
 pub enum Explained {
-    /// Contained.
-    Contained,
+    /// Contained, and which entries of the supplier's description earn it.
+    Contained(Vec<bool>),
     /// Not contained, and why.
     NotContained(Box<Failure>),
 }
@@ -80,7 +80,10 @@ pub fn compared(
 ) -> Result<Explained, library::Refusal> {
     let (list, under) = (&background.list, background.under());
     match library::compare(under, &supplier.bytes, &service.bytes)? {
-        Compared::Contained => Ok(Explained::Contained),
+        Compared::Contained => {
+            let marks = library::earning(under.pairs, &supplier.entries, &service.entries)?;
+            Ok(Explained::Contained(marks.unwrap_or_default()))
+        }
         Compared::NotContained { entry, specimen } => {
             let normal = library::normal(under, &supplier.bytes)?;
             let normal = library::entries(&normal);

@@ -48,7 +48,8 @@ pub fn of(command: Command) -> String {
     out.push_str(&columns("--help, -h", 20, "this help"));
     let status = match command {
         Command::Fit => "0 yes, 1 no",
-        Command::Compare => "0 contained, 1 not contained",
+        Command::Delivered => "0 each item fits, 1 not",
+        Command::Compare | Command::Keep => "0 contained, 1 not contained",
         Command::Catalogue => "0 contained in each (with --any, in one), 1 not",
         _ => "0 done",
     };
@@ -131,11 +132,13 @@ fn lines(text: &str, width: usize) -> Vec<String> {
 fn inputs(command: Command) -> &'static str {
     match command {
         Command::Fit => "SPECIMEN DESCRIPTION",
-        Command::Compare => "SUPPLIER SERVICE",
+        Command::Compare | Command::Keep => "SUPPLIER SERVICE",
         Command::Owl => "SUPPLIER SERVICE...",
         Command::Catalogue => "SUPPLIER SERVICES...",
         Command::Hierarchy => "SERVICES...",
         Command::Doubles => "DESCRIPTIONS...",
+        Command::Desk => "FILE [STEP]",
+        Command::Delivered => "RECORD DESCRIPTION",
         _ => "[FILE...]",
     }
 }
@@ -161,6 +164,10 @@ pub fn about(command: Command) -> (&'static str, &'static str) {
             "compare SUPPLIER SERVICE",
             "whether the first is contained in the second; a no explained",
         ),
+        Command::Keep => (
+            "keep SUPPLIER SERVICE",
+            "which entries of the first earn a yes",
+        ),
         Command::Catalogue => (
             "catalogue SUPPLIER SERVICES",
             "which services contain the supplier's description",
@@ -168,6 +175,14 @@ pub fn about(command: Command) -> (&'static str, &'static str) {
         Command::Hierarchy => (
             "hierarchy SERVICES",
             "the services from general to special, and which say the same",
+        ),
+        Command::Delivered => (
+            "delivered RECORD DESCRIPTION",
+            "which items of a delivered record fit",
+        ),
+        Command::Desk => (
+            "desk FILE STEP",
+            "a description in the making, with stands to return to",
         ),
         Command::Doubles => ("doubles DESCRIPTIONS", "which descriptions mean the same"),
         Command::Unfold => (

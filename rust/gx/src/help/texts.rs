@@ -10,8 +10,11 @@ pub(super) fn detail(command: Command) -> &'static str {
         Command::Normal => NORMAL,
         Command::Fit => FIT,
         Command::Compare => COMPARE,
+        Command::Keep => KEEP,
         Command::Catalogue => CATALOGUE,
         Command::Hierarchy => HIERARCHY,
+        Command::Delivered => DELIVERED,
+        Command::Desk => DESK,
         Command::Doubles => DOUBLES,
         Command::Unfold => UNFOLD,
         Command::Owl => OWL,
@@ -58,8 +61,15 @@ const COMPARE: &str = "\
 Answers whether every item that fits the supplier's description fits the service's. For a no it names the first entry that fails,
 where it stands, what the supplier's description says there, and shows a specimen that fits the first and not the second. With
 --pairs the answer is about the records that keep the list, and so is the specimen. Named entries are unfolded: what is told and
-shown, and the numbers of entries, are those of the plain descriptions. --all tells each entry that fails: one holds exactly where
-the supplier's description is contained in it with its owners alone, and the library is asked so of each.
+shown, and the numbers of entries, are those of the plain descriptions. For a yes it names the entries of the supplier's description
+that earn it, as 'gx keep' shows them. --all tells each entry that fails: one holds exactly where the supplier's description is
+contained in it with its owners alone, and the library is asked so of each.
+";
+
+const KEEP: &str = "\
+Marks the entries of the supplier's description that earn its being contained in the service's: cut down to them it is still contained,
+and without any one of them, 'every' entries apart, it is not. It is one such set: leaving out was tried from the last entry to the
+first. --out writes the description cut down, in the form that --to says. --html writes a page with both.
 ";
 
 const CATALOGUE: &str = "\
@@ -111,6 +121,35 @@ direct superior and EquivalentClasses for services that say the same, so that a 
 draws the classes in layers, --html writes a page with the tree, the drawing, and of each class what stands above and below it.
 ";
 
+const DELIVERED: &str = "\
+Answers for each item of a delivered record, at most 256, whether it fits the description: a line each, and for a no the first entry that
+it does not meet, with a path through the record to the item that breaks it. Items may be shared, and links may go round. A record is a
+text
+    record of 3 items
+    item 1 sample item 2
+    item 2 has sealed
+or a table with commas, item,says,name,to, with rows like 1,link,sample,2 and 2,has,sealed, where the highest item that is named is the
+last; or blocks, with --items N. gx show, write and check take all three. An item number of 0 or above the total is refused (10), a second
+item by a link that leads to one only (9), and with --pairs an item with both properties of a pair (12). --html writes a page with a
+table of all items, and of each no the path drawn.
+";
+
+const DESK: &str = "\
+A drafting desk: the file is its bytes, and where there is none the desk is empty. A step is
+    add ENTRY            adds an entry at the end: has sealed, or 1,7
+    add in 2 ENTRY       the same, owned by entry 2, an 'every'
+    take-off             takes off the last entry
+    stand N              names what is held as stand N; up to four
+    back N               goes back to what was held when stand N was named
+    drop N               drops stand N
+    show                 the entries with their numbers, and the stands
+    write                the description, in the form of --to, into --out
+Without one, steps are read from standard input, a line each. Each is one call of the library; what it refuses alters nothing (16 full, 17
+none to take off, 18 no such stand, 4, 5 and 6 as of any entry). The file is written whole or not at all, FILE~ has the desk before, and
+while somebody works at it FILE.lock is there. --against tells after each step which services of a folder contain the draft. A file that
+holds no desk is refused (20).
+";
+
 const DOUBLES: &str = "\
 Finds descriptions that mean the same: a line for each meaning that several have, with '=' between their names, and then those that
 stand alone. Two mean the same exactly if their normal forms are the same bytes, and these are compared. So the same items fit both
@@ -140,11 +179,12 @@ the variable GX_LAB names another, and --no-lab takes none. It has lines like
 with files beside it. An option of the command line counts before it. Each answer says under which files it was given, with their
 SHA-256.
 
-Inputs are files, or standard input as -, also where no FILE is given. They are blocks or text, told apart by their bytes: an
-input with a zero byte, or an empty one, is blocks (the second byte of all accepted blocks is zero); any other is text. --from
-says it where that is wrong. A folder stands for its files, without hidden ones, names files (*.names), lists of pairs (*.pairs),
-dictionaries (*.dictionary), settings (*.gx) and folders: each gets a line, and one bad file stops none of the others. So it is for
-several files. A folder without an input is an error; folders in it are told, and read with --recursive.
+Inputs are files, or standard input as -, also where no FILE is given. They are blocks or text, told apart by their bytes: an input
+with a zero byte, or an empty one, is blocks (the second byte of all accepted blocks is zero); any other is text. A file that ends
+in .stored is in the shorter stored form. --from says it where that is wrong. A folder stands for its files, without hidden ones,
+names files (*.names), lists of pairs (*.pairs), dictionaries (*.dictionary), settings (*.gx) and folders: each gets a line, and one
+bad file stops none of the others. So it is for several files. A folder without an input is an error; folders in it are told, and
+read with --recursive.
 With two folders each file of the first goes with each of the second.
 
 A text has an entry on each line, or divides them by ';':

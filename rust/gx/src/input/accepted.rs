@@ -3,6 +3,8 @@
 use std::path::Path;
 
 use super::{named, Input};
+use crate::blocks::encode;
+use crate::delivered::Delivered;
 use crate::dictionary::{self, Dictionary, Naming};
 use crate::entry::{Named, Sort};
 use crate::library;
@@ -42,10 +44,52 @@ fn read(draft: &Input, naming: Naming<'_>) -> Result<(), library::Refusal> {
         (Sort::Specimen, _) | (_, Naming::Nothing) => {
             return library::read(draft.sort, &draft.bytes).map(|_| ())
         }
+        (_, Naming::Sheet) => return library::read_sheet(&draft.bytes).map(|_| ()),
         (_, Naming::Any) => library::unfold(&dictionary::any(), &draft.bytes),
         (_, Naming::All(of) | Naming::Before(of, _)) => library::unfold(&of.bytes, &draft.bytes),
     };
     unfolded.map(|_| ())
+}
+
+/// The blocks of a description in the stored form, the call's input of this number, if the library accepts it.
+///
+/// # Errors
+///
+/// The refusal.
+pub fn unstored(path: &Path, bytes: &[u8], input: u16) -> Result<Vec<u8>, Trouble> {
+    library::from_stored(bytes).map_err(|refusal| Trouble::Refused {
+        file: named(path),
+        why: refused::why_stored(refusal, bytes),
+        shown: refused::shown_stored(refusal, bytes),
+        refusal: library::Refusal { input, ..refusal },
+        at: None,
+    })
+}
+
+/// The record, if the library accepts it under this list. No call reads a record alone: it is looked at before the description, so one
+/// without entries tells.
+///
+/// # Errors
+///
+/// The refusal.
+pub fn accepted_record(
+    path: &Path,
+    draft: Delivered,
+    under: library::Under<'_>,
+) -> Result<Delivered, Trouble> {
+    let Err(refusal) = library::fit_all(under, draft.items, &draft.bytes, &encode(&[])) else {
+        return Ok(draft);
+    };
+    let place = usize::from(refusal.place);
+    let of_entry = refusal.reason.number() >= 4;
+    let at = draft.positions.get(place.wrapping_sub(1)).copied();
+    Err(Trouble::Refused {
+        file: named(path),
+        why: refused::why_record(refusal, &draft),
+        shown: refused::shown_record(refusal, &draft),
+        refusal,
+        at: at.filter(|_| of_entry),
+    })
 }
 
 /// The dictionary, if the library accepts it.

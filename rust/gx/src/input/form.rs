@@ -9,6 +9,8 @@ pub enum Form {
     Blocks,
     /// Text.
     Text,
+    /// Blocks of the stored form.
+    Stored,
 }
 
 impl Form {

@@ -14,7 +14,10 @@ use crate::names::Names;
 use crate::text::Position;
 use crate::trouble::Trouble;
 
-pub use accepted::{accepted, accepted_dictionary, accepted_list, accepted_services, keeping};
+pub use accepted::{
+    accepted, accepted_dictionary, accepted_list, accepted_record, accepted_services, keeping,
+    unstored,
+};
 pub use files::{
     all_mistaken, bytes_of, files_of, mistaken, named, names_of, text_of, title, unreadable, why,
     Listed,

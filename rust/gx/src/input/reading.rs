@@ -3,15 +3,18 @@
 use std::path::Path;
 
 use super::{
-    accepted, accepted_dictionary, accepted_list, accepted_services, all_mistaken, bytes_of,
-    mistaken, named, text_of, title, Form, Input,
+    accepted, accepted_dictionary, accepted_list, accepted_record, accepted_services, all_mistaken,
+    bytes_of, mistaken, named, text_of, title, unstored, Form, Input,
 };
 use crate::blocks;
+use crate::delivered::Delivered;
 use crate::dictionary::{self, Dictionary, Naming, Part};
 use crate::entry::Sort;
+use crate::library::Under;
 use crate::names::Names;
 use crate::pairs::{self, List};
 use crate::services::Services;
+use crate::stored;
 use crate::text::{self, Bracketed, Mistake};
 use crate::trouble::Trouble;
 
@@ -54,11 +57,23 @@ impl Reading {
         input: u16,
         naming: Naming<'_>,
     ) -> Result<Input, Trouble> {
-        let draft = match self.form_of(&bytes) {
+        let draft = match self.form_at(path, &bytes) {
             Form::Blocks => self.blocks(path, bytes, sort),
+            Form::Stored => self.blocks(path, unstored(path, &bytes, input)?, sort),
             Form::Text => self.text(path, &bytes, sort)?,
         };
         accepted(path, draft, input, naming)
+    }
+
+    /// The form that is forced, or that the ending of the file tells, or the one that its bytes have.
+    fn form_at(&self, path: &Path, bytes: &[u8]) -> Form {
+        let ended = path
+            .extension()
+            .is_some_and(|ending| ending == stored::ENDING);
+        match self.form {
+            None if ended => Form::Stored,
+            _ => self.form_of(bytes),
+        }
     }
 
     /// The form that is forced, or the one that these bytes have.
@@ -80,7 +95,7 @@ impl Reading {
     pub fn list_of(&self, path: &Path, bytes: Vec<u8>) -> Result<List, Trouble> {
         let mut names = self.names.clone();
         let draft = match self.form.unwrap_or(Form::of_list(&bytes)) {
-            Form::Blocks => List {
+            Form::Blocks | Form::Stored => List {
                 title: title(path),
                 pairs: pairs::decode(&bytes),
                 bytes,
@@ -113,7 +128,7 @@ impl Reading {
     pub fn dictionary_of(&self, path: &Path, bytes: Vec<u8>) -> Result<Dictionary, Trouble> {
         let mut names = self.names.clone();
         let draft = match self.form_of(&bytes) {
-            Form::Blocks => Dictionary {
+            Form::Blocks | Form::Stored => Dictionary {
                 title: title(path),
                 parts: dictionary::decode(&bytes),
                 bytes,
@@ -159,7 +174,7 @@ impl Reading {
     pub fn unread_services_of(&self, path: &Path, bytes: Vec<u8>) -> Result<Services, Trouble> {
         let mut names = self.names.clone();
         let (parts, bytes) = match self.form_of(&bytes) {
-            Form::Blocks => (dictionary::decode(&bytes), bytes),
+            Form::Blocks | Form::Stored => (dictionary::decode(&bytes), bytes),
             Form::Text => {
                 let parts = self.parts(path, &bytes, Bracketed::Services, &mut names)?;
                 let bytes = dictionary::encode(&parts);
@@ -172,6 +187,66 @@ impl Reading {
             parts,
             bytes,
             names,
+        })
+    }
+
+    /// Reads a file as a delivered record: a text, a table, or blocks of so many items.
+    ///
+    /// # Errors
+    ///
+    /// The file cannot be read, its text has a mistake, or the library refuses the record.
+    pub fn record(
+        &self,
+        path: &Path,
+        bytes: Vec<u8>,
+        items: Option<usize>,
+        under: Under<'_>,
+    ) -> Result<Delivered, Trouble> {
+        let draft = match self.form_of(&bytes) {
+            Form::Blocks | Form::Stored => self.record_of_blocks(path, bytes, items)?,
+            Form::Text => self.record_of_text(path, &bytes, items)?,
+        };
+        accepted_record(path, draft, under)
+    }
+
+    fn record_of_blocks(
+        &self,
+        path: &Path,
+        bytes: Vec<u8>,
+        items: Option<usize>,
+    ) -> Result<Delivered, Trouble> {
+        let items = items.ok_or_else(|| Trouble::File {
+            file: named(path),
+            why: "blocks do not say how many items the record has; --items N does".into(),
+        })?;
+        Ok(Delivered {
+            title: title(path),
+            items,
+            entries: blocks::decode(&bytes),
+            bytes,
+            names: self.names.clone(),
+            positions: Vec::new(),
+        })
+    }
+
+    fn record_of_text(
+        &self,
+        path: &Path,
+        bytes: &[u8],
+        items: Option<usize>,
+    ) -> Result<Delivered, Trouble> {
+        let mut names = self.names.clone();
+        let text = text_of(path, bytes)?;
+        let parsed = text::parse_record(text, &names);
+        let parsed = parsed.map_err(|mistake| mistaken(path, mistake, text))?;
+        join(&mut names, parsed.words, path, text)?;
+        Ok(Delivered {
+            title: title(path),
+            items: items.unwrap_or(parsed.items),
+            bytes: blocks::encode(&parsed.entries),
+            entries: parsed.entries,
+            names,
+            positions: parsed.positions,
         })
     }
 

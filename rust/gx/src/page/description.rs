@@ -1,5 +1,7 @@
 //! A description as a list of places that fold.
 
+use std::collections::BTreeMap;
+
 use super::folds::{parts, Part};
 use super::{filed, marked};
 use crate::entry::Says;
@@ -22,14 +24,29 @@ pub(super) struct Marks {
     pub(super) too: Vec<usize>,
     /// The entries that say something of the same.
     pub(super) says: Vec<usize>,
+    /// What is told of entries, each with the class of its row.
+    pub(super) notes: BTreeMap<usize, (&'static str, String)>,
 }
 
 impl Marks {
+    /// The entries that earn a yes, and the others grey.
+    pub(super) fn earning(marks: &[bool]) -> Marks {
+        let note = |(entry, &is): (usize, &bool)| match is {
+            true => (entry, (" way", "earns it".to_string())),
+            false => (entry, (" gone", String::new())),
+        };
+        Marks {
+            notes: (1..).zip(marks).map(note).collect(),
+            ..Marks::default()
+        }
+    }
+
     fn any(&self, entry: usize) -> bool {
         self.fails == Some(entry)
             || self.too.contains(&entry)
             || self.way.contains(&entry)
             || self.says.contains(&entry)
+            || self.notes.contains_key(&entry)
     }
 }
 
@@ -143,22 +160,11 @@ impl Listing<'_> {
     fn row(&self, entry: usize, below: usize) -> String {
         let says = self.input.entries[entry - 1].says();
         let fails = self.marks.fails == Some(entry);
-        let (class, flag) = match (fails, self.marks.says.contains(&entry)) {
-            (true, _) => (" fails", " <strong class=\"flag\">✕ fails</strong>"),
-            (_, true) => (
-                " says",
-                " <strong class=\"flag here\">is said there</strong>",
-            ),
-            _ if self.marks.too.contains(&entry) => {
-                (" too", " <strong class=\"flag\">✕ fails too</strong>")
-            }
-            _ if self.marks.way.contains(&entry) => (" way", ""),
-            _ => ("", ""),
-        };
+        let (class, flag) = self.flagged(entry);
         let words = marked(&self.words.says(says));
         let words = match (fails, class) {
             (true, _) => format!("<mark>{words}</mark>"),
-            (_, "") => words,
+            (_, "" | " gone") => words,
             _ => format!("<b>{words}</b>"),
         };
         let count = match (below, says) {
@@ -171,6 +177,32 @@ impl Listing<'_> {
             self.number(says),
             self.named(entry)
         )
+    }
+
+    /// The class of an entry's row, and what is told of it.
+    fn flagged(&self, entry: usize) -> (&'static str, String) {
+        let marks = self.marks;
+        if let Some((class, note)) = marks.notes.get(&entry) {
+            if note.is_empty() {
+                return (class, String::new());
+            }
+            return (class, format!(" <span class=\"c\">{note}</span>"));
+        }
+        let (class, flag) = match () {
+            () if marks.fails == Some(entry) => {
+                (" fails", " <strong class=\"flag\">✕ fails</strong>")
+            }
+            () if marks.says.contains(&entry) => (
+                " says",
+                " <strong class=\"flag here\">is said there</strong>",
+            ),
+            () if marks.too.contains(&entry) => {
+                (" too", " <strong class=\"flag\">✕ fails too</strong>")
+            }
+            () if marks.way.contains(&entry) => (" way", ""),
+            () => ("", ""),
+        };
+        (class, flag.into())
     }
 
     /// The description that an entry was put in from.

@@ -2,12 +2,14 @@
 //! nothing, and needs no script.
 
 mod all;
+mod delivered;
 mod description;
 mod doubles;
 mod fitting;
 mod folds;
 mod hierarchy;
 mod index;
+mod kept;
 mod readback;
 mod specimen;
 mod style;
@@ -27,10 +29,12 @@ use crate::whereabouts;
 use crate::words::{self, Words, APART};
 use description::{listing, Marks};
 
+pub use delivered::{delivered, Checked};
 pub use doubles::{doubles, Meaning};
 pub use fitting::{fitting, Fitting};
 pub use hierarchy::hierarchy;
 pub use index::{index, Row};
+pub use kept::{kept, Kept};
 
 /// What a page of a comparison is made of.
 #[derive(Clone, Copy, Debug)]
@@ -60,7 +64,7 @@ pub struct Sheet<'a> {
 /// A description or a specimen on it is not the one that was compared.
 pub fn page(sheet: Sheet<'_>) -> Result<String, Trouble> {
     let (title, body) = match sheet.explained {
-        Explained::Contained => ("Contained", contained(sheet)),
+        Explained::Contained(earning) => ("Contained", contained(sheet, earning)),
         Explained::NotContained(failure) => ("Not contained", not_contained(failure, sheet)),
     };
     for (id, input) in [("supplier", sheet.supplier), ("service", sheet.service)] {
@@ -191,11 +195,12 @@ fn answer(class: &str, sign: &str, says: &str, sentence: &str) -> String {
     )
 }
 
-fn contained(sheet: Sheet<'_>) -> String {
+fn contained(sheet: Sheet<'_>, earning: &[bool]) -> String {
     let sentence = "Every consignment that the supplier’s description allows is one that the service’s description allows.";
     let sentence = format!("{sentence}{}", where_kept(sheet.list));
     let mut out = answer("yes", "✓", "Contained", &sentence);
-    out.push_str(&both(sheet, &Marks::default(), &Marks::default()));
+    let said = Marks::earning(earning);
+    out.push_str(&both(sheet, &said, &Marks::default()));
     out
 }
 

@@ -45,6 +45,7 @@ summary:focus-visible{outline:3px solid var(--way)}
 .says{background:var(--way-back);outline:2px dashed var(--way);outline-offset:-1px;margin:.15rem 0}
 .fails{background:var(--no-back);outline:3px solid var(--no);outline-offset:-1px;margin:.2rem 0}
 .fails mark{background:none;color:inherit;font-weight:700}
+.gone{color:var(--soft)}
 .too{background:var(--no-back);outline:1px solid var(--no);outline-offset:-1px;margin:.15rem 0}
 table{border-collapse:collapse;width:100%;margin-top:.6rem}
 th{text-align:left;color:var(--soft);font-weight:400}

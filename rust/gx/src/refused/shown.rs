@@ -94,7 +94,7 @@ fn in_hex(bytes: &[u8]) -> String {
     hex.join(" ")
 }
 
-fn shown_blocks(bytes: &[u8], place: usize) -> String {
+pub(super) fn shown_blocks(bytes: &[u8], place: usize) -> String {
     let total = bytes.len() / BLOCK;
     let first = place.saturating_sub(1).max(1);
     let mut out = String::new();

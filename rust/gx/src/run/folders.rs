@@ -144,7 +144,7 @@ impl Run {
         let answer = self.context.answer(self.command, &paths);
         let answer = answer.and_then(|answer| {
             self.store_extras(&answer, Some(name))?;
-            if let Some(out) = &self.options().out {
+            if let (Some(out), false) = (&self.options().out, self.writes_beside()) {
                 store_in(&out.join(format!("{name}.{}", answer.ending)), &answer.full)?;
             }
             Ok(answer)

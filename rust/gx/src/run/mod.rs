@@ -1,6 +1,7 @@
 //! One run of the program: the inputs of the command line, one by one, and what is printed of each answer.
 
 mod catalogue;
+mod desk;
 mod doubles;
 mod folders;
 mod hierarchy;
@@ -82,6 +83,7 @@ fn done(command: Command, files: &[PathBuf], options: Options) -> u8 {
     match command {
         Command::Catalogue => run.catalogue(files),
         Command::Hierarchy => run.hierarchy(files),
+        Command::Desk => run.desk(files),
         Command::Doubles => run.doubles(files),
         _ if many => run.lines(files),
         _ => run.alone(files),
@@ -111,13 +113,19 @@ impl Run {
 
     /// The answer for one input, or for two.
     fn alone(&self, files: &[PathBuf]) -> u8 {
-        let blocks = self.command == Command::Write || self.options().to == Some(To::Blocks);
+        let to = self.options().to;
+        let blocks = self.command == Command::Write || matches!(to, Some(To::Blocks | To::Stored));
         if blocks && self.to_terminal() {
             complain("gx: blocks are not for a terminal; --out FILE writes them into a file\n");
             return USAGE;
         }
         let files: Vec<&Path> = files.iter().map(PathBuf::as_path).collect();
         self.one(&files).code()
+    }
+
+    /// Whether what --out is for is not the answer itself.
+    fn writes_beside(&self) -> bool {
+        self.command == Command::Keep
     }
 
     fn to_terminal(&self) -> bool {
@@ -210,7 +218,10 @@ impl Run {
     }
 
     fn print_one(&self, answer: Answer) -> Status {
-        if let Some(out) = &self.options().out {
+        // What is told in words is printed also where a description is written beside it.
+        let out = self.options().out.as_ref();
+        let out = out.filter(|_| !self.writes_beside());
+        if let Some(out) = out {
             if let Err(trouble) = store(out, &answer.full) {
                 self.print_trouble(&trouble, false);
                 return trouble.status();
@@ -235,7 +246,7 @@ impl Run {
             // What is printed is data.
             complain(&format!("gx: {notes}"));
         }
-        match self.options().out {
+        match out {
             Some(_) => answer.status,
             None => self.printed(&full, answer.status),
         }
@@ -279,6 +290,7 @@ impl Run {
                 Extra::Html => (&self.options().html, "html"),
                 Extra::Svg => (&self.options().svg, "svg"),
                 Extra::Specimen => (&self.options().specimen, "blocks"),
+                Extra::Out => (&self.options().out, "txt"),
             };
             match (path, name) {
                 (Some(path), None) => store(path, bytes)?,

@@ -43,6 +43,22 @@ fn drawn(failure: &Failure, words: Words<'_>, whole: bool, style: &str) -> Strin
     rendered(&mut nodes, &title, &about, style)
 }
 
+/// A chain of items, from the first to the one that this is wrong of, for a page that has the style.
+pub fn chain(steps: &[String], wrong: &str) -> String {
+    let last = steps.len().saturating_sub(1);
+    let node = |(depth, step): (usize, &String)| {
+        let mut lines = vec![Written::title(step)];
+        let above = depth.checked_sub(1);
+        if depth < last {
+            return Node::new(depth, above, Look::Way, 0, lines);
+        }
+        lines.push(Written::note(&format!("✕ {wrong}")));
+        Node::new(depth, above, Look::Fails, 0, lines)
+    };
+    let mut nodes: Vec<Node> = steps.iter().enumerate().map(node).collect();
+    rendered(&mut nodes, &steps.join(", "), wrong, "")
+}
+
 /// A drawing that only says this.
 pub fn empty(says: &str) -> String {
     let line = Written::small(says);

@@ -34,6 +34,15 @@
 //! ```
 //!
 //! A list of services likewise, after the heading `services`: `service 1 [ .. ]`.
+//!
+//! A delivered record says how many items it has, and then of each what it has and which items it is linked to; a table with commas,
+//! `item,says,name,to`, says the same:
+//!
+//! ```text
+//! record of 2 items
+//! item 1 link 1 "sample" item 2
+//! item 2 has property 7 "sealed"
+//! ```
 
 mod lexer;
 mod mistake;
@@ -43,9 +52,12 @@ mod write;
 pub use lexer::{Lexer, Sign, Token};
 pub use mistake::{Mistake, Position};
 pub use parse::{is_headed, parse, parse_dictionary, parse_pairs, parse_parts, parse_services};
+pub use parse::{is_table, parse_record, ParsedRecord, RECORD, TABLE};
 pub use parse::{mistakes, mistakes_of_pairs, mistakes_of_parts, MOST_MISTAKES};
 pub use parse::{
     Bracketed, Parsed, ParsedPairs, ParsedParts, DICTIONARY, EXCLUDES, PAIRS, SERVICES,
 };
 pub use write::{description, desk, desk_dictionary, desk_pairs, desk_services, dictionary};
-pub use write::{entry, pair, pairs, property, quoted, services, text, Numbers};
+pub use write::{
+    entry, pair, pairs, property, quoted, record, said_of_item, services, text, Numbers,
+};

@@ -4,6 +4,7 @@ mod dictionary;
 mod mistakes;
 mod names;
 mod pairs;
+mod record;
 mod rows;
 mod words;
 
@@ -18,6 +19,7 @@ pub use mistakes::{mistakes, mistakes_of_pairs, mistakes_of_parts, MOST_MISTAKES
 use rows::numbered;
 
 pub use pairs::{parse_pairs, ParsedPairs, EXCLUDES, PAIRS};
+pub use record::{is_table, parse_record, ParsedRecord, RECORD, TABLE};
 
 /// What a text says.
 #[derive(Clone, Debug, Default)]

@@ -224,6 +224,36 @@ pub fn entry(says: Says, names: &Names) -> String {
     }
 }
 
+/// A delivered record as text.
+pub fn record(items: usize, entries: &[Entry], names: &Names) -> String {
+    let word = if items == 1 { "item" } else { "items" };
+    let mut out = format!("record of {items} {word}\n");
+    for e in entries {
+        out.push_str(&said_of_item(e, names));
+        out.push('\n');
+    }
+    out
+}
+
+/// What an entry of a record says.
+pub fn said_of_item(e: &Entry, names: &Names) -> String {
+    let Entry {
+        kind,
+        owner,
+        name,
+        number,
+        ..
+    } = *e;
+    match kind {
+        1 => format!("item {owner} has {}", property(Property(name), names)),
+        8 => format!(
+            "item {owner} {} item {number}",
+            link_name(Link(name), names)
+        ),
+        _ => format!("item {owner}, kind {kind}, name {name}, number {number}"),
+    }
+}
+
 fn link_name(link: Link, names: &Names) -> String {
     with_word("link", link.0, names.link(link))
 }

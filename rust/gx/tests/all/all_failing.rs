@@ -132,7 +132,7 @@ fn for_programs() {
     let ran = folder.gx(&["compare", "c", "yes", "--names", "n", "--all", "--json"]);
     assert!(ran
         .text()
-        .starts_with("{\"answer\":\"contained\",\"all\":[]"));
+        .starts_with("{\"answer\":\"contained\",\"earning\":[],\"all\":[]"));
 }
 
 #[test]

@@ -34,11 +34,11 @@ fn a_near_word_is_suggested() {
         ),
         (
             &["show", "d", "--to", "bloks"],
-            "--to takes text or desk or blocks; did you mean 'blocks'?",
+            "--to takes text or desk or blocks or stored; did you mean 'blocks'?",
         ),
         (
             &["show", "d", "--html", "p"],
-            "show has no option '--html'; fit, compare, catalogue, hierarchy, doubles has",
+            "show has no option '--html'; fit, compare, keep, catalogue, hierarchy, delivered, doubles has",
         ),
         (&["judge"], "there is no command 'judge'\n"),
         (

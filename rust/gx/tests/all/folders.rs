@@ -84,7 +84,7 @@ fn a_line_for_each_pair() {
     let lines: Vec<String> = ran.text().lines().map(String::from).collect();
     assert_eq!(
         lines[0],
-        "{\"file\":\"one.txt and one.txt\",\"answer\":\"contained\"}"
+        "{\"file\":\"one.txt and one.txt\",\"answer\":\"contained\",\"earning\":[1]}"
     );
     assert_eq!((lines.len(), ran.status), (4, 1));
 }

@@ -287,7 +287,8 @@ fn a_no_tells_implied_lacks() {
     }
     let ran = compare("yes");
     let due = "contained\n\nEvery item that fits the supplier's description fits the service's description, in every record that \
-               keeps the 2 pairs of list.\n";
+               keeps the 2 pairs of list.\n\nOf its 4 entries 2 earn it: 1 and 2. One such set, of which none can be left out; leaving out was tried from \
+               the last.\n";
     assert_eq!((ran.status, ran.text().as_str()), (0, due));
     let ran = folder.gx(&["compare", "c", "yes", "--names", "names"]);
     assert_eq!(ran.status, 1);

@@ -74,7 +74,7 @@ fn what_is_shown_is_read_back() {
 fn what_a_page_shows_is_read_back() {
     let input = unreadable();
     let plain = Names::default();
-    let explained = gx::explain::Explained::Contained;
+    let explained = gx::explain::Explained::Contained(Vec::new());
     let sheet = page::Sheet {
         explained: &explained,
         list: &Default::default(),

@@ -121,6 +121,7 @@ fn each_answer_for_programs_is_one_of_the_schema() {
     let schema = std::fs::read_to_string(repository("docs/gx.schema.json")).unwrap();
     let (schema, _) = value(&schema);
     let folder = Folder::new("schema");
+    std::fs::create_dir(folder.path().join("services")).unwrap();
     std::fs::create_dir_all(folder.path().join("empty")).unwrap();
     folder
         .put("n", "property 7 \"sealed\"\nlink 1 \"sample\"")
@@ -136,6 +137,11 @@ fn each_answer_for_programs_is_one_of_the_schema() {
         .put("f", "has property 8 \"b\"")
         .put("s", "specimen\ngroup of 2 sample [has sealed]")
         .put("t", "at least 3 sample")
+        .put(
+            "record",
+            "record of 2 items\nitem 1 sample item 2\nitem 2 has property 9",
+        )
+        .put("services/a", "1,7")
         .put("wrong", "hass\nat lest 1 core")
         .put("refused", "1,0")
         .put("p.pairs", "sealed excludes property 8")
@@ -162,6 +168,13 @@ fn each_answer_for_programs_is_one_of_the_schema() {
         &["compare", "d", "d", "--all"],
         &["compare", "e", "f"],
         &["compare", "none", "f"],
+        &["keep", "d", "d"],
+        &["keep", "c", "d"],
+        &["delivered", "record", "d"],
+        &["check", "record"],
+        &["desk", "desk", "add", "1,7", "--against", "services"],
+        &["desk", "desk", "show"],
+        &["doubles", "c", "d", "c"],
         &["catalogue", "c", "d", "e", "refused", "--why"],
         &["hierarchy", "c", "d", "c"],
         &["hierarchy", "c", "refused", "none"],

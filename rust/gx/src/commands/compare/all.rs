@@ -22,7 +22,7 @@ pub(super) fn failing(
     let all = all_failing(&context.background, supplier, service);
     let all = all.map_err(|refusal| not_refused(d, refusal))?;
     let first = match explained {
-        Explained::Contained => None,
+        Explained::Contained(_) => None,
         Explained::NotContained(failure) => Some(failure.entry),
     };
     match all.first().map(|failure| failure.entry) == first {

@@ -4,7 +4,7 @@ mod all;
 
 use std::path::Path;
 
-use super::{entries_json, words_of, Answer, Context, Extra, Status};
+use super::{entries_json, keep, words_of, Answer, Context, Extra, Status};
 use crate::blocks::encode;
 use crate::explain::{compared, Explained, Failure};
 use crate::input::{not_refused, Input};
@@ -21,7 +21,7 @@ use crate::words::{self, Words};
 use crate::{page, svg};
 
 pub(super) fn compare(context: &Context, c: &Path, d: &Path) -> Result<Answer, Trouble> {
-    let supplier = context.description(c, 1)?;
+    let supplier = context.supplied(c, 1)?;
     let service = context.description(d, 2)?;
     of_inputs(context, supplier, service, d)
 }
@@ -42,7 +42,7 @@ pub(super) fn of_inputs(
         false => None,
     };
     let mut answer = match &explained {
-        Explained::Contained => contained(list),
+        Explained::Contained(marks) => contained(list, &supplier, marks),
         Explained::NotContained(failure) => not_contained(failure, &supplier, &service, &names)?,
     };
     if let Some(all) = &all {
@@ -66,7 +66,7 @@ fn extras(
     let mut extras = Vec::new();
     if options.svg.is_some() {
         let drawing = match explained {
-            Explained::Contained => svg::empty("Contained: there is no specimen to show."),
+            Explained::Contained(_) => svg::empty("Contained: there is no specimen to show."),
             Explained::NotContained(failure) => svg::drawing(failure, words, options.whole),
         };
         extras.push((Extra::Svg, drawing.into_bytes()));
@@ -91,10 +91,11 @@ fn extras(
     Ok(extras)
 }
 
-fn contained(list: &List) -> Answer {
+fn contained(list: &List, supplier: &Input, earning: &[bool]) -> Answer {
     let line = "contained".to_string();
+    let earned = keep::earned(supplier, earning);
     let full = format!(
-        "contained\n\nEvery item that fits the supplier's description fits the service's description{}.\n",
+        "contained\n\nEvery item that fits the supplier's description fits the service's description{}.\n{earned}",
         where_kept(list)
     );
     Answer {
@@ -102,7 +103,10 @@ fn contained(list: &List) -> Answer {
         line,
         full: full.into_bytes(),
         ending: "txt",
-        json: vec![("answer", Json::text("contained"))],
+        json: vec![
+            ("answer", Json::text("contained")),
+            ("earning", keep::numbers(earning)),
+        ],
         extras: Vec::new(),
         notes: Vec::new(),
     }

@@ -1,0 +1,142 @@
+//! The page of a delivered record: a table of its items, and of each that does not fit the path to what breaks it, drawn.
+
+use super::description::{listing, Marks};
+use super::{answer, filed, framed, given, marked, readback, settled, where_kept};
+use crate::commands::Unmet;
+use crate::delivered::Delivered;
+use crate::given::Given;
+use crate::input::Input;
+use crate::names::Names;
+use crate::pairs::List;
+use crate::shown::file_name;
+use crate::svg;
+use crate::trouble::Trouble;
+use crate::words::{self, Words};
+
+/// So many paths are drawn.
+const MOST_DRAWN: usize = 40;
+
+/// What the page is made of.
+#[derive(Clone, Copy, Debug)]
+pub struct Checked<'a> {
+    /// The record.
+    pub record: &'a Delivered,
+    /// The description.
+    pub description: &'a Input,
+    /// For each item why it does not fit, if it does not.
+    pub unmet: &'a [Option<Unmet>],
+    /// The list of pairs.
+    pub list: &'a List,
+    /// The words of all.
+    pub names: &'a Names,
+    /// The files that the answer is given under.
+    pub given: &'a Given,
+}
+
+/// The page.
+///
+/// # Errors
+///
+/// The description on it is not the one that was asked about.
+pub fn delivered(sheet: Checked<'_>) -> Result<String, Trouble> {
+    let words = Words::apart(sheet.names);
+    let (says, head) = headed(sheet);
+    let mut body = head;
+    body.push_str(&table(sheet, words));
+    body.push_str(&paths(sheet));
+    let fails = |unmet: &Unmet| (unmet.entry, (" too", "not met".to_string()));
+    let marks = Marks {
+        notes: sheet.unmet.iter().flatten().map(fails).collect(),
+        ..Marks::default()
+    };
+    let described = listing(
+        "description",
+        "The description",
+        sheet.description,
+        &marks,
+        words,
+    );
+    body.push_str(&described);
+    readback::checked(&body, "description", sheet.description, sheet.names)?;
+    body.push_str(&settled(sheet.names));
+    body.push_str(&format!(
+        "<footer>\n{FOOTER}{}</footer>\n",
+        given(sheet.given)
+    ));
+    let [record, description] =
+        [&sheet.record.title, &sheet.description.title].map(|title| file_name(title));
+    Ok(framed(
+        &format!("{says}: {record} and {description}"),
+        &body,
+    ))
+}
+
+const FOOTER: &str = "<p>Which items fit, and which entries they do not meet, is the answer of the proved library; this page words and draws \
+it.</p>\n";
+
+/// The answer, and that in large.
+fn headed(sheet: Checked<'_>) -> (String, String) {
+    let all = sheet.unmet.len();
+    let fit = sheet.unmet.iter().filter(|unmet| unmet.is_none()).count();
+    let kept = where_kept(sheet.list)
+        .replace("<a href=\"#pairs\">", "")
+        .replace("</a>", "");
+    let sentence = format!(
+        "Items of {} that fit {}.{kept}",
+        filed(&sheet.record.title),
+        filed(&sheet.description.title)
+    );
+    let (class, sign, says) = match fit == all {
+        true => ("yes", "✓", format!("All {all} fit")),
+        false => ("no", "✕", format!("{fit} of {all} fit")),
+    };
+    let head = answer(class, sign, &says, &sentence);
+    (says, head)
+}
+
+/// A row for each item.
+fn table(sheet: Checked<'_>, words: Words<'_>) -> String {
+    let row = |(item, unmet): (usize, &Option<Unmet>)| {
+        match unmet {
+        None => format!(
+            "<tr class=\"yes\"><td aria-hidden=\"true\">✓</td><td>item {item}</td><td>fits</td></tr>\n"
+        ),
+        Some(unmet) => format!(
+            "<tr class=\"no\"><td aria-hidden=\"true\">✕</td><td><a href=\"#item-{item}\">item {item}</a></td><td>\
+             <a href=\"#description-{entry}\">entry {entry}</a>: {}</td></tr>\n",
+            marked(&unmet.asks(words)),
+            entry = unmet.entry
+        ),
+    }
+    };
+    let rows: String = (1..).zip(sheet.unmet).map(row).collect();
+    format!(
+        "<section class=\"card\">\n<h2>The items</h2>\n<table class=\"index\">\n<thead><tr><th></th><th>Item</th><th>Answer</th></tr></thead>\n\
+         <tbody>\n{rows}</tbody>\n</table>\n</section>\n"
+    )
+}
+
+/// The paths to what breaks each no.
+fn paths(sheet: Checked<'_>) -> String {
+    let words = Words::new(sheet.names);
+    let bad: Vec<(usize, &Unmet)> = (1..)
+        .zip(sheet.unmet)
+        .filter_map(|(item, unmet)| Some((item, unmet.as_ref()?)))
+        .collect();
+    let mut out = String::new();
+    for (item, unmet) in bad.iter().take(MOST_DRAWN) {
+        let shows = unmet.shows(sheet.record, words);
+        let drawing = svg::chain(&unmet.steps(words), &shows);
+        out.push_str(&format!(
+            "<section class=\"card\" id=\"item-{item}\">\n<h2>Item {item}</h2>\n<figure>\n<div class=\"draw\" tabindex=\"0\" role=\"group\" \
+             aria-label=\"Path from item {item}\">\n{drawing}</div>\n</figure>\n</section>\n"
+        ));
+    }
+    if bad.len() > MOST_DRAWN {
+        let rest = words::grouped((bad.len() - MOST_DRAWN) as u32);
+        out.push_str(&format!(
+            "<p>{rest} more are not drawn; the table has them.</p>\n"
+        ));
+    }
+    out
+}

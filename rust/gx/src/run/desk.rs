@@ -1,0 +1,287 @@
+//! The run of a drafting desk: steps on a file that is its bytes, from the command line or from standard input.
+
+use std::fs::{self, OpenOptions};
+use std::io::{self, BufRead};
+use std::path::{Path, PathBuf};
+
+use super::print::{complain, printed};
+use super::store::store;
+use super::{Run, USAGE};
+use crate::args::To;
+use crate::blocks;
+use crate::commands::Status;
+use crate::dictionary::Naming;
+use crate::draft::{asked, stands, Asked};
+use crate::entry::{Entry, Sort};
+use crate::input::{named, unreadable};
+use crate::json::Json;
+use crate::library::{self, Compared, Desk, Reason, Refusal, Step};
+use crate::refused;
+use crate::text::{self, Numbers};
+use crate::trouble::Trouble;
+use crate::words;
+
+/// A desk and the file that keeps it.
+struct Kept<'a> {
+    file: &'a Path,
+    desk: Desk,
+    /// The services that the draft is compared with after each step.
+    against: Vec<(String, Vec<u8>)>,
+}
+
+/// The file that is there while a desk is worked at.
+struct Lock(PathBuf);
+
+impl Drop for Lock {
+    fn drop(&mut self) {
+        let _ = fs::remove_file(&self.0);
+    }
+}
+
+impl Run {
+    /// A step of the command line, or those of standard input line by line.
+    pub(super) fn desk(&self, files: &[PathBuf]) -> u8 {
+        let Some((file, step)) = files.split_first() else {
+            return USAGE;
+        };
+        let begun = lock(file).and_then(|lock| Ok((lock, self.kept(file)?)));
+        let (_lock, mut kept) = match begun {
+            Ok(begun) => begun,
+            Err(trouble) => {
+                self.print_trouble(&trouble, true);
+                return trouble.status().code();
+            }
+        };
+        if !step.is_empty() {
+            let words: Vec<String> = step.iter().map(|word| word.display().to_string()).collect();
+            return self.desk_line(&mut kept, &words.join(" ")).code();
+        }
+        let mut worst = Status::Yes;
+        for line in io::stdin().lock().lines() {
+            let Ok(line) = line else { break };
+            if !line.trim().is_empty() {
+                worst = worst.max(self.desk_line(&mut kept, &line));
+            }
+        }
+        worst.code()
+    }
+
+    /// The desk of a file; where there is none, the empty one.
+    fn kept<'a>(&self, file: &'a Path) -> Result<Kept<'a>, Trouble> {
+        let desk = match fs::read(file) {
+            Ok(bytes) => Desk::from_bytes(&bytes),
+            Err(error) if error.kind() == io::ErrorKind::NotFound => Desk::new(),
+            Err(error) => return Err(unreadable(file, &error)),
+        };
+        let mut against = Vec::new();
+        if let Some(folder) = &self.options().against {
+            let (services, _) = self.services(std::slice::from_ref(folder))?;
+            for service in &services {
+                let input = self
+                    .context
+                    .each_alone(std::slice::from_ref(service))
+                    .remove(0)?;
+                against.push((service.told(), blocks::encode(&input.entries)));
+            }
+        }
+        Ok(Kept {
+            file,
+            desk,
+            against,
+        })
+    }
+
+    fn desk_line(&self, kept: &mut Kept<'_>, line: &str) -> Status {
+        let asked = match asked(line, &self.context.reading.names) {
+            Ok(asked) => asked,
+            Err(wrong) => {
+                complain(&format!("gx: {wrong}\n"));
+                return Status::Bad;
+            }
+        };
+        let said = match asked {
+            Asked::Step(step) => self.step(kept, step),
+            Asked::Show => self.shown(kept),
+            Asked::Write => self.written(kept),
+        };
+        said.unwrap_or_else(|trouble| {
+            self.print_trouble(&trouble, true);
+            trouble.status()
+        })
+    }
+
+    /// A step: the desk before it is kept in a file beside, and the new one written whole or not at all.
+    fn step(&self, kept: &mut Kept<'_>, step: Step) -> Result<Status, Trouble> {
+        let before = kept.desk.clone();
+        let left = library::step(&mut kept.desk, step);
+        let left = left.map_err(|refusal| refused_step(kept, step, refusal))?;
+        if kept.file.exists() {
+            store(&beside(kept.file), before.bytes())?;
+        }
+        store(kept.file, kept.desk.bytes())?;
+        let mut text = format!("{} on the desk\n", words::entries(left));
+        let mut fields = vec![
+            ("answer", Json::text("drafted")),
+            ("entries", Json::number(left)),
+        ];
+        if !kept.against.is_empty() {
+            let contained = self.compared(kept)?;
+            let told = contained.iter().map(|(name, is)| {
+                format!(
+                    "    {name}: {}\n",
+                    if *is { "contained" } else { "not contained" }
+                )
+            });
+            text.extend(told);
+            let names = contained.iter().filter(|(_, is)| *is);
+            let names = names.map(|(name, _)| Json::text(name.as_str()));
+            fields.push(("contained_in", Json::List(names.collect())));
+        }
+        Ok(self.said(text, fields))
+    }
+
+    /// Which of the services contain what the desk holds.
+    fn compared(&self, kept: &Kept<'_>) -> Result<Vec<(String, bool)>, Trouble> {
+        let draft = held(kept)?;
+        let under = library::Under {
+            dictionary: &[],
+            ..self.context.background.under()
+        };
+        let answer = |(name, service): &(String, Vec<u8>)| {
+            let compared = library::compare(under, &draft, service);
+            compared.map(|answer| (name.clone(), answer == Compared::Contained))
+        };
+        let answers: Result<Vec<(String, bool)>, Refusal> =
+            kept.against.iter().map(answer).collect();
+        answers.map_err(|refusal| crate::input::not_refused(kept.file, refusal))
+    }
+
+    /// What the desk holds as text, and its stands.
+    fn shown(&self, kept: &Kept<'_>) -> Result<Status, Trouble> {
+        let entries = library::entries(&held(kept)?);
+        let names = &self.context.reading.names;
+        let mut text = text::text(Sort::Description, &entries, names, Numbers::All);
+        let stands = stands(kept.desk.bytes());
+        for (stand, count) in &stands {
+            text.push_str(&format!("// stand {stand}: {}\n", words::entries(*count)));
+        }
+        let numbers = stands.iter().map(|&(stand, _)| Json::number(stand.into()));
+        let fields = vec![
+            ("answer", Json::text("drafted")),
+            ("entries", crate::commands::entries_json(&entries, names)),
+            ("stands", Json::List(numbers.collect())),
+        ];
+        Ok(self.said(text, fields))
+    }
+
+    /// The description in the form that the options ask for.
+    fn written(&self, kept: &Kept<'_>) -> Result<Status, Trouble> {
+        let blocks = held(kept)?;
+        let entries = library::entries(&blocks);
+        let names = &self.context.reading.names;
+        let bytes = match self.options().to.unwrap_or(To::Text) {
+            To::Text => {
+                text::text(Sort::Description, &entries, names, Numbers::WhereNeeded).into_bytes()
+            }
+            To::Desk => (text::desk(Sort::Description, &entries) + "\n").into_bytes(),
+            To::Blocks => blocks,
+            To::Stored => library::to_stored(&blocks)
+                .map_err(|refusal| crate::input::not_refused(kept.file, refusal))?,
+        };
+        match &self.options().out {
+            Some(out) => store(out, &bytes).map(|()| Status::Yes),
+            None => Ok(self.printed(&bytes, Status::Yes)),
+        }
+    }
+
+    fn said(&self, text: String, fields: Vec<(&'static str, Json)>) -> Status {
+        match (self.options().json, self.options().quiet) {
+            (_, true) => Status::Yes,
+            (true, _) => printed(self.object(fields).as_bytes(), Status::Yes),
+            _ => printed(text.as_bytes(), Status::Yes),
+        }
+    }
+}
+
+/// The blocks of what a desk holds.
+fn held(kept: &Kept<'_>) -> Result<Vec<u8>, Trouble> {
+    let held = library::held(&kept.desk);
+    held.map_err(|refusal| refused_step(kept, Step::TakeOff, refusal))
+}
+
+/// Why a step is refused, in words; of a desk that is none, which file has the one before.
+fn refused_step(kept: &Kept<'_>, step: Step, refusal: Refusal) -> Trouble {
+    let before = beside(kept.file);
+    let why = match (refusal.reason, step) {
+        (Reason::Desk, _) if before.exists() => format!(
+            "the file holds no desk that steps could give; {} has the one before",
+            named(&before)
+        ),
+        (Reason::Desk, _) => "the file holds no desk that steps could give".into(),
+        (Reason::Stand, Step::Stand(0)) => "stands have numbers from 1".into(),
+        (Reason::Stand, Step::Stand(_)) => {
+            format!(
+                "the desk has four stands: {}; gx desk FILE drop N drops one",
+                listed(kept)
+            )
+        }
+        (Reason::Stand, Step::Back(stand) | Step::Drop(stand)) => {
+            format!("the desk has no stand {stand}; {}", listed(kept))
+        }
+        (Reason::Form | Reason::Owner | Reason::Depth, Step::Add(e)) => {
+            refused::why(refusal, Sort::Description, &with(kept, e), Naming::Nothing)
+        }
+        _ => refused::rule(refusal),
+    };
+    Trouble::Refused {
+        file: named(kept.file),
+        why,
+        shown: String::new(),
+        refusal,
+        at: None,
+    }
+}
+
+fn listed(kept: &Kept<'_>) -> String {
+    let stands = stands(kept.desk.bytes());
+    let numbers: Vec<String> = stands.iter().map(|(stand, _)| stand.to_string()).collect();
+    match numbers.is_empty() {
+        true => "it has none".into(),
+        false => format!("it has {}", words::listed(&numbers)),
+    }
+}
+
+/// The blocks that the description would have with one entry more.
+fn with(kept: &Kept<'_>, entry: Entry) -> Vec<u8> {
+    let blocks = library::held(&kept.desk).unwrap_or_default();
+    let mut entries = library::entries(&blocks);
+    entries.push(entry);
+    blocks::encode(&entries)
+}
+
+/// The file that has the desk before the last step.
+fn beside(file: &Path) -> PathBuf {
+    with_ending(file, "~")
+}
+
+fn with_ending(file: &Path, ending: &str) -> PathBuf {
+    let mut name = file.as_os_str().to_os_string();
+    name.push(ending);
+    name.into()
+}
+
+/// Nobody else works at the desk while this lives.
+fn lock(file: &Path) -> Result<Lock, Trouble> {
+    let lock = with_ending(file, ".lock");
+    match OpenOptions::new().write(true).create_new(true).open(&lock) {
+        Ok(_) => Ok(Lock(lock)),
+        Err(error) if error.kind() == io::ErrorKind::AlreadyExists => Err(Trouble::File {
+            file: named(file),
+            why: format!(
+                "somebody works at this desk; if nobody does, take away {}",
+                named(&lock)
+            ),
+        }),
+        Err(error) => Err(unreadable(&lock, &error)),
+    }
+}

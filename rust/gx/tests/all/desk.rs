@@ -1,0 +1,172 @@
+//! The drafting desk: steps from the command line and from standard input, the file before, and what is refused.
+
+use crate::support::{Folder, Ran};
+
+fn is(ran: &Ran, status: i32, out: &str) {
+    assert_eq!(
+        (ran.status, ran.text().as_str(), ran.err.as_str()),
+        (status, out, "")
+    );
+}
+
+#[test]
+fn step_by_step() {
+    let folder = Folder::new("desk-steps");
+    folder.put("names", "link 1 \"sample\"\nproperty 7 \"sealed\"\n");
+    let step = |words: &[&str]| folder.gx(&[&["desk", "d", "--names", "names"], words].concat());
+    is(
+        &step(&["add", "every", "sample"]),
+        0,
+        "1 entry on the desk\n",
+    );
+    is(
+        &step(&["add in 1 has sealed"]),
+        0,
+        "2 entries on the desk\n",
+    );
+    is(&step(&["stand", "3"]), 0, "2 entries on the desk\n");
+    is(&step(&["add", "2,8"]), 0, "3 entries on the desk\n");
+    let due = "#1 every link 1 \"sample\" [\n    #2 has property 7 \"sealed\"\n]\n#3 lacks property 8\n// stand 3: 2 entries\n";
+    is(&step(&["show"]), 0, due);
+    is(&step(&["write", "--to", "desk"]), 0, "5,1 [1,7]; 2,8\n");
+    is(&step(&["write", "--to", "blocks", "-o", "out"]), 0, "");
+    is(
+        &folder.gx(&["show", "out", "--to", "desk"]),
+        0,
+        "5,1 [1,7]; 2,8\n",
+    );
+    is(&step(&["back", "3"]), 0, "2 entries on the desk\n");
+    is(&step(&["drop", "3"]), 0, "2 entries on the desk\n");
+    let ran = step(&["back", "3"]);
+    assert_eq!(
+        ran.err,
+        "gx: d: refused 18: the desk has no stand 3; it has none\n"
+    );
+    is(&step(&["take-off"]), 0, "1 entry on the desk\n");
+    let ran = step(&["show", "--json"]);
+    let due = "{\"answer\":\"drafted\",\"entries\":[{\"entry\":1,\"kind\":5,\"owner\":0,\"link\":1,\"word\":\"sample\"}],\"stands\":[]}\n";
+    is(&ran, 0, due);
+    is(
+        &step(&["add", "6", "--json"]),
+        0,
+        "{\"answer\":\"drafted\",\"entries\":2}\n",
+    );
+    is(&step(&["add", "6", "-q"]), 0, "");
+}
+
+#[test]
+fn line_by_line() {
+    let folder = Folder::new("desk-lines");
+    let lines = b"add 1,7\n\nadd 1,0\ntake-of\ntake-off\ntake-off\nshow\n";
+    let ran = folder.gx_with(&["desk", "d"], lines);
+    assert_eq!(ran.status, 2);
+    assert_eq!(
+        ran.text(),
+        "1 entry on the desk\n0 entries on the desk\ndescription\n"
+    );
+    let due = "\
+gx: d: refused 4: entry 2: its name is 0, and kind 1 has 1 to 65,535
+gx: expected add, take-off, stand, back, drop, show, write, found 'take-of'; did you mean 'take-off'?
+gx: d: refused 17: the desk holds no entry that could be taken off
+";
+    assert_eq!(ran.err, due);
+}
+
+/// The desk before a step is beside the file; a file that is no desk tells which has it; two do not work at one.
+#[test]
+fn the_file() {
+    let folder = Folder::new("desk-file");
+    folder.gx(&["desk", "d", "add", "1,7"]);
+    let before = folder.get("d");
+    folder.gx(&["desk", "d", "add", "1,8"]);
+    assert_eq!(folder.get("d~"), before);
+    assert_eq!(folder.get("d").len(), goltximen::DESK_BYTES);
+    folder.put("d", &before[..100]);
+    let ran = folder.gx(&["desk", "d", "show"]);
+    let due =
+        "gx: d: refused 20: the file holds no desk that steps could give; d~ has the one before\n";
+    assert_eq!((ran.status, ran.err.as_str()), (2, due));
+    assert_eq!(folder.get("d"), &before[..100]);
+    folder.put("e.lock", "");
+    let ran = folder.gx(&["desk", "e", "show"]);
+    assert_eq!(ran.status, 2);
+    assert!(
+        ran.err
+            .contains("somebody works at this desk; if nobody does, take away e.lock"),
+        "{}",
+        ran.err
+    );
+    assert!(!folder.path().join("d.lock").exists());
+}
+
+/// At most four stands, and 1,008 entries.
+#[test]
+fn limits() {
+    let folder = Folder::new("desk-limits");
+    let lines: String = (1..=5).map(|stand| format!("stand {stand}\n")).collect();
+    let ran = folder.gx_with(&["desk", "d"], lines.as_bytes());
+    assert_eq!(ran.err, "gx: d: refused 18: the desk has four stands: it has 1, 2, 3 and 4; gx desk FILE drop N drops one\n");
+    let ran = folder.gx(&["desk", "d", "stand", "0"]);
+    assert_eq!(ran.err, "gx: d: refused 18: stands have numbers from 1\n");
+    let mut desk = goltximen::Desk::new();
+    for _ in 0..1008 {
+        desk.add([1, 0, 0, 0, 7, 0, 0, 0]).unwrap();
+    }
+    let ran = folder
+        .put("d", desk.bytes())
+        .gx(&["desk", "d", "add", "1,7"]);
+    assert_eq!(
+        ran.err,
+        "gx: d: refused 16: the desk holds 1,008 entries, and takes no more\n"
+    );
+    for (step, due) in [
+        (
+            &["add", "1,7;", "1,8"][..],
+            "gx: add takes one entry, and 2 are given\n",
+        ),
+        (
+            &["back", "x"],
+            "gx: back takes a number from 0 to 65,535, and 'x' is given\n",
+        ),
+        (
+            &["take-off", "2"],
+            "gx: take-off takes nothing after it, and '2' is given\n",
+        ),
+    ] {
+        let ran = folder.gx(&[&["desk", "d"], step].concat());
+        assert_eq!((ran.status, ran.err.as_str()), (2, due));
+    }
+    assert_eq!(folder.gx(&["desk"]).status, 64);
+}
+
+#[test]
+fn against_a_folder() {
+    let folder = Folder::new("desk-against");
+    std::fs::create_dir(folder.path().join("services")).unwrap();
+    folder
+        .put("services/a.txt", "1,7")
+        .put("services/b.txt", "2,8");
+    let ran = folder.gx(&["desk", "d", "add", "1,7", "--against", "services"]);
+    is(
+        &ran,
+        0,
+        "1 entry on the desk\n    a.txt: contained\n    b.txt: not contained\n",
+    );
+    folder.put("p", "pairs: 7,8");
+    let ran = folder.gx(&[
+        "desk",
+        "d",
+        "stand",
+        "1",
+        "--against",
+        "services",
+        "--pairs",
+        "p",
+        "--json",
+    ]);
+    is(
+        &ran,
+        0,
+        "{\"answer\":\"drafted\",\"entries\":1,\"contained_in\":[\"a.txt\",\"b.txt\"]}\n",
+    );
+}
