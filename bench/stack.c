@@ -135,6 +135,9 @@ static void fit_all(void) {
 static void fit_all_named(void) {
     answer = gx_fit_all(pairs, sizeof pairs, dictionary, sizeof dictionary, 256, record, sizeof record, named[2], 512, out, sizeof out);
 }
+static uint8_t stored[6144];
+static void to_stored(void) { answer = gx_to_stored(wide, sizeof wide, stored, sizeof stored); }
+static void from_stored(void) { answer = gx_from_stored(stored, sizeof stored, out, sizeof out); }
 static void unfold(void) { answer = gx_unfold(dictionary, sizeof dictionary, named[0], 512, out, sizeof out); }
 static void fit_named(void) {
     answer = gx_fit_with(pairs, sizeof pairs, dictionary, sizeof dictionary, groups, sizeof groups, named[2], 512);
@@ -213,6 +216,8 @@ int main(void) {
     show("gx_desk_drop", desk_drop);
     show("gx_desk_write", desk_write);
     show("gx_fit_all", fit_all);
+    show("gx_to_stored", to_stored);
+    show("gx_from_stored", from_stored);
     show("gx_unfold", unfold);
     show("gx_fit_with, named", fit_named);
     show("gx_normal_with, named", normal_named);

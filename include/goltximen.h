@@ -112,24 +112,27 @@
  *
  * Stack. The most that each call took of the caller's stack, on the inputs that lead furthest down (`make stack` measures it):
  *
- *     gx_read_description    2,232 bytes
- *     gx_read_specimen      26,568 bytes
- *     gx_read_sheet          @SHEET@ bytes
- *     gx_fit                50,248 bytes
- *     gx_fit_counted        50,200 bytes
- *     gx_normal             56,760 bytes
- *     gx_compare            53,992 bytes
- *     gx_unfold             33,360 bytes
- *     gx_fit_with           59,608 bytes
- *     gx_normal_with        66,088 bytes
- *     gx_compare_with       71,576 bytes
- *     gx_catalogue          76,752 bytes
- *     gx_hierarchy          32,632 bytes
- *     gx_fit_all            58,568 bytes
- *     gx_desk_write          9,280 bytes
- *     other desk calls       1,296 bytes
+ *     gx_read_description     2,232 bytes
+ *     gx_read_specimen       26,568 bytes
+ *     gx_read_sheet           1,176 bytes
+ *     gx_fit                 50,248 bytes
+ *     gx_fit_counted         50,200 bytes
+ *     gx_normal              58,712 bytes
+ *     gx_compare             64,184 bytes
+ *     gx_unfold              33,360 bytes
+ *     gx_fit_with            59,608 bytes
+ *     gx_normal_with         68,024 bytes
+ *     gx_compare_with        81,768 bytes
+ *     gx_catalogue           78,736 bytes
+ *     gx_hierarchy           34,552 bytes
+ *     gx_earning             55,160 bytes
+ *     gx_fit_all             58,568 bytes
+ *     gx_to_stored           14,488 bytes
+ *     gx_from_stored          8,264 bytes
+ *     gx_desk_write           9,280 bytes
+ *     other desk calls        1,296 bytes
  *
- * The library calls memset and memcpy; a program that binds them at their first call took up to 1,072 bytes more there. A
+ * The library calls memset, memcpy and memmove; a program that binds them at their first call took up to 1,072 bytes more there. A
  * thread with 128 KiB of stack has room for each call.
  */
 #ifndef GOLTXIMEN_H
