@@ -3,13 +3,15 @@
 // and the lines to be printed, are made by the version of other hands (rust/reference), which `make vectors` runs.
 //
 // A vector is a header of eight words, low byte first, and then the bytes of its list of pairs, its dictionary and its two inputs. The words:
-// the call (1 read a description, 2 read a specimen, 3 fit, 4 normal form, 5 compare, 6 unfold, 7 catalogue, 8 hierarchy, 9 read a field sheet), the lengths of these four, the
-// length of the output, and two that are 0. No dictionary and no second input is longer than 33,792 bytes, 66 blocks, and nothing else than
-// 17,408, 34 blocks. Each byte of the output is 165 before the call.
+// the call (1 read a description, 2 read a specimen, 3 fit, 4 normal form, 5 compare, 6 unfold, 7 catalogue, 8 hierarchy, 9 read a field sheet,
+// 10 the items of a delivered record, 11 to the stored form, 12 from it, 13 what earns a yes, 14 calls on an empty desk), the lengths of these
+// four, the length of the output, and the number of items in two words, 0 for the other calls. No dictionary and no second input is longer than
+// 33,792 bytes, 66 blocks, and nothing else than 17,408, 34 blocks. Each byte of the output is 165 before the call.
 #![tactic(auto)]
 
-use blocks::Refusal;
+use blocks::{Entry, Refusal, byte, word};
 use compare::NotContained;
+use drafts::Call;
 use std::io;
 
 // The call of a vector, as the header's own number, and what it is given.
@@ -20,6 +22,7 @@ struct Vector<'a> {
     dictionary: &'a [u8],
     first: &'a [u8],
     second: &'a [u8],
+    total: usize,
 }
 
 // No `Display` is plainer than the functions below: `Result` is the library's own and can be given none here, so each answer would need a struct
@@ -33,12 +36,12 @@ fn print_reading(rt: &impl Print, call: &str, answer: Result<u16, Refusal>) -> i
     }
 }
 
-// Prints the fit answer.
-fn print_fit(rt: &impl Print, answer: Result<bool, Refusal>) -> io::Result<()> {
+// Prints a yes or a no.
+fn print_yes(rt: &impl Print, call: &str, answer: Result<bool, Refusal>) -> io::Result<()> {
     match answer {
-        Ok(true) => print!(rt; " fit yes"),
-        Ok(false) => print!(rt; " fit no"),
-        Err(refusal) => print!(rt; " fit {refusal}"),
+        Ok(true) => print!(rt; " {call} yes"),
+        Ok(false) => print!(rt; " {call} no"),
+        Err(refusal) => print!(rt; " {call} {refusal}"),
     }
 }
 
@@ -82,13 +85,53 @@ fn print_comparison(
     print_digest(rt, out)
 }
 
+// Makes the call of a desk that these 9 bytes say: what it is (1 add, 2 take off, 3 name, 4 go back, 5 drop, else write out), and then the entry,
+// or the stand, or how much of the output there is, low byte first. A byte that is not there is 0.
+fn act(buffer: &mut [u8], row: &[u8], out: &mut [u8]) -> Result<u16, Refusal> {
+    let n = word(row, 1);
+    let call = match byte(row, 0) {
+        1 => Call::Add(Entry {
+            kind: byte(row, 1),
+            reserved: byte(row, 2),
+            owner: word(row, 3),
+            name: word(row, 5),
+            number: word(row, 7),
+        }),
+        2 => Call::TakeOff,
+        3 => Call::Name(n),
+        4 => Call::GoBack(n),
+        5 => Call::Drop(n),
+        _ => {
+            let bytes = usize::from(n).min(out.len());
+            return desk::buffer::write_out(buffer, &mut out[..bytes]);
+        }
+    };
+    desk::buffer::act(buffer, call)
+}
+
+// Makes calls on an empty desk, and prints the answer of each and the digest of the output, which each writing out begins anew.
+fn print_desk(rt: &impl Print, calls: &[u8], out: &mut [u8]) -> io::Result<()> {
+    let mut buffer = [0u8; 40340];
+    print!(rt; " desk")?;
+    for n in 0..calls.len() / 9 {
+        match act(&mut buffer, &calls[9 * n..], out) {
+            Ok(count) => print!(rt; " {count}")?,
+            Err(refusal) => print!(rt; " {refusal}")?,
+        }
+    }
+    print_digest(rt, out)
+}
+
 // Makes the call of a vector and prints its answer. The readers take neither a list nor a dictionary. The calls go by the number in the header,
 // which the head of this file explains and only this `match` reads: by an enum they would be listed twice more, and then matched as here.
 fn run_call(rt: &impl Print, v: &Vector, out: &mut [u8]) -> io::Result<()> {
     match v.call {
         1 => print_reading(rt, "description", reading::read_description(v.first)),
         2 => print_reading(rt, "specimen", reading::read_specimen(v.first)),
-        3 => print_fit(rt, named::fit(v.pairs, v.dictionary, v.first, v.second)),
+        3 => {
+            let answer = named::fit(v.pairs, v.dictionary, v.first, v.second);
+            print_yes(rt, "fit", answer)
+        }
         4 => {
             let answer = named::normalise(v.pairs, v.dictionary, v.first, out);
             print_written(rt, "normal form", answer, out)
@@ -109,7 +152,28 @@ fn run_call(rt: &impl Print, v: &Vector, out: &mut [u8]) -> io::Result<()> {
             let answer = hierarchy::hierarchy(v.pairs, v.second, out);
             print_written(rt, "hierarchy", answer, out)
         }
-        _ => print_reading(rt, "sheet", sheets::read_sheet(v.first)),
+        9 => print_reading(rt, "sheet", sheets::read_sheet(v.first)),
+        10 => {
+            let answer = items::fit_items(v.pairs, v.dictionary, v.total, v.first, v.second, out);
+            print_written(rt, "fit all", answer, out)
+        }
+        11 => {
+            let answer = stored::to_stored(v.first, out);
+            print_written(rt, "to stored", answer, out)
+        }
+        12 => {
+            let answer = stored::from_stored(v.first, out);
+            print_written(rt, "from stored", answer, out)
+        }
+        13 => {
+            print_yes(
+                rt,
+                "earning",
+                earning::earning(v.pairs, v.first, v.second, out),
+            )?;
+            print_digest(rt, out)
+        }
+        _ => print_desk(rt, v.first, out),
     }
 }
 
@@ -132,6 +196,8 @@ fn run_vector(rt: &(impl Print + Input), header: &[u8]) -> io::Result<()> {
         dictionary: read_input(rt, &mut dictionary, blocks::word(header, 4))?,
         first: read_input(rt, &mut first, blocks::word(header, 6))?,
         second: read_input(rt, &mut second, blocks::word(header, 8))?,
+        total: usize::from(blocks::word(header, 12))
+            + 65536 * usize::from(blocks::word(header, 14)),
     };
     let mut out = [165u8; 17408];
     let n = usize::from(blocks::word(header, 10)).min(out.len());

@@ -24,7 +24,7 @@ use crate::excluding::Given;
 use crate::{length_of, MOST_DESCRIPTION};
 
 pub use catalogue::catalogue;
-pub use desk::{bytes_of, desk_bytes, is_given, Drafting};
+pub use desk::{bytes_of, desk_bytes, entry_of, is_given, Drafting};
 pub use hierarchy::hierarchy;
 pub use items::fit_all;
 pub use sheets::read_sheet;

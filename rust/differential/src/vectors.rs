@@ -10,20 +10,24 @@
 //! | 6-7 | the length of input 1 |
 //! | 8-9 | the length of input 2, which of the catalogue and the hierarchy is the list of services; 0 for a call of one input |
 //! | 10-11 | the length of the output, 0 for a call without one |
-//! | 12-13 | a number for a call that takes one; no call of today does, and it is 0 |
-//! | 14-15 | 0 |
+//! | 12-15 | the number of items of a delivered record, low byte first; 0 for the other calls |
 //!
 //! After byte 15 come the list, the dictionary, input 1 and input 2, with nothing between them and nothing before the next header.
-//! The fit answer, the normal form, the comparison and the catalogue are always made with the list and the dictionary, which may be
-//! empty; the unfolding is made with the dictionary, and its list has length 0; the hierarchy is made with the list, and its
-//! dictionary and its input 1 have length 0; the three readers take neither. A call without pairs is one with a list of length 0, and
-//! one without a dictionary one with a dictionary of length 0. No length of a dictionary is above [`MOST_DICTIONARY`], none of a
-//! list of services above [`MOST_LIST`], and no other above [`MOST_LENGTH`]. Each byte of the output is [`FILL`] before the call.
+//! The fit answer, the normal form, the comparison, the catalogue and the call on delivered items are always made with the list and
+//! the dictionary, which may be empty; the unfolding is made with the dictionary, and its list has length 0; the hierarchy and what
+//! earns a yes are made with the list, and their dictionary has length 0, as has the hierarchy's input 1; the three readers, the
+//! stored form's two calls and the desk take neither. A call without pairs is one with a list of length 0, and one without a
+//! dictionary one with a dictionary of length 0. No length of a dictionary is above [`MOST_DICTIONARY`], none of a list of services
+//! above [`MOST_LIST`], and no other above [`MOST_LENGTH`]. Each byte of the output is [`FILL`] before the call.
+//!
+//! Input 1 of a desk is calls on an empty desk, 9 bytes each ([`rows_of`]): what it is (1 to add, 2 to take off, 3 to name, 4 to go
+//! back, 5 to drop, 6 to write out), and then the entry, or in two bytes the stand or how many bytes of the output there are, and 0.
 
 use std::fmt;
 
 use reference::{Comparison, Refusal};
 
+use crate::agree::{bytes_of, entry_of};
 use crate::excluding::Given;
 use crate::{drawn, named, word};
 
@@ -61,6 +65,16 @@ pub enum Call {
     Hierarchy = 8,
     /// Input 1 is read as a field sheet.
     Sheet = 9,
+    /// The items of the delivered record in input 1 judged by input 2, under the list and the dictionary.
+    Items = 10,
+    /// Input 1 written in the stored form.
+    ToStored = 11,
+    /// Input 1, in the stored form, written as a description.
+    FromStored = 12,
+    /// What of input 1 earns that it is contained in input 2, under the list.
+    Earning = 13,
+    /// The calls in input 1, on an empty desk.
+    Desk = 14,
 }
 
 impl Call {
@@ -85,16 +99,21 @@ impl fmt::Display for Call {
             Call::Catalogue => "catalogue",
             Call::Hierarchy => "hierarchy",
             Call::Sheet => "sheet",
+            Call::Items => "fit all",
+            Call::ToStored => "to stored",
+            Call::FromStored => "from stored",
+            Call::Earning => "earning",
+            Call::Desk => "desk",
         })
     }
 }
 
 /// What the reference answers.
-#[derive(Clone, Copy, Debug, PartialEq, Eq)]
+#[derive(Clone, Debug, PartialEq, Eq)]
 pub enum Answer {
     /// An accepted input of so many entries.
     Accepted(usize),
-    /// Whether the top item fits.
+    /// Whether the top item fits, or whether input 1 is contained in input 2.
     Fits(bool),
     /// So many entries that are written, or bytes that are filled.
     Wrote(usize),
@@ -102,6 +121,8 @@ pub enum Answer {
     Compared(Comparison),
     /// A refusal.
     Refused(Refusal),
+    /// What each call of a desk answers: entries, or a refusal.
+    Drafted(Vec<Result<usize, Refusal>>),
 }
 
 impl Answer {
@@ -109,7 +130,7 @@ impl Answer {
     fn sort(&self) -> String {
         match self {
             Answer::Accepted(_) => " accepted".to_string(),
-            Answer::Wrote(_) => String::new(),
+            Answer::Wrote(_) | Answer::Drafted(_) => String::new(),
             Answer::Compared(Comparison::NotContained { .. }) => " not contained".to_string(),
             Answer::Refused(Refusal { number, input, .. }) => {
                 format!(" refused {number} input {input}")
@@ -135,6 +156,10 @@ impl fmt::Display for Answer {
                 input,
                 place,
             }) => write!(f, " refused {number} input {input} place {place}"),
+            Answer::Drafted(answers) => answers.iter().try_for_each(|answer| match answer {
+                Ok(entries) => write!(f, " {entries}"),
+                Err(refusal) => Answer::Refused(*refusal).fmt(f),
+            }),
         }
     }
 }
@@ -152,6 +177,8 @@ pub struct Vector {
     pub second: Vec<u8>,
     /// The length of the output; 0 for a call without one.
     pub output: usize,
+    /// How many items a delivered record has; 0 for the other calls.
+    pub total: usize,
 }
 
 impl Vector {
@@ -200,6 +227,34 @@ impl Vector {
         Vector::of(Call::Hierarchy, Vec::new(), list, output)
     }
 
+    /// The items of a delivered record of so many, with an output of this length.
+    pub fn items(total: usize, record: Vec<u8>, description: Vec<u8>, output: usize) -> Vector {
+        Vector {
+            total,
+            ..Vector::of(Call::Items, record, description, output)
+        }
+    }
+
+    /// A description written in the stored form, with an output of this length.
+    pub fn to_stored(description: Vec<u8>, output: usize) -> Vector {
+        Vector::of(Call::ToStored, description, Vec::new(), output)
+    }
+
+    /// A stored input written as a description, with an output of this length.
+    pub fn from_stored(stored: Vec<u8>, output: usize) -> Vector {
+        Vector::of(Call::FromStored, stored, Vec::new(), output)
+    }
+
+    /// What earns a yes, with an output of this length.
+    pub fn earning(c: Vec<u8>, d: Vec<u8>, output: usize) -> Vector {
+        Vector::of(Call::Earning, c, d, output)
+    }
+
+    /// Calls on an empty desk, with an output of this length.
+    pub fn desk(calls: &[reference::Call], output: usize) -> Vector {
+        Vector::of(Call::Desk, rows_of(calls), Vec::new(), output)
+    }
+
     fn of(call: Call, first: Vec<u8>, second: Vec<u8>, output: usize) -> Vector {
         Vector {
             call,
@@ -207,6 +262,7 @@ impl Vector {
             first,
             second,
             output,
+            total: 0,
         }
     }
 
@@ -237,7 +293,7 @@ impl Vector {
     pub fn bytes(&self) -> Vec<u8> {
         let mut header = vec![self.call as usize];
         header.extend(self.parts().map(<[u8]>::len));
-        header.extend([self.output, 0, 0]);
+        header.extend([self.output, self.total, self.total >> 16]);
         let mut bytes: Vec<u8> = header
             .into_iter()
             .flat_map(|n| word(n).to_le_bytes())
@@ -266,6 +322,12 @@ impl Vector {
                 reference::catalogue(pairs, dict, first, second, &mut out).map(Answer::Wrote)
             }
             Call::Hierarchy => reference::hierarchy(pairs, second, &mut out).map(Answer::Wrote),
+            Call::Items => reference::fit_all(pairs, dict, self.total, first, second, &mut out)
+                .map(Answer::Wrote),
+            Call::ToStored => reference::to_stored(first, &mut out).map(Answer::Wrote),
+            Call::FromStored => reference::from_stored(first, &mut out).map(Answer::Wrote),
+            Call::Earning => reference::earning(pairs, first, second, &mut out).map(Answer::Fits),
+            Call::Desk => Ok(Answer::Drafted(drafted(first, &mut out))),
         };
         (answer.unwrap_or_else(Answer::Refused), out)
     }
@@ -286,6 +348,53 @@ impl Vector {
     }
 }
 
+/// Calls of a desk as bytes, 9 each.
+pub fn rows_of(calls: &[reference::Call]) -> Vec<u8> {
+    let row = |call: &reference::Call| {
+        let (number, word) = match *call {
+            reference::Call::Add(entry) => {
+                let mut row = [1; 9];
+                row[1..].copy_from_slice(&bytes_of(entry));
+                return row;
+            }
+            reference::Call::TakeOff => (2, 0),
+            reference::Call::Name(stand) => (3, stand),
+            reference::Call::GoBack(stand) => (4, stand),
+            reference::Call::Drop(stand) => (5, stand),
+            reference::Call::Write(length) => (6, word(length)),
+        };
+        let [low, high] = word.to_le_bytes();
+        [number, low, high, 0, 0, 0, 0, 0, 0]
+    };
+    calls.iter().flat_map(row).collect()
+}
+
+/// The calls of these bytes.
+pub fn calls_of(rows: &[u8]) -> Vec<reference::Call> {
+    let call = |row: &[u8]| {
+        let stand = u16::from_le_bytes([row[1], row[2]]);
+        match row[0] {
+            1 => reference::Call::Add(entry_of(&row[1..])),
+            2 => reference::Call::TakeOff,
+            3 => reference::Call::Name(stand),
+            4 => reference::Call::GoBack(stand),
+            5 => reference::Call::Drop(stand),
+            _ => reference::Call::Write(stand.into()),
+        }
+    };
+    rows.chunks_exact(9).map(call).collect()
+}
+
+/// What the reference answers to each of these calls on an empty desk, which write to this output.
+fn drafted(rows: &[u8], out: &mut [u8]) -> Vec<Result<usize, Refusal>> {
+    let outcomes = reference::desk_answers(&calls_of(rows));
+    let answers = outcomes.into_iter().map(|outcome| {
+        out[..outcome.written.len()].copy_from_slice(&outcome.written);
+        outcome.answer
+    });
+    answers.collect()
+}
+
 /// The digest of an output: each byte is added to 257 times what came before.
 pub fn digest(bytes: &[u8]) -> u64 {
     bytes
@@ -304,6 +413,10 @@ pub fn all() -> Vec<Vector> {
         named::catalogue::all(),
         named::hierarchy::all(),
         named::sheets::all(),
+        named::items::all(),
+        named::stored::all(),
+        named::earning::all(),
+        named::drafting::all(),
         named::doubles::all(),
         named::desk(),
         named::report(),

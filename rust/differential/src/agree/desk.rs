@@ -234,7 +234,7 @@ fn word(bytes: &[u8], number: usize) -> u16 {
 }
 
 /// The entry of 8 bytes.
-fn entry_of(row: &[u8]) -> Entry {
+pub fn entry_of(row: &[u8]) -> Entry {
     Entry {
         kind: row[0],
         zero: row[1],

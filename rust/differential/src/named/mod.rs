@@ -2,10 +2,14 @@
 
 pub mod catalogue;
 pub mod doubles;
+pub mod drafting;
+pub mod earning;
 pub mod excluding;
 pub mod hierarchy;
+pub mod items;
 pub mod naming;
 pub mod sheets;
+pub mod stored;
 
 use reference::notation::{blocks, entry};
 use reference::{encode, Entry};

@@ -3,10 +3,14 @@
 
 mod catalogue;
 mod doubles;
+mod drafting;
+mod earning;
 mod excluding;
 mod hierarchy;
+mod items;
 mod naming;
 mod sheets;
+mod stored;
 
 use std::collections::{BTreeMap, BTreeSet};
 use std::sync::OnceLock;
@@ -15,7 +19,7 @@ use differential::agree;
 use differential::chance::Chance;
 use differential::excluding::Given;
 use differential::vectors::{
-    digest, standard_input, standard_output, Answer, Call, Vector, FILL, MOST_DICTIONARY,
+    calls_of, digest, standard_input, standard_output, Answer, Call, Vector, FILL, MOST_DICTIONARY,
     MOST_LENGTH, MOST_LIST, MOST_VECTORS,
 };
 use differential::{drawn, named};
@@ -133,14 +137,25 @@ fn as_many_and_as_long_as_allowed() {
         assert!(vector.output <= MOST_LENGTH);
         let one_input = !matches!(
             vector.call,
-            Call::Fit | Call::Compare | Call::Catalogue | Call::Hierarchy
+            Call::Fit
+                | Call::Compare
+                | Call::Catalogue
+                | Call::Hierarchy
+                | Call::Items
+                | Call::Earning
         );
+        assert!(vector.total == 0 || vector.call == Call::Items);
         assert!(vector.second.is_empty() || !one_input);
         assert!(vector.output == 0 || vector.call.writes());
         // The unfolding takes no list.
         assert!(pairs == 0 || vector.call != Call::Unfold);
         // The hierarchy takes a list of services alone.
         assert!(dictionary + first == 0 || vector.call != Call::Hierarchy);
+        assert!(dictionary == 0 || vector.call != Call::Earning);
+        // The stored form and the desk take input 1 alone.
+        let alone = [Call::ToStored, Call::FromStored, Call::Desk].contains(&vector.call);
+        assert!(pairs + dictionary == 0 || !alone);
+        assert!(first.is_multiple_of(9) || vector.call != Call::Desk);
     }
 }
 
@@ -276,9 +291,19 @@ fn each_refusal() {
                 .insert(refusal.place);
         }
     }
-    for number in [2, 3, 4, 5, 6, 9, 11, 12, 13] {
+    for number in [2, 3, 4, 5, 6, 9, 10, 11, 12, 13] {
         assert!(places[&number].len() >= 3, "{number}");
     }
+}
+
+/// Each of these calls of a desk on both sides; the last answer.
+fn drafts(rows: &[u8]) -> Result<agree::Answer, agree::Difference> {
+    let mut desk = agree::Drafting::with_past(&[]);
+    let mut last = agree::Answer::Count(0);
+    for call in calls_of(rows) {
+        last = desk.call(call)?;
+    }
+    Ok(last)
 }
 
 /// The library answers as the reference does, in each vector.
@@ -297,6 +322,15 @@ fn the_library_agrees() {
             Call::Catalogue => agree::catalogue(&mut chance, under, first, second, vector.output),
             Call::Hierarchy => agree::hierarchy(&mut chance, under.pairs, second, vector.output),
             Call::Sheet => agree::read_sheet(first),
+            Call::Items => {
+                let (total, output) = (vector.total, vector.output);
+                agree::fit_all(&mut chance, under, total, first, second, output)
+            }
+            Call::ToStored => agree::to_stored(&mut chance, first, vector.output),
+            Call::FromStored => agree::from_stored(&mut chance, first, vector.output),
+            Call::Desk => drafts(first),
+            // The binding has no such call; the program of the vectors makes it.
+            Call::Earning => continue,
         };
         if let Err(difference) = agreed {
             panic!("vector {number}: {difference}");
