@@ -168,6 +168,10 @@ module _ {P t : List ℕ} (I : PairsIndexed P t) (p : ℕ) where
         seconds = λ i. W.seconds i ∙ ap bit (rw z (end-is i (2 * i + 2) (omega arith) (omega arith) (ap (named_at P) (sym (beside i)) ∙ second-named P (i + 1) (omega arith))));
       }
 
+-- a property whose bucket is empty is in no pair
+pub marks-bucket : {P t : List ℕ} → PairsIndexed P t → (p : ℕ) → get_or t (bucket_of p) 0 ≡ 0 → Marks P (λ q. eqb q p) no_sides
+marks-bucket I p z = walked-end I p (walked-start I p (sym z)) refl
+
 -- ---- what they say of properties
 
 module _ (P : List ℕ) where
@@ -181,6 +185,30 @@ module _ (P : List ℕ) where
     firsts = λ i. M.firsts i ∙ rw (same (one_of P (i + 1))) refl;
     seconds = λ i. M.seconds i ∙ rw (same (other_of P (i + 1))) refl;
   }
+
+  -- a list that has no pair marks nothing
+  pub marks-empty : {f : ℕ → Bool} → pair_count P ≡ 0 → Marks P f no_sides
+  marks-empty {f} z =
+      let none : (i : ℕ) → ltb i (pair_count P) ≡ false = λ i. omega (tests, z) in
+      record { firsts = λ i. bit_at-zero i ∙ rw (none i) refl; seconds = λ i. bit_at-zero i ∙ rw (none i) refl }
+
+  beside : (a b c : Bool) → 0 ≡ bit (a && c) → bit (a && b) ≡ bit (a && (b || c))
+  beside true b true e = absurd (omega arith)
+  beside true true false e = refl
+  beside true false false e = refl
+  beside false b c e = refl
+
+  -- properties that no pair has alter nothing
+  pub marks-beside : {f g : ℕ → Bool} {s : Sides} → Marks P f s → Marks P g no_sides → Marks P (λ q. f q || g q) s
+  marks-beside {f} {g} {s} M N = record {
+    firsts = λ i. M.firsts i ∙ beside (ltb i (pair_count P)) (f (one_of P (i + 1))) (g (one_of P (i + 1))) (sym (bit_at-zero i) ∙ N.firsts i);
+    seconds = λ i. M.seconds i ∙ beside (ltb i (pair_count P)) (f (other_of P (i + 1))) (g (other_of P (i + 1))) (sym (bit_at-zero i) ∙ N.seconds i);
+  }
+
+  -- nor do they under a further test
+  pub marks-when : (c : Bool) {g : ℕ → Bool} → Marks P g no_sides → Marks P (λ q. c && g q) no_sides
+  marks-when true N = N
+  marks-when false N = marks-none
 
   either : (a b c : Bool) → max (bit (a && b)) (bit (a && c)) ≡ bit (a && (b || c))
   either true b c = bit-or b c

@@ -3,6 +3,7 @@
 ghost use Rattle.std.specs.Prelude.{◌≡◌, ◌+◌, ◌*◌, ◌<◌, ◌≤◌, length, take, eqb, get_or, true, [], List, ◌≢◌, replicate, unwrap_or, IfSome};
 ghost use Rattle.std.proofs.Props.{props};
 ghost use Rattle.base.specs.Chain.{OnChain};
+ghost use Rattle.pairs.specs.Pairs.{pair_count};
 ghost use Rattle.pairs.specs.code.Sides.{Marks};
 ghost use Rattle.pairs.specs.code.Index.{PairsIndexed, beside_at, bucket_of, indexed_to, named_at, named_count, partners};
 ghost use Rattle.std.specs.Iterator.{YieldsFirstBy, item_count};
@@ -37,6 +38,14 @@ impl<'a> Exclusions<'a> {
             pairs: listed,
             index,
         }
+    }
+
+    /// Whether the list has no pair.
+    #[tactic(auto, unfolding(crate::specs::Pairs::pair_count))]
+    pub fn is_empty(self) -> bool
+        ensures { result ≡ eqb (pair_count self.entry.pairs.now) 0 }
+    {
+        self.pairs.len() / 4 == 0
     }
 
     // Whether no pair can have a property, which costs one look: none has one of its bucket.
