@@ -1,4 +1,4 @@
 -- Laws of the code in src/excluding.rt.
 
--- A place has a property by the slot of its key, and lacks one where it has a partner of it.
+-- A place lacks a property where it has a partner of it.
 pub mod ExcludingLaws

@@ -1,17 +1,18 @@
 // A list of descriptions judged by one: the slots of the one are built and settled once, and each of the list is judged by them as soon as it
 // is read, while its bytes are warm. No specimen is written.
-ghost use Rattle.std.specs.Prelude.{◌≡◌, List, ◌<◌, ◌≤◌, ℕ, length, IfSome};
+ghost use Rattle.std.specs.Prelude.{◌≡◌, ◌≢◌, List, ◌<◌, ◌≤◌, ℕ, length, IfSome};
 ghost use Rattle.std.proofs.Props.{props};
 ghost use Rattle.blocks.specs.Reading.{reading_of};
 ghost use Rattle.blocks.specs.declared.Schema.{Schema};
 ghost use Rattle.lists.specs.Parts.{parts_of};
 ghost use Rattle.logic.specs.Background.{Ruled};
-ghost use Rattle.pairs.specs.Pairs.{under};
+ghost use Rattle.pairs.specs.Pairs.{pair_count, under};
 ghost use Rattle.slots.specs.Catalogue.{answers_after, cut_reading, list_reading};
 ghost use Rattle.slots.specs.code.Lent.{HeldIn};
 ghost use Rattle.slots.specs.code.Judging.{JudgesAll, JudgesListed, JudgesSupplied, bytes_read, service_judged};
 
 use crate::accepted::Accepted;
+use crate::excluding::Marked;
 use crate::failing::Supplier;
 use crate::filling::chained_slots;
 use crate::service::judge_plain;
@@ -20,7 +21,7 @@ use crate::workspace::Workspace;
 use blocks::sizes::BLOCK;
 use blocks::{Cause, Refusal, Schema};
 use lists::{Parts, parts_in};
-use pairs::{Exclusions, INDEX_BYTES};
+use pairs::{Exclusions, INDEX_BYTES, Sides};
 use unfolding::{Dictionary, Tables};
 use writing::bytes_for;
 
@@ -49,8 +50,8 @@ fn judge_service(
     input: u16,
     scratch: &mut Scratch,
 ) -> Result<bool, Refusal>
-    ensures { (c : List ℕ) → HeldIn (under supplier.entry.exclusions.pairs.now) c supplier.entry
-        → result ≡ service_judged supplier.entry.exclusions.pairs.now (bytes_read names.entry.read) c input d.now }
+    ensures { (c : List ℕ) → HeldIn (under supplier.entry.marked.exclusions.pairs.now) c supplier.entry
+        → result ≡ service_judged supplier.entry.marked.exclusions.pairs.now (bytes_read names.entry.read) c input d.now }
 {
     let Some(dictionary) = names.read else {
         return judge_plain(supplier, d, input, &mut scratch.states, &mut scratch.level);
@@ -74,8 +75,8 @@ fn judge_parts(
     answers: &mut [u8; 64],
 ) -> Result<u16, Refusal>
     requires { length (parts_of list.now) ≤ 64 }
-    ensures { (c : List ℕ) → HeldIn (under supplier.entry.exclusions.pairs.now) c supplier.entry
-        → JudgesAll supplier.entry.exclusions.pairs.now (bytes_read names.entry.read) c list.now answers.old result answers.new }
+    ensures { (c : List ℕ) → HeldIn (under supplier.entry.marked.exclusions.pairs.now) c supplier.entry
+        → JudgesAll supplier.entry.marked.exclusions.pairs.now (bytes_read names.entry.read) c list.now answers.old result answers.new }
 {
     // Counted by hand: the answer is how many there are, which `enumerate` does not tell at the end.
     let mut n: usize = 0;
@@ -87,15 +88,16 @@ fn judge_parts(
     Ok(n as u16)
 }
 
-// Slots and settles the supplier's description and judges a list of at most 64 services by its slots.
-fn judge_all(
+// Slots and settles the supplier's description and judges a list of at most 64 services by its slots, with tables of its own: MARKS places are marked.
+fn judge_all<const MARKS: usize>(
     exclusions: Exclusions<'_>,
     names: Names<'_>,
     c: Accepted<'_>,
     list: &[u8],
     answers: &mut [u8; 64],
 ) -> Result<u16, Refusal>
-    requires { Ruled (under exclusions.pairs.now) × (length (parts_of list.now) ≤ 64) }
+    requires { Ruled (under exclusions.pairs.now) × (length (parts_of list.now) ≤ 64) × (MARKS ≤ 1009)
+        × (pair_count exclusions.pairs.now ≢ 0 → c.total < MARKS) }
     ensures { JudgesAll exclusions.entry.pairs.now (bytes_read names.entry.read) c.entry.bytes.now list.now
         answers.old result answers.new }
 {
@@ -104,17 +106,20 @@ fn judge_all(
     let mut node = [0u16; 1009];
     let mut bad = [0u8; 1009];
     let mut full = [0u8; 1009];
+    let mut marks = [Sides::none(); MARKS];
     let cells = &mut cells;
+    let marks: &mut [Sides] = &mut marks;
     let mut work = Workspace {
         cells: &mut *cells,
         node: &mut node,
+        marks: &mut *marks,
         bad: &mut bad,
         full: &mut full,
     };
     let used = chained_slots::<4093, 6111>(exclusions, c, &mut table, &mut work);
     let top = work.bad[0];
     let slots = Slots::<4093, 6111>::of(&table, cells, used);
-    let supplier = Supplier::new(exclusions, slots, top);
+    let supplier = Supplier::new(Marked { exclusions, marks }, slots, top);
     let mut scratch = Scratch {
         buffer: [0; 8192],
         states: [0; 1009],
@@ -146,7 +151,7 @@ pub(crate) fn count_services(list: &[u8]) -> Result<u16, Refusal>
     Ok(n as u16)
 }
 
-// The same for any list.
+// The same for any list. Where there is no pair nothing is marked.
 fn judge_cut(
     exclusions: Exclusions<'_>,
     names: Names<'_>,
@@ -159,7 +164,10 @@ fn judge_cut(
         answers.old result answers.new }
 {
     count_services(list)?;
-    judge_all(exclusions, names, c, list, answers)
+    if exclusions.is_empty() {
+        return judge_all::<0>(exclusions, names, c, list, answers);
+    }
+    judge_all::<1009>(exclusions, names, c, list, answers)
 }
 
 // Reads the supplier's description, under a list of pairs that is accepted and indexed.

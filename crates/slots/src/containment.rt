@@ -1,25 +1,26 @@
 // Which services of a list are contained in which. Each is read once and slotted once, and all are judged by its slots.
-ghost use Rattle.std.specs.Prelude.{◌≡◌, List, [], ◌<◌, ◌≤◌, ◌+◌, ◌*◌, ℕ, get_or, length, Err, IfErr, IfOk, Ok};
+ghost use Rattle.std.specs.Prelude.{◌≡◌, ◌≢◌, List, [], ◌<◌, ◌≤◌, ◌+◌, ◌*◌, ℕ, get_or, length, Err, IfErr, IfOk, Ok};
 ghost use Rattle.std.proofs.Props.{props};
 ghost use Rattle.blocks.specs.Reading.{reading_of};
 ghost use Rattle.blocks.specs.declared.Schema.{Schema};
 ghost use Rattle.base.specs.Stores.{rows_at, stored};
 ghost use Rattle.lists.specs.Parts.{parts_of};
 ghost use Rattle.logic.specs.Background.{Ruled};
-ghost use Rattle.pairs.specs.Pairs.{under};
+ghost use Rattle.pairs.specs.Pairs.{pair_count, under};
 ghost use Rattle.slots.specs.Containment.{contained_row, contained_rows, plain_listed_reading, plain_services_reading, table_after, table_listed, table_reading};
 ghost use Rattle.slots.specs.code.Lent.{HeldIn};
 ghost use Rattle.slots.specs.code.Services.{ServicesRead, no_service};
 
 use crate::accepted::Accepted;
 use crate::catalogue::count_services;
+use crate::excluding::Marked;
 use crate::failing::Supplier;
 use crate::filling::chained_slots;
 use crate::slots::Slots;
 use crate::workspace::Workspace;
 use blocks::{Refusal, Schema};
 use lists::{Parts, part_length};
-use pairs::{Exclusions, INDEX_BYTES};
+use pairs::{Exclusions, INDEX_BYTES, Sides};
 
 // Where a service begins in its list, and how many entries it has.
 #[derive(Clone, Copy)]
@@ -95,8 +96,8 @@ fn judge_row<const BUCKETS: usize, const CELLS: usize>(
     at: usize,
 )
     requires { at + 64 ≤ 4096 }
-    ensures { (c : List ℕ) → HeldIn (under supplier.entry.exclusions.pairs.now) c supplier.entry
-        → table.new ≡ stored table.old at (contained_row (under supplier.entry.exclusions.pairs.now) (parts_of services.entry.list.now) c) }
+    ensures { (c : List ℕ) → HeldIn (under supplier.entry.marked.exclusions.pairs.now) c supplier.entry
+        → table.new ≡ stored table.old at (contained_row (under supplier.entry.marked.exclusions.pairs.now) (parts_of services.entry.list.now) c) }
 {
     for j in 0..services.count {
         let failing = supplier.judge(services.get(j), states);
@@ -104,15 +105,16 @@ fn judge_row<const BUCKETS: usize, const CELLS: usize>(
     }
 }
 
-// Slots and settles service i, of fewer than N entries, and judges all by it.
-fn slot_row_within<const N: usize, const BUCKETS: usize, const CELLS: usize>(
+// Slots and settles service i, of fewer than N entries, and judges all by it. MARKS places are marked.
+fn slot_row_within<const N: usize, const MARKS: usize, const BUCKETS: usize, const CELLS: usize>(
     exclusions: Exclusions<'_>,
     services: Services<'_>,
     i: usize,
     states: &mut [u16; 1009],
     table: &mut [u8; 4096],
 )
-    requires { Ruled (under exclusions.pairs.now) × (i < services.count) × ((get_or services.of.now i no_service).total < N) × (N ≤ 1009) × (251 ≤ BUCKETS) × (BUCKETS ≤ 4093) × (BUCKETS + 2 * N ≤ CELLS) × (CELLS ≤ 8192) }
+    requires { Ruled (under exclusions.pairs.now) × (i < services.count) × ((get_or services.of.now i no_service).total < N) × (N ≤ 1009) × (251 ≤ BUCKETS) × (BUCKETS ≤ 4093) × (BUCKETS + 2 * N ≤ CELLS) × (CELLS ≤ 8192)
+        × (MARKS ≤ 1009) × (pair_count exclusions.pairs.now ≢ 0 → (get_or services.of.now i no_service).total < MARKS) }
     ensures { table.new ≡ stored table.old (64 * i) (contained_row (under exclusions.entry.pairs.now) (parts_of services.entry.list.now)
         (get_or (parts_of services.entry.list.now) i [])) }
 {
@@ -121,10 +123,13 @@ fn slot_row_within<const N: usize, const BUCKETS: usize, const CELLS: usize>(
     let mut node = [0u16; N];
     let mut bad = [0u8; N];
     let mut full = [0u8; N];
+    let mut marks = [Sides::none(); MARKS];
     let cells = &mut cells;
+    let marks: &mut [Sides] = &mut marks;
     let mut work = Workspace {
         cells: &mut *cells,
         node: &mut node,
+        marks: &mut *marks,
         bad: &mut bad,
         full: &mut full,
     };
@@ -136,8 +141,26 @@ fn slot_row_within<const N: usize, const BUCKETS: usize, const CELLS: usize>(
     );
     let top = work.bad[0];
     let slots = Slots::<BUCKETS, CELLS>::of(&slotted, cells, used);
-    let supplier = Supplier::new(exclusions, slots, top);
+    let supplier = Supplier::new(Marked { exclusions, marks }, slots, top);
     judge_row(supplier, services, states, table, 64 * i)
+}
+
+// The same, where nothing is marked if the list has no pair.
+fn slot_row_under<const N: usize, const BUCKETS: usize, const CELLS: usize>(
+    exclusions: Exclusions<'_>,
+    services: Services<'_>,
+    i: usize,
+    states: &mut [u16; 1009],
+    table: &mut [u8; 4096],
+)
+    requires { Ruled (under exclusions.pairs.now) × (i < services.count) × ((get_or services.of.now i no_service).total < N) × (N ≤ 1009) × (251 ≤ BUCKETS) × (BUCKETS ≤ 4093) × (BUCKETS + 2 * N ≤ CELLS) × (CELLS ≤ 8192) }
+    ensures { table.new ≡ stored table.old (64 * i) (contained_row (under exclusions.entry.pairs.now) (parts_of services.entry.list.now)
+        (get_or (parts_of services.entry.list.now) i [])) }
+{
+    if exclusions.is_empty() {
+        return slot_row_within::<N, 0, BUCKETS, CELLS>(exclusions, services, i, states, table);
+    }
+    slot_row_within::<N, N, BUCKETS, CELLS>(exclusions, services, i, states, table)
 }
 
 // The same of any number of entries. Those of one block, and of four, take smaller tables, which are sooner cleared.
@@ -154,12 +177,12 @@ fn slot_row(
 {
     let n = services.total(i);
     if n < 64 {
-        return slot_row_within::<64, 251, 379>(exclusions, services, i, states, table);
+        return slot_row_under::<64, 251, 379>(exclusions, services, i, states, table);
     }
     if n < 253 {
-        return slot_row_within::<253, 4093, 4599>(exclusions, services, i, states, table);
+        return slot_row_under::<253, 4093, 4599>(exclusions, services, i, states, table);
     }
-    slot_row_within::<1009, 4093, 6111>(exclusions, services, i, states, table)
+    slot_row_under::<1009, 4093, 6111>(exclusions, services, i, states, table)
 }
 
 // The rows of all services.

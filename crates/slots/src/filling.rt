@@ -1,19 +1,21 @@
 // The slots of a description, built and settled, in tables that the caller lends.
-ghost use Rattle.std.specs.Prelude.{◌≡◌, ◌+◌, ◌*◌, ◌<◌, ◌≤◌, length};
+ghost use Rattle.std.specs.Prelude.{◌≡◌, ◌≢◌, ◌+◌, ◌*◌, ◌<◌, ◌≤◌, length};
 ghost use Rattle.pairs.specs.Pairs.{pair_count, under};
 ghost use Rattle.slots.specs.code.Lent.{ChainedIn, Ready, SameTables};
-ghost use Rattle.slots.specs.code.Tables.{Blank, Exact, Settled};
+ghost use Rattle.slots.specs.code.Marking.{MarkedBy, Unmarked};
+ghost use Rattle.slots.specs.code.Tables.{Blank, Exact, Settled, slots_in};
 ghost use Rattle.slots.specs.code.Standing.{FilledBy, Fills, bad_after, full_after, room_in, slotting_of, table_after};
 
 use crate::accepted::Accepted;
 use crate::build::build;
+use crate::marking::mark_places;
 use crate::restrict::restrict_slots;
 use crate::settle::settle;
 use crate::workspace::Workspace;
 use blocks::{Cause, Refusal, Schema};
-use pairs::{Exclusions, INDEX_BYTES};
+use pairs::{Exclusions, INDEX_BYTES, Sides};
 
-// The slots of a description, settled, with the cells in which they are found; returns their number. Each table of the workspace
+// The slots of a description, settled, with the cells in which they are found and the marks of their places; returns their number. Each table of the workspace
 // has a name first: several are lent to one pass.
 pub(crate) fn chained_slots<const BUCKETS: usize, const CELLS: usize>(
     exclusions: Exclusions<'_>,
@@ -21,22 +23,53 @@ pub(crate) fn chained_slots<const BUCKETS: usize, const CELLS: usize>(
     table: &mut [u64],
     work: &mut Workspace<'_, CELLS>,
 ) -> usize
-    requires { (BUCKETS ≤ 4093) × (CELLS ≤ 8192) × (d.total < length table.old) × Ready BUCKETS d.total work.old }
+    requires { (BUCKETS ≤ 4093) × (CELLS ≤ 8192) × (d.total < length table.old) × Ready BUCKETS d.total work.old
+        × Unmarked exclusions.pairs.now d.total work.old.marks.now }
     ensures chained { ChainedIn BUCKETS (under exclusions.entry.pairs.now) d.entry.bytes.now result table.old table.new work.new }
+    ensures marked { MarkedBy exclusions.entry.pairs.now (slots_in table.new result) work.new.marks.now }
     ensures same { SameTables work.old work.new }
 {
     let cells = &mut *work.cells;
     let node = &mut *work.node;
+    let marks = &mut *work.marks;
     let bad = &mut *work.bad;
     let full = &mut *work.full;
     let used = build::<BUCKETS, CELLS>(d.bytes, d.total, table, cells, node);
-    restrict_slots::<BUCKETS, CELLS>(exclusions, table, cells, used);
+    mark_places(exclusions, table, used, marks);
+    restrict_slots(exclusions, marks, table, used);
     settle(table, bad, full, used);
     used
 }
 
-// The slots of a description of fewer than N entries, settled, with tables of their own for what only the passes need.
-fn settled_within<const N: usize, const BUCKETS: usize, const CELLS: usize>(
+// The slots of a description of fewer than N entries, settled, with tables of their own for what only the passes need: MARKS places are marked.
+fn settled_within<const N: usize, const MARKS: usize, const BUCKETS: usize, const CELLS: usize>(
+    exclusions: Exclusions<'_>,
+    d: Accepted<'_>,
+    table: &mut [u64],
+    bad: &mut [u8],
+    full: &mut [u8],
+) -> usize
+    requires { (d.total < N) × (N ≤ 1009) × (251 ≤ BUCKETS) × (BUCKETS ≤ 4093) × (BUCKETS + 2 * N ≤ CELLS) × (CELLS ≤ 8192)
+        × (MARKS ≤ 1009) × (pair_count exclusions.pairs.now ≢ 0 → d.total < MARKS)
+        × (d.total < length table.old) × Blank d.total bad.old × Blank d.total full.old }
+    ensures { Settled (under exclusions.entry.pairs.now) d.entry.bytes.now result table.new bad.new full.new
+        × Exact table.old table.new result }
+{
+    let mut cells = [0u16; CELLS];
+    let mut node = [0u16; N];
+    let mut marks = [Sides::none(); MARKS];
+    let mut work = Workspace {
+        cells: &mut cells,
+        node: &mut node,
+        marks: &mut marks,
+        bad,
+        full,
+    };
+    chained_slots::<BUCKETS, CELLS>(exclusions, d, table, &mut work)
+}
+
+// The same, where nothing is marked if the list has no pair.
+fn settled_under<const N: usize, const BUCKETS: usize, const CELLS: usize>(
     exclusions: Exclusions<'_>,
     d: Accepted<'_>,
     table: &mut [u64],
@@ -48,15 +81,10 @@ fn settled_within<const N: usize, const BUCKETS: usize, const CELLS: usize>(
     ensures { Settled (under exclusions.entry.pairs.now) d.entry.bytes.now result table.new bad.new full.new
         × Exact table.old table.new result }
 {
-    let mut cells = [0u16; CELLS];
-    let mut node = [0u16; N];
-    let mut work = Workspace {
-        cells: &mut cells,
-        node: &mut node,
-        bad,
-        full,
-    };
-    chained_slots::<BUCKETS, CELLS>(exclusions, d, table, &mut work)
+    if exclusions.is_empty() {
+        return settled_within::<N, 0, BUCKETS, CELLS>(exclusions, d, table, bad, full);
+    }
+    settled_within::<N, N, BUCKETS, CELLS>(exclusions, d, table, bad, full)
 }
 
 // The slots of a description, settled; returns their number. Those of one block, and of four, take smaller tables, which
@@ -73,12 +101,12 @@ fn settled_slots(
         × Exact table.old table.new result }
 {
     if d.total < 64 {
-        return settled_within::<64, 251, 379>(exclusions, d, table, bad, full);
+        return settled_under::<64, 251, 379>(exclusions, d, table, bad, full);
     }
     if d.total < 253 {
-        return settled_within::<253, 4093, 4599>(exclusions, d, table, bad, full);
+        return settled_under::<253, 4093, 4599>(exclusions, d, table, bad, full);
     }
-    settled_within::<1009, 4093, 6111>(exclusions, d, table, bad, full)
+    settled_under::<1009, 4093, 6111>(exclusions, d, table, bad, full)
 }
 
 // Fills the tables with the slots of an accepted description; or 7 where one of them is too short for it.

@@ -18,6 +18,7 @@ mod containment;
 mod excluding;
 mod failing;
 mod filling;
+mod marking;
 mod restrict;
 mod service;
 mod settle;

@@ -1,13 +1,19 @@
 // The pass between the first and the second, under what every record keeps: a single link leads to one item at most, and
 // no item has both properties of a pair.
-ghost use Rattle.std.specs.Prelude.{◌≡◌, ◌+◌, ◌&&◌, ◌%◌, ◌/◌, ◌<◌, ◌≤◌, eqb, ltb, get_or};
+ghost use Rattle.std.specs.Prelude.{◌≡◌, ◌+◌, ◌&&◌, ◌%◌, ◌/◌, ◌<◌, ◌≤◌, List, eqb, length, ltb, get_or};
+ghost use Rattle.pairs.specs.Pairs.{under};
 ghost use Rattle.pairs.specs.code.Index.{bucket_of};
-ghost use Rattle.slots.specs.code.Tables.{Kept, Placed, Restricted, excluded_high, excluded_slot, key_in, link_word, no_bound, property_word, restricted_word, single_high};
+ghost use Rattle.passes.specs.code.Restrict.{excluded_at};
+ghost use Rattle.passes.specs.code.Slots.{Slot};
+ghost use Rattle.slots.specs.code.Lent.{MarkedIn};
+ghost use Rattle.slots.specs.code.Marking.{MarkedBy};
+ghost use Rattle.slots.specs.code.Tables.{Restricted, excluded_high, key_in, link_word, no_bound, property_word, restricted_word, single_high, slots_in};
 
-use crate::slots::{NO_BOUND, Slots, high_in, key_in, low_in, make_slot};
+use crate::excluding::Marked;
+use crate::slots::{NO_BOUND, high_in, key_in, low_in, make_slot};
 use blocks::Property;
 use blocks::sizes::FIRST_SINGLE;
-use pairs::Exclusions;
+use pairs::{Exclusions, Sides};
 
 // The upper bound of such a link: 0, so that nothing meets the slot, where more than one are asked for; none where one or more are
 // allowed, since every record keeps that.
@@ -56,7 +62,7 @@ fn restricted_link(x: u64) -> u64
 }
 
 // Whether a slot is that of a property.
-fn of_property(x: u64) -> bool
+pub(crate) fn of_property(x: u64) -> bool
     ensures { result ≡ ltb (key_in x % 131072) 65536 }
 {
     key_in(x) % 131072 < 65536
@@ -71,40 +77,34 @@ fn stays(exclusions: Exclusions<'_>, key: u64) -> bool
 }
 
 // A slot under the rule: a link's by its name, a property's by whether it is excluded.
-fn restricted<const BUCKETS: usize, const CELLS: usize>(
-    exclusions: Exclusions<'_>,
-    slots: Slots<'_, BUCKETS, CELLS>,
-    x: u64,
-) -> u64
-    requires { key_in x / 131072 < 1024 }
-    ensures { result ≡ restricted_word (excluded_slot exclusions.entry.pairs.now slots.entry.table.now slots.entry.used x) x }
+fn restricted(marked: Marked<'_>, x: u64) -> u64
+    ensures { (ss : List Slot) → MarkedIn ss marked.entry
+        → result ≡ restricted_word (excluded_at (under marked.entry.exclusions.pairs.now) ss (key_in x / 131072) (key_in x % 65536)) x }
 {
     let k = key_in(x);
-    if stays(exclusions, k) {
+    if stays(marked.exclusions, k) {
         return x;
     }
     if !of_property(x) {
         return restricted_link(x);
     }
     let p = Property((k % 65536) as u16);
-    let out = slots.excluded(exclusions, k / 131072, p);
+    let out = marked.excluded(k / 131072, p);
     restricted_property(x, out)
 }
 
-// Puts the slots 1 to `used` under the rule. What a place has does not change on the way. It takes the parts of the table: they are lent as Slots
-// for a look, and one is written after it.
-pub(crate) fn restrict_slots<const BUCKETS: usize, const CELLS: usize>(
+// Puts the slots 1 to `used` under the rule, by what is marked of their places, which does not change on the way.
+pub(crate) fn restrict_slots(
     exclusions: Exclusions<'_>,
+    marks: &[Sides],
     table: &mut [u64],
-    cells: &[u16; CELLS],
     used: usize,
 )
-    requires { Kept table.old BUCKETS cells.now used × (used ≤ 1008) × Placed table.old used }
+    requires { (used < length table.old) × (used ≤ 1008) × MarkedBy exclusions.pairs.now (slots_in table.old used) marks.now }
     ensures { Restricted exclusions.entry.pairs.now table.old used used table.new }
 {
+    let marked = Marked { exclusions, marks };
     for s in 1..used + 1 {
-        let slots = Slots::<BUCKETS, CELLS> { table, cells, used };
-        let x = restricted(exclusions, slots, slots.table[s]);
-        table[s] = x;
+        table[s] = restricted(marked, table[s]);
     }
 }

@@ -63,7 +63,7 @@ fn pass_entries(
     input: u16,
 ) -> Result<Option<usize>, Refusal>
     requires { (total ≡ length (entries_of d.now)) × (total ≤ 1008) × Whole d.now total }
-    ensures { AllPassedIn (under supplier.entry.exclusions.pairs.now) d.now supplier.entry.slots total input result }
+    ensures { AllPassedIn (under supplier.entry.marked.exclusions.pairs.now) d.now supplier.entry.slots total input result }
 {
     states[0] = 0;
     level[0] = 1;
@@ -74,7 +74,7 @@ fn pass_entries(
         let n = before + 1;
         check_entry(e, n, level, input)?;
         let s = states[usize::from(e.owner)];
-        match supplier.slots.look(supplier.exclusions, s, e) {
+        match supplier.slots.look(supplier.marked, s, e) {
             Some(below) => states[n] = below,
             None => {
                 check_rest(rest, level, input)?;
@@ -105,8 +105,8 @@ fn judge_entries(
     requires { (supplier.impossible ≡ false)
         × (reading_of (Schema.Named 0) input d.now ≡ answer input total (first (entry_faults (Schema.Named 0) (entries_of d.now) 1 total)))
         × (total ≡ length (entries_of d.now)) × (total ≤ 1008) × Whole d.now total }
-    ensures { (c : List ℕ) → HeldIn (under supplier.entry.exclusions.pairs.now) c supplier.entry
-        → result ≡ plain_judged supplier.entry.exclusions.pairs.now c input d.now }
+    ensures { (c : List ℕ) → HeldIn (under supplier.entry.marked.exclusions.pairs.now) c supplier.entry
+        → result ≡ plain_judged supplier.entry.marked.exclusions.pairs.now c input d.now }
 {
     let failing = pass_entries(supplier, d, usize::from(total), states, level, input)?;
     Ok(failing.is_none())
@@ -120,8 +120,8 @@ pub(crate) fn judge_plain(
     states: &mut [u16; 1009],
     level: &mut [u8; 1009],
 ) -> Result<bool, Refusal>
-    ensures { (c : List ℕ) → HeldIn (under supplier.entry.exclusions.pairs.now) c supplier.entry
-        → result ≡ plain_judged supplier.entry.exclusions.pairs.now c input d.now }
+    ensures { (c : List ℕ) → HeldIn (under supplier.entry.marked.exclusions.pairs.now) c supplier.entry
+        → result ≡ plain_judged supplier.entry.marked.exclusions.pairs.now c input d.now }
 {
     if supplier.impossible {
         return judge_broken(d, input);

@@ -9,13 +9,13 @@ ghost use Rattle.logic.specs.Normal.{at_most};
 ghost use Rattle.pairs.specs.Pairs.{under};
 ghost use Rattle.passes.specs.code.Restrict.{excluded_at};
 ghost use Rattle.passes.specs.code.Slots.{Slot};
-ghost use Rattle.slots.specs.code.Lent.{IndexedIn};
+ghost use Rattle.slots.specs.code.Lent.{IndexedIn, MarkedIn};
 ghost use Rattle.slots.specs.code.States.{beside_bounds, bounds_support, entry_slot, given, holds_in_state, holds_by_slots, needed, nowhere, passed, state_below};
 ghost use Rattle.slots.specs.code.Tables.{Readable, high_in, high_part, low_part, no_bound, slots_in};
 
+use crate::excluding::Marked;
 use crate::slots::{NO_BOUND, Slots, entry_key, high_in, low_in};
 use blocks::{Entry, Link, entries_in_order, kinds};
-use pairs::Exclusions;
 
 // Two states that are no place of the normal form: below NOWHERE nothing stands, and after PASSED, an at most 0, all holds. A slot has
 // neither number. A state is looked up as a place: there is no slot at NOWHERE, which needs no test.
@@ -91,8 +91,36 @@ fn state_below(found: Option<usize>, hi: u64) -> u16
     found.map_or(NOWHERE, |s| if hi == 0 { PASSED } else { s as u16 })
 }
 
+impl Marked<'_> {
+    // Whether an entry holds at a place that does not list it: an at most that every record keeps, or a lack that the place implies, since it
+    // has a property that excludes the entry's. Few entries are asked this: it is not inlined into the loops over all of them, whose registers it
+    // would take.
+    #[inline(never)]
+    fn holds_beside(self, place: u64, e: Entry) -> bool
+        ensures { (ss : List Slot) → MarkedIn ss self.entry
+            → result ≡ beside_bounds standing (excluded_at (under self.entry.exclusions.pairs.now) ss place e.name) e.kind e.name e.number }
+    {
+        let kind = e.kind;
+        match kind {
+            kinds::LACKS => self.excluded(place, e.property()),
+            kinds::AT_MOST => always(e.link(), e.number),
+            _ => false,
+        }
+    }
+
+    // Whether an entry holds at a place, by the bounds of its slot or beside them. A part of both loops too.
+    #[inline(always)]
+    fn holds_at(self, place: u64, e: Entry, x: u64) -> bool
+        ensures { (ss : List Slot) → MarkedIn ss self.entry → result ≡ (bounds_support e.kind e.number (low_part x) (high_in (high_part x))
+            || beside_bounds standing (excluded_at (under self.entry.exclusions.pairs.now) ss place e.name) e.kind e.name e.number) }
+    {
+        supported(e.kind, e.number, x) || self.holds_beside(place, e)
+    }
+}
+
 impl<const BUCKETS: usize, const CELLS: usize> Slots<'_, BUCKETS, CELLS> {
-    // The slot of an entry at a place.
+    // The slot of an entry at a place. A part of both loops too, inlined into each size of them.
+    #[inline(always)]
     fn entry_slot(self, place: u64, e: Entry) -> Option<usize>
         requires { place < 1024 }
         ensures { (unwrap_or result 0 ≤ self.entry.used) × IfSome result (λ s. 1 ≤ s)
@@ -109,38 +137,13 @@ impl<const BUCKETS: usize, const CELLS: usize> Slots<'_, BUCKETS, CELLS> {
         found.map_or(NO_BOUND, |s| self.table[s])
     }
 
-    // Whether an entry holds at a place that does not list it: an at most that every record keeps, or a lack that the place implies, since it
-    // has a property that excludes the entry's. Few entries are asked this: it is not inlined into the loops over all of them, whose registers it
-    // would take.
-    #[inline(never)]
-    fn holds_beside(self, exclusions: Exclusions<'_>, place: u64, e: Entry) -> bool
-        requires { place < 1024 }
-        ensures { result ≡ beside_bounds standing (excluded_at (under exclusions.entry.pairs.now) (slots_in self.entry.table.now self.entry.used) place e.name) e.kind e.name e.number }
-    {
-        let kind = e.kind;
-        match kind {
-            kinds::LACKS => self.excluded(exclusions, place, e.property()),
-            kinds::AT_MOST => always(e.link(), e.number),
-            _ => false,
-        }
-    }
-
-    // Whether an entry holds at a place, by the bounds of its slot or beside them.
-    fn holds_at(self, exclusions: Exclusions<'_>, place: u64, e: Entry, x: u64) -> bool
-        requires { place < 1024 }
-        ensures { result ≡ (bounds_support e.kind e.number (low_part x) (high_in (high_part x))
-            || beside_bounds standing (excluded_at (under exclusions.entry.pairs.now) (slots_in self.entry.table.now self.entry.used) place e.name) e.kind e.name e.number) }
-    {
-        supported(e.kind, e.number, x) || self.holds_beside(exclusions, place, e)
-    }
-
     // Looks an entry up in a place of this state: if it holds there, the state of the place that it owns, should it be an 'every'. A part of both
     // loops over a description's entries, inlined into each, so that the tables are at hand.
     #[inline(always)]
-    pub(crate) fn look(self, exclusions: Exclusions<'_>, state: u16, e: Entry) -> Option<u16>
-        requires { state ≤ passed }
+    pub(crate) fn look(self, marked: Marked<'_>, state: u16, e: Entry) -> Option<u16>
+        requires { (state ≤ passed) × MarkedIn (slots_in self.table.now self.used) marked }
         ensures { IfSome result (λ y. y ≤ passed)
-            × ((ss : List Slot) → IndexedIn ss self.entry → is_some result ≡ holds_in_state (under exclusions.entry.pairs.now) ss state e)
+            × ((ss : List Slot) → IndexedIn ss self.entry → is_some result ≡ holds_in_state (under marked.entry.exclusions.pairs.now) ss state e)
             × (e.kind ≡ 5 → (ss : List Slot) → IndexedIn ss self.entry
             → IfSome result (λ y. y ≡ state_below ss state e.name)) }
     {
@@ -150,7 +153,7 @@ impl<const BUCKETS: usize, const CELLS: usize> Slots<'_, BUCKETS, CELLS> {
         let place = u64::from(state);
         let s = self.entry_slot(place, e);
         let x = self.bounds(s);
-        if !self.holds_at(exclusions, place, e, x) {
+        if !marked.holds_at(place, e, x) {
             return None;
         }
         Some(state_below(s, high_in(x)))
@@ -161,21 +164,21 @@ impl<const BUCKETS: usize, const CELLS: usize> Slots<'_, BUCKETS, CELLS> {
     #[inline(always)]
     pub(crate) fn first_failing_entry(
         self,
-        exclusions: Exclusions<'_>,
+        marked: Marked<'_>,
         d: &[u8],
         total: usize,
         states: &mut [u16],
     ) -> Option<usize>
-        requires { Readable d.now total × (total < length states.old) }
+        requires { Readable d.now total × (total < length states.old) × MarkedIn (slots_in self.table.now self.used) marked }
         ensures { (unwrap_or result 0 ≤ total) × IfSome result (λ n. 1 ≤ n)
             × ((ss : List Slot) → IndexedIn ss self.entry
-            → unwrap_or result 0 ≡ first_from (holds_by_slots (under exclusions.entry.pairs.now) ss (entries_of d.now)) 1 total) }
+            → unwrap_or result 0 ≡ first_from (holds_by_slots (under marked.entry.exclusions.pairs.now) ss (entries_of d.now)) 1 total) }
     {
         states[0] = 0;
         for (before, bytes) in entries_in_order(d, total).enumerate() {
             let e = Entry::from(bytes);
             let s = states[usize::from(e.owner)];
-            match self.look(exclusions, s, e) {
+            match self.look(marked, s, e) {
                 Some(below) => states[before + 1] = below,
                 None => return Some(before + 1),
             }

@@ -11,7 +11,6 @@ use mathlib.Core.Path.{◌∙◌, ◌≡◌, ap, refl, sym}
 use native.Mathlib.Omega.{arith}
 use Rattle.base.proofs.Tests.{bool_cases, eq-cases, eq-eqb, ge-ltb, gt-leb, le-leb, lt-cases, lt-ltb, ne_eqb, tests}
 use Rattle.base.specs.Links.{is_single}
-use Rattle.logic.specs.Background.{Background}
 use Rattle.logic.specs.Normal as normal
 use Rattle.pairs.specs.Pairs.{under}
 use Rattle.passes.specs.code.Restrict.{excluded_at, idle, restrict, restrict_by, restricted_high, slots_under}
@@ -158,13 +157,6 @@ slots-restricted P f o t i (suc n) h =
       slots-restricted P f o t (suc i) n (λ j lo hi. h j (omega arith) (omega arith)),
     )
 
--- what is excluded goes by keys and lower bounds
-excluded-same : (b : Background) (o t : List ℕ) (v p i n : ℕ) → ((j : ℕ) → key_in (get_or t j 0) ≡ key_in (get_or o j 0))
-    → ((j : ℕ) → low_part (get_or t j 0) ≡ low_part (get_or o j 0)) → excluded_at b (slots_from t i n) v p ≡ excluded_at b (slots_from o i n) v p
-unfolding slots_from excluded_at slot_in
-excluded-same b o t v p i zero k l = refl
-excluded-same b o t v p i (suc n) k l = rw (k i, l i, excluded-same b o t v p (suc i) n k l)
-
 -- ---- the table
 
 pub restrict-starts : (P t : List ℕ) (used : ℕ) → Restricted P t used 0 t
@@ -182,20 +174,19 @@ module _ {P o t : List ℕ} {used s : ℕ} (R : Restricted P o used s t) where
   pub key-stays : (j : ℕ) → key_in (get_or t j 0) ≡ key_in (get_or o j 0)
   key-stays = stays key_in (λ j lo hi. (restricted-bound P (get_or o j 0) (excluded_slot P o used (get_or o j 0))).key)
 
-  low-stays : (j : ℕ) → low_part (get_or t j 0) ≡ low_part (get_or o j 0)
+  pub low-stays : (j : ℕ) → low_part (get_or t j 0) ≡ low_part (get_or o j 0)
   low-stays = stays low_part (λ j lo hi. (restricted-bound P (get_or o j 0) (excluded_slot P o used (get_or o j 0))).low)
 
   pub kept-stays : {cells : List ℕ} {most : ℕ} → Kept o most cells used → Kept t most cells used
   kept-stays k = kept-keys k R.size key-stays
 
   -- one slot more
-  pub restrict-goes : {x : ℕ} → s + 1 < length t → x ≡ restricted_word (excluded_slot P t used (get_or t (s + 1) 0)) (get_or t (s + 1) 0)
+  pub restrict-goes : {x : ℕ} → s + 1 < length t → x ≡ restricted_word (excluded_slot P o used (get_or t (s + 1) 0)) (get_or t (s + 1) 0)
       → Restricted P o used (s + 1) (set t (s + 1) x)
   restrict-goes {x} h e =
       let y = get_or o (s + 1) 0 in
       let here : get_or t (s + 1) 0 ≡ y = R.rest (s + 1) (omega arith) in
-      let new : x ≡ restricted_word (excluded_slot P o used y) y
-      = e ∙ rw (here, excluded-same (under P) o t (key_in y / 131072) (key_in y % 65536) 1 used key-stays low-stays) in
+      let new : x ≡ restricted_word (excluded_slot P o used y) y = rw here at e in
       record {
         size = rw length-set R.size;
         changed = λ j lo hi. eq-cases j (s + 1)

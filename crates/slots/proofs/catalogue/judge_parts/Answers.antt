@@ -7,7 +7,7 @@ use Rattle.slots.proofs.catalogue.judge_parts.Goals as goal
 pub loop-part-init : goal.loop-part-init
 loop-part-init c =
     let e = c.into_iter-part-iterator.ensures.into_iter_gives ∙ c.of-part-items.ensures in
-    (omega (arith, ap length e), λ s H. passing-start c.args.supplier.exclusions.pairs.now (bytes_read c.args.names.read) s c.args.list.now c.args.answers.now e)
+    (omega (arith, ap length e), λ s H. passing-start c.args.supplier.marked.exclusions.pairs.now (bytes_read c.args.names.read) s c.args.list.now c.args.answers.now e)
 
 pub loop-part-preserved : goal.loop-part-preserved
 loop-part-preserved c =

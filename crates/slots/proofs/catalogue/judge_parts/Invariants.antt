@@ -12,5 +12,5 @@ use Rattle.slots.proofs.catalogue.judge_parts.Given as goal
 
 abbrev pub invariant-loop-part : goal.invariant-loop-part
 invariant-loop-part l = (l.n + length l.part-iterator ≡ length (parts_of l.list))
-    × ((s : List ℕ) → Held (under l.supplier.exclusions.pairs.now) s l.supplier.slots.used l.supplier.slots.table.now 4093 l.supplier.slots.cells.now l.supplier.impossible
-    → Passing l.supplier.exclusions.pairs.now (bytes_read l.names.read) s l.list l.initial.answers l.part-iterator l.n l.answers)
+    × ((s : List ℕ) → Held (under l.supplier.marked.exclusions.pairs.now) s l.supplier.slots.used l.supplier.slots.table.now 4093 l.supplier.slots.cells.now l.supplier.impossible
+    → Passing l.supplier.marked.exclusions.pairs.now (bytes_read l.names.read) s l.list l.initial.answers l.part-iterator l.n l.answers)

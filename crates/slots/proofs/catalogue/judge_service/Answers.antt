@@ -28,14 +28,14 @@ stands c =
     read-buffered c.in-Some.dictionary.bytes.now c.args.input c.args.d.now (rw c.in-Some.is at c.args.names.some) c.args.scratch.now.buffer (omega arith) u.0 u.1
 
 pub returns-in_default : goal.returns-in_default
-returns-in_default c = rw c.in_default.is (λ s H. c.judge_plain.ensures s H ∙ service-plain c.args.supplier.exclusions.pairs.now s c.args.input c.args.d.now)
+returns-in_default c = rw c.in_default.is (λ s H. c.judge_plain.ensures s H ∙ service-plain c.args.supplier.marked.exclusions.pairs.now s c.args.input c.args.d.now)
 
 pub returns-in_err-m : goal.returns-in_err-m
 returns-in_err-m c =
     let p = err_from_is_err_and c.from_residual.result c.from_residual.ensures.1 in
     let D = c.in-Some.dictionary in
     let r = stands (goal.at.returns-in_err-m c).After-unfold_into in
-    rw (c.in-Some.is, p.1, p.2) (λ s H. service-refused c.args.supplier.exclusions.pairs.now D.bytes.now D.accepted s c.args.input c.args.d.now r.0 c.in_err-m.was)
+    rw (c.in-Some.is, p.1, p.2) (λ s H. service-refused c.args.supplier.marked.exclusions.pairs.now D.bytes.now D.accepted s c.args.input c.args.d.now r.0 c.in_err-m.was)
 
 pub shared_ref_as_front-service : goal.shared_ref_as_front-service
 shared_ref_as_front-service c =
@@ -61,7 +61,7 @@ judge-failing-requires c =
 pub returns : goal.returns
 returns c =
     let D = c.in-Some.dictionary in
-    let P = c.args.supplier.exclusions.pairs.now in
+    let P = c.args.supplier.marked.exclusions.pairs.now in
     let r = stands (goal.at.returns c).After-unfold_into in
     let same = r.1 _ _ c.in_ok-m.was c.bytes_for-end.ensures.0 in
     rw c.in-Some.is

@@ -15,7 +15,7 @@ judge-failing-requires g c = (omega arith, omega (arith, (accepted-few 1 _ c.get
 
 pub loop-j-preserved : goal.loop-j-preserved
 loop-j-preserved g c =
-    let b = under c.args.supplier.exclusions.pairs.now in
+    let b = under c.args.supplier.marked.exclusions.pairs.now in
     let R = c.args.services.read in
     λ s H.
     row-more b _ s c.args.table.now c.args.at c.loop-j.j (omega (arith, c.loop-j-test.true, R.all)) (c.loop-j.invariant s H)

@@ -11,5 +11,5 @@ use Rattle.slots.specs.code.Tables.{Held}
 use Rattle.slots.proofs.containment.judge_row.Given as goal
 
 abbrev pub invariant-loop-j : goal.invariant-loop-j
-invariant-loop-j g l = (c : List ℕ) → Held (under l.supplier.exclusions.pairs.now) c l.supplier.slots.used l.supplier.slots.table.now g.row.BUCKETS l.supplier.slots.cells.now l.supplier.impossible
-    → l.table ≡ stored l.initial.table l.at (map (contained_bit (under l.supplier.exclusions.pairs.now) c) (take l.j (parts_of l.services.list.now)))
+invariant-loop-j g l = (c : List ℕ) → Held (under l.supplier.marked.exclusions.pairs.now) c l.supplier.slots.used l.supplier.slots.table.now g.row.BUCKETS l.supplier.slots.cells.now l.supplier.impossible
+    → l.table ≡ stored l.initial.table l.at (map (contained_bit (under l.supplier.marked.exclusions.pairs.now) c) (take l.j (parts_of l.services.list.now)))

@@ -5,22 +5,28 @@ use native.Mathlib.Omega.{arith}
 use borrow.Author.Rules.{rules}
 use Rattle.blocks.specs.declared.Schema.TheVariants.{Description}
 use Rattle.names.proofs.Legality.AcceptedReadings.{any-input}
-use Rattle.slots.proofs.LentAgain.{kept-again}
+use Rattle.slots.proofs.LentAgain.{kept-again, marked-again}
 use Rattle.slots.proofs.failing.JudgingLaws.{judging-found}
 use Rattle.slots.proofs.filling.FillingLaws.{ready-zeros}
+use Rattle.slots.proofs.marking.MarkingLaws.{unmarked-new}
 use Rattle.slots.proofs.failing.judge.Goals as goal
 
 pub chained_slots-used-requires : goal.chained_slots-used-requires
 chained_slots-used-requires g c =
-    let a = c.requires in (omega arith, (a.6, a.8, a.1, ready-zeros _ _ _ _ a.2 a.5 a.6 a.7 a.8))
+    let a = c.requires in (omega arith, (a.6, a.8, a.1, ready-zeros _ _ _ _ a.2 a.5 a.6 a.7 a.8, unmarked-new _ _ _ c.none-marks.ensures a.10))
 
 pub bounds-work-0 : goal.bounds-work-0
-bounds-work-0 g c = omega (arith, c.chained_slots-used.ensures.same.4, length-replicate {A = ℕ} g.row.N 0, c.requires.2)
+bounds-work-0 g c = omega (arith, c.chained_slots-used.ensures.same.5, length-replicate {A = ℕ} g.row.N 0, c.requires.2)
 
 pub of-slots-requires : goal.of-slots-requires
 of-slots-requires g c =
     let s = c.chained_slots-used.ensures.chained in
     (omega arith, (omega arith, (kept-again s.kept (search rules), s.settled'.tabled.few)))
+
+pub new-supplier-requires : goal.new-supplier-requires
+new-supplier-requires g c =
+    let r = c.of-slots.ensures in
+    (omega arith, (omega arith, (c.requires.0, rw (r.0, r.2) (marked-again c.chained_slots-used.ensures.marked (search rules)))))
 
 pub returns : goal.returns
 returns g c =

@@ -4,4 +4,4 @@ use Rattle.slots.specs.code.Tables.{Restricted}
 use Rattle.slots.proofs.restrict.restrict_slots.Given as goal
 
 abbrev pub invariant-loop-s : goal.invariant-loop-s
-invariant-loop-s g l = (l.s - 1 ≤ l.used) × Restricted l.exclusions.pairs.now l.initial.table l.used (l.s - 1) l.table
+invariant-loop-s l = (l.s - 1 ≤ l.used) × Restricted l.exclusions.pairs.now l.initial.table l.used (l.s - 1) l.table

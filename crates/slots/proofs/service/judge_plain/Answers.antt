@@ -8,7 +8,7 @@ use Rattle.slots.proofs.service.judge_plain.Goals as goal
 
 pub returns-then-supplier : goal.returns-then-supplier
 returns-then-supplier c =
-    λ s H. plain-broken c.args.supplier.exclusions.pairs.now s c.args.input c.args.d.now c.args.supplier.ruled.lawful H c.if-supplier.true c.judge_broken.ensures
+    λ s H. plain-broken c.args.supplier.marked.exclusions.pairs.now s c.args.input c.args.d.now c.args.supplier.ruled.lawful H c.if-supplier.true c.judge_broken.ensures
 
 pub judge_entries-requires : goal.judge_entries-requires
 judge_entries-requires c =
@@ -21,4 +21,4 @@ pub returns-in_err-total : goal.returns-in_err-total
 returns-in_err-total c =
     let p = err_from_is_err_and c.from_residual.result c.from_residual.ensures.1 in
     let r = c.in_err-total.field-0.0 in
-    rw (p.1, p.2) (λ s H. plain-refused c.args.supplier.exclusions.pairs.now s c.args.input c.args.d.now (blocks-refused (Named 0) c.args.input c.args.d.now c.read_blocks.ensures {k = r.cause} {j = r.input} {p = r.place} c.in_err-total.was))
+    rw (p.1, p.2) (λ s H. plain-refused c.args.supplier.marked.exclusions.pairs.now s c.args.input c.args.d.now (blocks-refused (Named 0) c.args.input c.args.d.now c.read_blocks.ensures {k = r.cause} {j = r.input} {p = r.place} c.in_err-total.was))

@@ -77,7 +77,7 @@ pub look-requires : goal.look-requires
 look-requires c =
     let at = goal.at.look-requires c in
     let w = this at.In_ok-check_entry in
-    (omega arith, judged-state c.loop-before.invariant.judged (omega (arith, w.there, c.requires.0)) w.entry (state-read at.After-from) w.owner)
+    (omega arith, (judged-state c.loop-before.invariant.judged (omega (arith, w.there, c.requires.0)) w.entry (state-read at.After-from) w.owner, c.args.supplier.right))
 
 pub loop-before-preserved : goal.loop-before-preserved
 loop-before-preserved c =

@@ -10,7 +10,7 @@ use Rattle.slots.proofs.service.pass_entries.Given as goal
 abbrev pub invariant-loop-before : goal.invariant-loop-before
 invariant-loop-before l = record {
   resting : Resting l.d l.total 0 l.rest l.level;
-  judged : JudgedSoFar (under l.supplier.exclusions.pairs.now) l.d l.supplier.slots.table.now 4093 l.supplier.slots.cells.now
+  judged : JudgedSoFar (under l.supplier.marked.exclusions.pairs.now) l.d l.supplier.slots.table.now 4093 l.supplier.slots.cells.now
       l.supplier.slots.used (enumerate_count l.rest) l.states;
 }
 

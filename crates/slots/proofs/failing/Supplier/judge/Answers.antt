@@ -10,7 +10,7 @@ pub returns-then-self : goal.returns-then-self
 returns-then-self g c = (omega arith, tt, λ d h. failing-bottom c.args.self.ruled.lawful d _ h c.if-self.true)
 
 pub first_failing_entry-requires : goal.first_failing_entry-requires
-first_failing_entry-requires g c = (omega arith, (accepted-few 1 _ c.args.d.read, c.requires))
+first_failing_entry-requires g c = (omega arith, (accepted-few 1 _ c.args.d.read, c.requires, c.args.self.right))
 
 pub returns : goal.returns
 returns g c =

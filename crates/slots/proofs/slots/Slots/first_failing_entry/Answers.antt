@@ -40,7 +40,7 @@ look-requires g c =
     let p = c.requires.0 in
     let l = c.loop-before in
     let is : c.from-e.result ≡ nth (entries_of c.args.d.now) (suc c.in-Some.before) = c.from-e.ensures ∙ h.entry_suc in
-    (omega arith, state-small p.2 (rw (← h.same) at l.invariant.stated) (omega (arith, h.before, p.0)) is (ap (λ (o : ℕ). get_or l.states o 0) c.from.ensures))
+    (omega arith, (state-small p.2 (rw (← h.same) at l.invariant.stated) (omega (arith, h.before, p.0)) is (ap (λ (o : ℕ). get_or l.states o 0) c.from.ensures), c.requires.2))
 
 pub offset_bounds-states-before : goal.offset_bounds-states-before
 offset_bounds-states-before g c = let h = here g (goal.at.offset_bounds-states-before g c).In-Some in omega (arith, h.before, c.requires.0.1)
@@ -64,7 +64,7 @@ loop-before-preserved g c =
       ends = tt;
       over = i.over;
       stated = rw h.more (stated-more p.2 S there is read (omega arith) k.0 k.2);
-      rest = λ ss x. rw h.more (i.rest ss x ∙ rw (← h.same) (first_goes _ _ _ (omega (arith, h.before)) (holds-here p.2 S there is read (omega arith) (under c.args.exclusions.pairs.now) ss x (k.1 ss x))));
+      rest = λ ss x. rw h.more (i.rest ss x ∙ rw (← h.same) (first_goes _ _ _ (omega (arith, h.before)) (holds-here p.2 S there is read (omega arith) (under c.args.marked.exclusions.pairs.now) ss x (k.1 ss x))));
     }
 
 pub returns-in-None-look : goal.returns-in-None-look
@@ -79,7 +79,7 @@ returns-in-None-look g c =
     let k = c.in-None-look.ensures in (
       omega (arith, h.before),
       omega arith,
-      λ ss x. sym (i.rest ss x ∙ rw (← h.same) (first_stops _ _ _ (omega (arith, h.before)) (holds-here p.2 S (omega (arith, h.before, p.0)) is read (omega arith) (under c.args.exclusions.pairs.now) ss x (k.1 ss x)))),
+      λ ss x. sym (i.rest ss x ∙ rw (← h.same) (first_stops _ _ _ (omega (arith, h.before)) (holds-here p.2 S (omega (arith, h.before, p.0)) is read (omega arith) (under c.args.marked.exclusions.pairs.now) ss x (k.1 ss x)))),
     )
 
 pub returns : goal.returns

@@ -15,6 +15,6 @@ invariant-loop-before g l = record {
   over : OverNumbered l.d l.total l.initial.before-iterator;
   stated : Stated l.d l.self.table.now g.row.BUCKETS l.self.cells.now l.self.used (length l.yielded) l.states;
   rest : (ss : List Slot) → Indexed ss l.self.table.now g.row.BUCKETS l.self.cells.now l.self.used
-      → first_from (holds_by_slots (under l.exclusions.pairs.now) ss (entries_of l.d)) 1 l.total
-      ≡ first_from (holds_by_slots (under l.exclusions.pairs.now) ss (entries_of l.d)) (length l.yielded + 1) (l.total + 1 - (length l.yielded + 1));
+      → first_from (holds_by_slots (under l.marked.exclusions.pairs.now) ss (entries_of l.d)) 1 l.total
+      ≡ first_from (holds_by_slots (under l.marked.exclusions.pairs.now) ss (entries_of l.d)) (length l.yielded + 1) (l.total + 1 - (length l.yielded + 1));
 }

@@ -11,6 +11,7 @@ use Rattle.pairs.specs.Pairs.{under}
 use Rattle.slots.proofs.states.BoundLaws.{looked-below, looked-holds}
 use Rattle.passes.specs.code.Slots.{Slot}
 use Rattle.slots.specs.code.States.{Indexed, entry_slot, holds_in_state, nowhere, passed, state_below}
+use Rattle.slots.specs.code.Tables.{slots_in}
 use Rattle.slots.proofs.slots.Slots.look.Goals.{After-holds_at}
 use Rattle.slots.proofs.slots.Slots.look.Goals as goal
 
@@ -25,10 +26,10 @@ slot-found g c ss i = c.entry_slot-s.ensures.2 ss i ∙ ap (λ (v : ℕ). entry_
 
 -- and whether it holds there is by its bounds, or beside them
 held : (g : _) (c : After-holds_at g) → (ss : List Slot) → Indexed ss c.args.self.table.now g.row.BUCKETS c.args.self.cells.now c.args.self.used
-    → c.holds_at.result ≡ holds_in_state (under c.args.exclusions.pairs.now) ss c.args.state c.args.e
+    → c.holds_at.result ≡ holds_in_state (under c.args.marked.exclusions.pairs.now) ss c.args.state c.args.e
 held g c ss i =
     let a = c.args in
-    c.holds_at.ensures ∙ rw c.from-place.ensures (sym (looked-holds i c.entry_slot-s.ensures.0 c.bounds-x.ensures c.if-state-eq-PASSED.false a.e (slot-found g c ss i) a.exclusions.pairs.now))
+    c.holds_at.ensures (slots_in a.self.table.now a.self.used) c.requires.1 ∙ rw c.from-place.ensures (sym (looked-holds i c.entry_slot-s.ensures.0 c.bounds-x.ensures c.if-state-eq-PASSED.false a.e (slot-found g c ss i) a.marked.exclusions.pairs.now))
 
 pub returns-then-not-holds_at : goal.returns-then-not-holds_at
 returns-then-not-holds_at g c =

@@ -5,16 +5,16 @@ use Rattle.logic.specs.Background.{standing}
 use Rattle.logic.specs.Normal.{at_most}
 use Rattle.passes.specs.code.Restrict.{excluded_at}
 use Rattle.slots.specs.code.States.{beside_bounds}
-use Rattle.slots.proofs.slots.Slots.holds_beside.Goals as goal
+use Rattle.slots.proofs.excluding.Marked.holds_beside.Goals as goal
 
 pub returns-in-2 : goal.returns-in-2
 unfolding beside_bounds
-returns-in-2 g c = rw (beside_bounds, c.in-2.is) (c.excluded.ensures ∙ ap (excluded_at _ _ _) c.property.ensures)
+returns-in-2 c = λ ss M. rw (beside_bounds, c.in-2.is) (c.excluded.ensures ss M ∙ ap (excluded_at _ ss _) c.property.ensures)
 
 pub returns-in-4 : goal.returns-in-4
 unfolding beside_bounds
-returns-in-4 g c = rw (beside_bounds, c.in-4.is) (c.always.ensures ∙ ap (λ l. at_most c.args.e.number (standing.cap l)) c.link.ensures)
+returns-in-4 c = λ ss M. rw (beside_bounds, c.in-4.is) (c.always.ensures ∙ ap (λ l. at_most c.args.e.number (standing.cap l)) c.link.ensures)
 
 pub returns-in_default : goal.returns-in_default
 unfolding beside_bounds
-returns-in_default g c = let z = c.in_default.in_default-own.rest in rw (beside_bounds, ne_eqb z.0.1, ne_eqb z.1)
+returns-in_default c = λ ss M. let z = c.in_default.in_default-own.rest in rw (beside_bounds, ne_eqb z.0.1, ne_eqb z.1)
