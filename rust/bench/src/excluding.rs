@@ -80,3 +80,31 @@ pub fn star_places() -> (Vec<Entry>, Vec<Entry>) {
     let lack = (0..504).flat_map(|n| place(n, 2, HUB));
     (have.collect(), lack.collect())
 }
+
+/// One pair, 64 times: each of its properties is in all 64 pairs of the list.
+pub fn again() -> Vec<u8> {
+    list(&[(HUB, HUB + 1); MOST_PAIRS])
+}
+
+/// 64 pairs whose 128 properties all fall into one bucket of the index. The first one is the last to be looked at there.
+pub fn one_bucket() -> Vec<u8> {
+    let name = |n: u16| HUB + 256 * n;
+    let pairs = (0..64).map(|n| (name(n), name(n + 64)));
+    list(&pairs.collect::<Vec<_>>())
+}
+
+/// A description of 1,008 entries that has the property which the hub's pairs exclude, and one that asks for the hub's lack as often.
+pub fn asked_again(has: u16) -> (Vec<Entry>, Vec<Entry>) {
+    let links = (0..1007).map(|n| entry(3, 0, 1 + n as u16, 1));
+    let have = std::iter::once(entry(1, 0, has, 0)).chain(links);
+    (have.collect(), vec![entry(2, 0, HUB, 0); 1008])
+}
+
+/// The property beside the hub in the list `again`, and in the list `one_bucket`.
+pub const BESIDE: u16 = HUB + 1;
+pub const FAR_BESIDE: u16 = HUB + 256 * 64;
+
+/// A specimen that gives the hub 2,016 times.
+pub fn given_again() -> Vec<Entry> {
+    vec![entry(1, 0, HUB, 0); 2016]
+}

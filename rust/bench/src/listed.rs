@@ -2,7 +2,10 @@
 
 use std::hint::black_box;
 
-use bench::excluding::{star, star_places, Case};
+use bench::catalogue::MOST_SERVICES;
+use bench::excluding::{
+    again, asked_again, given_again, one_bucket, star, star_places, Case, BESIDE, FAR_BESIDE,
+};
 use bench::inputs::Chance;
 use bench::plain;
 use goltximen::Under;
@@ -26,6 +29,8 @@ pub fn rows() {
         }
     }
     star_rows();
+    chosen_rows("one pair, 64 times", &again(), BESIDE);
+    chosen_rows("pairs in one bucket", &one_bucket(), FAR_BESIDE);
 }
 
 fn case_rows(case: &Case, size: &str, input: &str) {
@@ -49,6 +54,34 @@ fn star_rows() {
     let row = |call, situation, times| print_row(call, "1,008", STAR, situation, times);
     row("compare", "worst list", compare_times(&pairs, &have, &lack));
     row("normal form", "worst list", normal_times(&pairs, &lack));
+}
+
+/// A list whose hub costs the most, and its lack asked for 1,008 times, and given 2,016 times.
+fn chosen_rows(input: &str, pairs: &[u8], beside: u16) {
+    let (have, lack) = asked_again(beside);
+    let row = |call, size, times| print_row(call, size, input, "chosen", times);
+    row("compare", "1,008", compare_times(pairs, &have, &lack));
+    row("normal form", "1,008", normal_times(pairs, &have));
+    row(
+        "fit",
+        "2,016 and 1,008",
+        fit_times(pairs, &given_again(), &lack),
+    );
+    row(
+        "catalogue",
+        "64 × 1,008",
+        catalogue_times(pairs, &have, &lack),
+    );
+}
+
+/// 64 services that all ask for the same.
+fn catalogue_times(pairs: &[u8], c: &[Entry], d: &[Entry]) -> (f64, f64) {
+    let (c, list) = (&encode(c)[..], &encode(d).repeat(MOST_SERVICES)[..]);
+    writing(
+        MOST_SERVICES,
+        |out| under(black_box(pairs)).catalogue(black_box(c), black_box(list), out),
+        |out| plain::catalogue(black_box(pairs), &[], black_box(c), black_box(list), out),
+    )
 }
 
 fn under(pairs: &[u8]) -> Under<'_> {
