@@ -268,18 +268,27 @@ module _ {b : Background} (law : LawfulBackground b) (rs : List (Row Atom ℕ)) 
       = rw append-nil at (there.at z [] (atom_of e)) in
       rw (ne_eqb z) (support-slots law rs s e range.0 range.1 y ∙ sym here))))
 
--- ---- the first that fails
+-- ---- each entry, and the first that fails
 
 module _ {b : Background} (law : LawfulBackground b) (c d : List Entry) where
-  -- where the top is possible, the first entry that fails by the slots is the first that the normal form does not hold
-  pub slots-first : length (slots_under b (map row_of c)) ≤ 1008 → Legal Description d → inconsistent 1 (slots_under b (map row_of c)) 0 ≡ false
-      → first_from (holds_by_slots b (slots_under b (map row_of c)) d) 1 (length d) ≡ failing b c d
-  unfolding failing normal_of first_failing entry_holds holds place_of
-  slots-first few lawful z =
-      first-same _ _ 1 (length d) (λ j lo hi.
-      slots-hold law (map row_of c) few d lawful j lo (omega arith) ∙ rw (top-bottom law (map row_of c), z, ← (form-top law (map row_of c) z)))
+  -- where the top is possible, the entries that hold by the slots are those that the normal form holds
+  pub slots-each : length (slots_under b (map row_of c)) ≤ 1008 → Legal Description d → inconsistent 1 (slots_under b (map row_of c)) 0 ≡ false
+      → (n : ℕ) → 1 ≤ n → n ≤ length d → holds_by_slots b (slots_under b (map row_of c)) d n ≡ entry_holds b (normal_of b c) d n
+  unfolding normal_of entry_holds holds place_of
+  slots-each few lawful z n lo hi =
+      slots-hold law (map row_of c) few d lawful n lo hi ∙ rw (top-bottom law (map row_of c), z, ← (form-top law (map row_of c) z))
 
   -- where it is impossible, the normal form holds all
+  pub bottom-each : inconsistent 1 (slots_under b (map row_of c)) 0 ≡ true → (n : ℕ) → entry_holds b (normal_of b c) d n ≡ true
+  unfolding normal_of entry_holds holds place_of
+  bottom-each z n = rw (top-bottom law (map row_of c), z) (or-one (eqb (nth d n).kind 5))
+
+  -- so the first entry that fails by the slots is the first that the normal form does not hold
+  pub slots-first : length (slots_under b (map row_of c)) ≤ 1008 → Legal Description d → inconsistent 1 (slots_under b (map row_of c)) 0 ≡ false
+      → first_from (holds_by_slots b (slots_under b (map row_of c)) d) 1 (length d) ≡ failing b c d
+  unfolding failing first_failing
+  slots-first few lawful z = first-same _ _ 1 (length d) (λ j lo hi. slots-each few lawful z j lo (omega arith))
+
   pub bottom-first : inconsistent 1 (slots_under b (map row_of c)) 0 ≡ true → failing b c d ≡ 0
-  unfolding failing normal_of entry_holds holds place_of
-  bottom-first z = none-failing b _ d (λ n lo hi. rw (top-bottom law (map row_of c), z) (or-one (eqb (nth d n).kind 5)))
+  unfolding failing
+  bottom-first z = none-failing b (normal_of b c) d (λ n lo hi. bottom-each z n)

@@ -1,7 +1,7 @@
 // The slots of a description: one for each place, class and name, with the bounds that all entries give together. They are built from the
 // entries, in the order in which they stand, and settled from the last to the first, so that what is below a place is known before the
 // place. A second call asks which entries of another description they hold; it orders nothing. A third asks it of each description of a list,
-// by one set of slots, and reads each as it comes to it.
+// by one set of slots, and reads each as it comes to it. A fourth asks it of each entry of another, by itself.
 //
 // The slots stand in a table that the caller lends, who can go on from them. All other tables are slices too, made in three sizes, for
 // as many entries as a block has, as four have, and for any number, so that a short call clears no large ones.
@@ -15,6 +15,7 @@ mod accepted;
 mod build;
 mod catalogue;
 mod containment;
+mod each;
 mod excluding;
 mod failing;
 mod filling;
@@ -28,6 +29,7 @@ mod workspace;
 
 pub use catalogue::judge_list;
 pub use containment::contained_table;
+pub use each::each_failing;
 pub use failing::first_failing;
 pub use filling::fill;
 pub use slots::{high_in, key_in, low_in};
@@ -38,4 +40,11 @@ pub use states::NOWHERE;
 pub struct Unheld {
     pub entry: u16,
     pub used: u16,
+}
+
+// How many entries a second description has, and whether the normal form of a first holds all of them.
+#[derive(Clone, Copy, Debug, PartialEq, Eq)]
+pub struct Judgement {
+    pub entries: u16,
+    pub contained: bool,
 }
