@@ -1,0 +1,2 @@
+-- What the result's places mean.
+pub mod meant

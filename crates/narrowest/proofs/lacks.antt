@@ -6,3 +6,5 @@ pub mod NoteLaws
 pub mod MemberLaws
 -- Of numbers that ascend each is pushed once.
 pub mod ApartLaws
+-- How many lacks are noted.
+pub mod FewLaws

@@ -4,8 +4,16 @@
 // specs/Answer, and specs/code/ mirrors the passes.
 #![tactic(auto)]
 
+mod answer;
 mod form;
 mod lacking;
 mod lacks;
+mod links;
+mod mates;
+mod paired;
 mod place;
+mod placed;
 mod rows;
+mod walk;
+
+pub use answer::narrowest;

@@ -1,0 +1,4 @@
+-- Laws of the code in src/placed.rt.
+
+-- The rows of a place.
+pub mod PlacedLaws
