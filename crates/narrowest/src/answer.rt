@@ -44,7 +44,8 @@ impl Form<'_> {
 // The rows of two forms joined, which something fits; returns how many they are, or one more than there is room for.
 fn joined_rows(pairs: &[u8], first: Form<'_>, second: Form<'_>, rows: &mut [u64]) -> usize
     requires { Joinable pairs.now first.rows.now second.rows.now × (length rows.old ≡ 1008) }
-    ensures { Counted (length rows.old) rows.old 0 (map row_number (write (tree_by pairs.now (entries_in first.entry.rows.now) (entries_in second.entry.rows.now) 0))) rows.new result }
+    ensures { Counted (length rows.old) rows.old 0
+        (map row_number (write (tree_by pairs.now (entries_in first.entry.rows.now) (entries_in second.entry.rows.now) 0))) rows.new result }
 {
     let mut index = [0u8; INDEX_BYTES];
     let mut mates = [0u16; 1009];
@@ -64,7 +65,8 @@ fn joined_rows(pairs: &[u8], first: Form<'_>, second: Form<'_>, rows: &mut [u64]
 fn result_rows(pairs: &[u8], first: Form<'_>, second: Form<'_>, rows: &mut [u64]) -> usize
     requires { ListRead pairs.now × ((i : ℕ) → word_at pairs.now i < 65536) × Formed pairs.now first.rows.now × Formed pairs.now second.rows.now
         × (length rows.old ≡ 1008) }
-    ensures { Counted (length rows.old) rows.old 0 (map row_number (write (result_place pairs.now first.entry.rows.now second.entry.rows.now))) rows.new result }
+    ensures { Counted (length rows.old) rows.old 0
+        (map row_number (write (result_place pairs.now first.entry.rows.now second.entry.rows.now))) rows.new result }
 {
     if first.impossible() {
         return second.copy_rows(rows);
@@ -94,7 +96,8 @@ fn write_result(
     out: &mut [u8],
 ) -> Result<u16, Refusal>
     requires { ListRead pairs.now × ((i : ℕ) → word_at pairs.now i < 65536) × Formed pairs.now first.rows.now × Formed pairs.now second.rows.now
-        × (length (result_entries pairs.now first.rows.now second.rows.now) ≤ 1008 → AllBounded (result_entries pairs.now first.rows.now second.rows.now)) }
+        × (length (result_entries pairs.now first.rows.now second.rows.now) ≤ 1008
+        → AllBounded (result_entries pairs.now first.rows.now second.rows.now)) }
     ensures { (result ≡ room_for out.old (result_entries pairs.now first.entry.rows.now second.entry.rows.now))
         × (out.new ≡ unless_refused (λ e. out.old) (room_for out.old (result_entries pairs.now first.entry.rows.now second.entry.rows.now))
         (laid (result_entries pairs.now first.entry.rows.now second.entry.rows.now) out.old)) }

@@ -133,7 +133,8 @@ pub(crate) fn push_links(
     ensures { Knotted (length rows.old) rows.old count owner
         (map (knot (entries_in pair.entry.sides.first.form.rows.now) (entries_in pair.entry.sides.second.form.rows.now) pair.entry.mates.now
         pair.entry.sides.first.owner pair.entry.sides.second.owner)
-        (apart 65536 (sorted (flat_map (links_of (entries_in pair.entry.sides.first.form.rows.now) (entries_in pair.entry.sides.second.form.rows.now) pair.entry.mates.now
+        (apart 65536 (sorted (flat_map (links_of (entries_in pair.entry.sides.first.form.rows.now)
+        (entries_in pair.entry.sides.second.form.rows.now) pair.entry.mates.now
         pair.entry.sides.first.owner pair.entry.sides.second.owner) (entries_in own.now))))) below.old rows.new result below.new }
 {
     let n = note_links(pair, own, order);

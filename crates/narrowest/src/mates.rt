@@ -66,7 +66,8 @@ impl<'a> Joining<'a> {
     // Finds the mates of all 'every' entries of the first; those of others are 0.
     pub(crate) fn find_mates(self, mates: &mut [u16])
         requires { (length self.first.rows.now < length mates.old) × (get_or mates.old 0 0 ≡ 0) }
-        ensures { Mated (entries_in self.entry.first.rows.now) (entries_in self.entry.second.rows.now) (length (entries_in self.entry.first.rows.now)) mates.new }
+        ensures { Mated (entries_in self.entry.first.rows.now) (entries_in self.entry.second.rows.now)
+            (length (entries_in self.entry.first.rows.now)) mates.new }
     {
         for n in 0..self.first.rows.len() {
             let mate = self.mate(mates, n + 1);
@@ -90,7 +91,8 @@ impl<'a> Joining<'a> {
         requires { (length self.first.rows.now < length mates.old)
             × Joinable self.exclusions.pairs.now self.first.rows.now self.second.rows.now
             × Mated (entries_in self.first.rows.now) (entries_in self.second.rows.now) (length (entries_in self.first.rows.now)) mates.old }
-        ensures { Settled self.entry.exclusions.pairs.now (entries_in self.entry.first.rows.now) (entries_in self.entry.second.rows.now) 0 mates.old mates.new }
+        ensures { Settled self.entry.exclusions.pairs.now (entries_in self.entry.first.rows.now)
+            (entries_in self.entry.second.rows.now) 0 mates.old mates.new }
     {
         let count = self.first.rows.len();
         for i in 0..count {
@@ -118,8 +120,8 @@ fn says_lack(sides: Sides<'_>, exclusions: Exclusions<'_>, own: &[u64]) -> bool
 
 // Whether they have an 'every'.
 fn says_link(pair: Paired<'_>, own: &[u64]) -> bool
-    ensures { result ≡ says_link (entries_in pair.entry.sides.first.form.rows.now) (entries_in pair.entry.sides.second.form.rows.now) pair.entry.mates.now
-        pair.entry.sides.first.owner pair.entry.sides.second.owner (entries_in own.now) }
+    ensures { result ≡ says_link (entries_in pair.entry.sides.first.form.rows.now) (entries_in pair.entry.sides.second.form.rows.now)
+        pair.entry.mates.now pair.entry.sides.first.owner pair.entry.sides.second.owner (entries_in own.now) }
 {
     note_links(pair, own, &mut []) != 0
 }
@@ -127,7 +129,8 @@ fn says_link(pair: Paired<'_>, own: &[u64]) -> bool
 // Whether they say anything, along the entries of the first.
 #[tactic(auto, unfolding(crate::specs::code::Mates::says_along))]
 fn says_any(pair: Paired<'_>, exclusions: Exclusions<'_>, own: &[u64]) -> bool
-    ensures { result ≡ says_along exclusions.entry.pairs.now (entries_in pair.entry.sides.first.form.rows.now) (entries_in pair.entry.sides.second.form.rows.now)
+    ensures { result ≡ says_along exclusions.entry.pairs.now (entries_in pair.entry.sides.first.form.rows.now)
+        (entries_in pair.entry.sides.second.form.rows.now)
         pair.entry.mates.now pair.entry.sides.first.owner pair.entry.sides.second.owner (entries_in own.now) }
 {
     let second = pair.sides.second;

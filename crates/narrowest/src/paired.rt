@@ -55,7 +55,8 @@ impl Paired<'_> {
 
     // The code of the first's 'every' of a link, joined with its mate; 0 where it has none.
     fn mated(self, link: u16) -> u32
-        ensures { result ≡ mated self.entry.mates.now (entry_for (entries_in self.entry.sides.first.form.rows.now) self.entry.sides.first.owner 5 link) }
+        ensures { result ≡ mated self.entry.mates.now
+            (entry_for (entries_in self.entry.sides.first.form.rows.now) self.entry.sides.first.owner 5 link) }
     {
         let m = self.sides.first.below(link);
         let mate = self.mates[m];

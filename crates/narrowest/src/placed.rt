@@ -90,9 +90,11 @@ fn push_lacked(
     count: usize,
 ) -> usize
     requires { (count ≤ length rows.old + 1)
-        × (length (flat_map (lacks_of exclusions.pairs.now (place_in pair.sides.first) (place_in pair.sides.second)) (entries_in own.now)) ≤ length order.old) }
+        × (length (flat_map (lacks_of exclusions.pairs.now (place_in pair.sides.first) (place_in pair.sides.second))
+        (entries_in own.now)) ≤ length order.old) }
     ensures { Counted (length rows.old) rows.old count (lack_numbers owner (apart 65536 (sorted
-        (flat_map (lacks_of exclusions.entry.pairs.now (place_in pair.entry.sides.first) (place_in pair.entry.sides.second)) (entries_in own.now))))) rows.new result }
+        (flat_map (lacks_of exclusions.entry.pairs.now (place_in pair.entry.sides.first) (place_in pair.entry.sides.second))
+        (entries_in own.now))))) rows.new result }
 {
     let n = note_lacks(pair.sides, exclusions, own, order);
     let lacks = &mut order[..n];
@@ -111,7 +113,8 @@ fn push_joined_atoms(
     count: usize,
 ) -> usize
     requires { (count ≤ length rows.old + 1)
-        × (length (flat_map (lacks_of exclusions.pairs.now (place_in pair.sides.first) (place_in pair.sides.second)) (entries_in own.now)) ≤ length order.old)
+        × (length (flat_map (lacks_of exclusions.pairs.now (place_in pair.sides.first) (place_in pair.sides.second))
+        (entries_in own.now)) ≤ length order.old)
         × (entries_in own.now ≡ owned_by pair.sides.first.owner (entries_in pair.sides.first.form.rows.now)) }
     ensures { Counted (length rows.old) rows.old count (leaf_numbers owner
         (joined_atoms exclusions.entry.pairs.now (entries_in pair.entry.sides.first.form.rows.now) (entries_in pair.entry.sides.second.form.rows.now)

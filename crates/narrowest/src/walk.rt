@@ -22,8 +22,8 @@ impl Joining<'_> {
         below: &mut [u32],
         count: usize,
     ) -> usize
-        requires { (count ≤ length rows.old + 1) × (length rows.old < length below.old) × (1136 ≤ length order.old) × (i ≤ length rows.old) × (i < 65536)
-            × (length self.first.rows.now < length mates.now) × (get_or below.old i 0 < 67108864) }
+        requires { (count ≤ length rows.old + 1) × (length rows.old < length below.old) × (1136 ≤ length order.old)
+            × (i ≤ length rows.old) × (i < 65536) × (length self.first.rows.now < length mates.now) × (get_or below.old i 0 < 67108864) }
         ensures { StepBelow self.entry.exclusions.pairs.now (entries_in self.entry.first.rows.now) (entries_in self.entry.second.rows.now) mates.now
             (length rows.old) i rows.old count below.old rows.new result below.new }
     {
@@ -47,7 +47,8 @@ impl Joining<'_> {
             × (length self.first.rows.now < length mates.now)
             × Walkable self.exclusions.pairs.now self.first.rows.now self.second.rows.now mates.now }
         ensures { Counted (length rows.old) rows.old 0 (map row_number (write
-            (tree_by self.entry.exclusions.pairs.now (entries_in self.entry.first.rows.now) (entries_in self.entry.second.rows.now) 0))) rows.new result }
+            (tree_by self.entry.exclusions.pairs.now
+            (entries_in self.entry.first.rows.now) (entries_in self.entry.second.rows.now) 0))) rows.new result }
     {
         let pair = self.pair(0, 0, mates);
         let mut count = push_place(pair, self.exclusions, 0, order, rows, below, 0);

@@ -1,10 +1,10 @@
 -- The normal form that stands in a table: it can be searched, and is that of the description.
 -- Assumes nothing.
-use Prim.Native.Nat.{◌*◌, ◌+◌, ◌<◌, ◌≤◌, suc, zero, ℕ}
+use Prim.Native.Nat.{◌<◌, ◌≤◌, suc, zero, ℕ}
 use lib.Dec.{eqb, ltb}
-use lib.ListN.{get_or, length, length-map, take}
+use lib.ListN.{get_or, length, take}
 use lib.Seq.{length-take-le}
-use mathlib.Core.Bool.{false, true}
+use mathlib.Core.Bool.{true}
 use mathlib.Core.List.{List, [], ◌∷◌, map}
 use mathlib.Core.Path.{◌∙◌, ◌≡◌, ap, ap₂, refl, sym}
 use native.Mathlib.Omega.{arith}
@@ -16,7 +16,6 @@ use Rattle.blocks.specs.declared.Entry.{Entry}
 use Rattle.logic.proofs.NormalForm.IsNormal.{nf-normal}
 use Rattle.logic.proofs.PlaceTrees.Order.{before-cases}
 use Rattle.logic.specs.Background.{LawfulBackground}
-use Rattle.logic.specs.Canonical.{Normal}
 use Rattle.logic.specs.Layout.{write}
 use Rattle.logic.specs.Normal.{nf}
 use Rattle.logic.specs.Place.{Atom}
@@ -30,7 +29,7 @@ use Rattle.meaning.specs.RowEntries.{entry_before, row_entry}
 use Rattle.narrow_listed.proofs.AcceptedLegal.{few-read, legal-read}
 use Rattle.narrowest.proofs.form.SeekLaws.{entry-small}
 use Rattle.narrowest.specs.code.Formed.{Formed, top_of}
-use Rattle.narrowest.specs.code.Forms.{Held, entries_in, key_for, key_in}
+use Rattle.narrowest.specs.code.Forms.{entries_in, key_in}
 use Rattle.narrowest.specs.code.Pushes.{row_number}
 use Rattle.normal.specs.code.Formed.{FormRows}
 use Rattle.pairs.proofs.Under.{ruled-under}

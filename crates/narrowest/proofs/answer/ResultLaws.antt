@@ -1,39 +1,34 @@
 -- The result, by which forms nothing fits, and what is answered.
 -- Assumes nothing.
-use Prim.Native.Nat.{◌*◌, ◌+◌, ◌<◌, ◌≤◌, suc, zero, ℕ}
-use lib.Dec.{eqb, ltb}
-use lib.ListN.{drop, get_or, length, length-map, take}
-use lib.Seq.{length-take-le}
-use mathlib.Core.Bool.{Bool, ◌&&◌, ◌||◌, cond, false, not, true, true≢false}
-use mathlib.Core.List.{List, [], ◌++◌, ◌∷◌, map}
-use mathlib.Core.Logic.{inl, inr}
-use mathlib.Core.Path.{◌∙◌, ◌≡◌, ap, refl, sym}
+use Prim.Native.Nat.{◌<◌, ℕ}
+use lib.Dec.{eqb}
+use lib.ListN.{get_or, length, length-map}
+use mathlib.Core.Bool.{false, true}
+use mathlib.Core.List.{List, [], ◌∷◌, map}
+use mathlib.Core.Path.{◌∙◌, ◌≡◌, refl, sym}
 use native.Mathlib.Omega.{arith}
-use Rattle.base.proofs.Tests.{bool_cases, both_ways, eq-cases, eq-eqb, eqb-sym, ge-ltb, lt-ltb, ne_eqb, or_right, tests}
+use Rattle.base.proofs.Tests.{eq-cases, eq-eqb, eqb-sym, ne_eqb}
 use Rattle.blocks.proofs.Refusing.Legal.{owner-earlier}
-use Rattle.blocks.specs.Entries.{entries_of, nth, packed, zero_entry}
+use Rattle.blocks.specs.Entries.{nth, packed, zero_entry}
 use Rattle.blocks.specs.Owners.{owner_of}
 use Rattle.blocks.specs.Promise.{Legal}
 use Rattle.blocks.specs.Words.{word_at}
 use Rattle.blocks.specs.declared.Entry.{Entry}
 use Rattle.blocks.specs.declared.Schema.TheVariants.{Description}
-use Rattle.logic.proofs.NormalForm.IsNormal.{alive, nf-normal}
+use Rattle.logic.proofs.NormalForm.IsNormal.{alive}
 use Rattle.logic.specs.Layout.{write}
-use Rattle.logic.specs.Normal.{is_bottom, nf, rank}
-use Rattle.logic.specs.Place.{Atom, Place, atom, has, kind_of, lacks, least, most, nothing}
-use Rattle.logic.specs.Tree.{Row, leaf_row, node_row, tree}
+use Rattle.logic.specs.Normal.{is_bottom}
+use Rattle.logic.specs.Tree.{tree}
 use Rattle.meaning.proofs.Descriptions.Lookups.{kind-range, rank-kind}
 use Rattle.meaning.specs.Description.{place_of, row_of}
-use Rattle.meaning.specs.RowEntries.{row_entry}
-use Rattle.narrow.specs.Join.{joined_place, narrowest}
+use Rattle.narrow.specs.Join.{narrowest}
 use Rattle.narrowest.proofs.answer.FormedLaws.{rows-packed}
 use Rattle.narrowest.specs.code.Codes.{place_by, tree_by}
-use Rattle.narrowest.specs.code.Formed.{Formed, result_entries, result_place, room_for, top_of}
+use Rattle.narrowest.specs.code.Formed.{Formed, result_entries, result_place, top_of}
 use Rattle.narrowest.specs.code.Forms.{Held, entries_in}
 use Rattle.narrowest.specs.code.Mates.{Joinable}
-use Rattle.narrowest.specs.code.Pushes.{Counted, row_number}
+use Rattle.narrowest.specs.code.Pushes.{row_number}
 use Rattle.pairs.proofs.Under.{ruled-under}
-use Rattle.pairs.specs.Pairs.{pair_count, under}
 use Rattle.pairs.specs.Promise.{ListRead}
 use Rattle.unfolding.specs.code.Rows.{entry_of_row}
 

@@ -1,14 +1,12 @@
 -- The answer by the ways to it, and the output after it.
 -- Assumes nothing.
-use Prim.Native.Nat.{◌*◌, ◌+◌, ◌<◌, ◌≤◌, min, suc, zero, ℕ}
-use lib.Dec.{eqb, ltb}
-use lib.ListN.{drop, get_or, length, length-map, take}
-use lib.Seq.{length-take-le, take_all}
-use mathlib.Core.Bool.{Bool, ◌||◌, cond, false, true}
-use mathlib.Core.List.{List, [], ◌++◌, ◌∷◌, map}
-use mathlib.Core.Path.{◌∙◌, ◌≡◌, ap, refl, sym}
+use Prim.Native.Nat.{◌*◌, ◌+◌, ◌<◌, ◌≤◌, suc, ℕ}
+use lib.Dec.{ltb}
+use lib.ListN.{get_or, length, length-map, take}
+use mathlib.Core.List.{List, map}
+use mathlib.Core.Path.{◌∙◌, ◌≡◌, ap, refl}
 use native.Mathlib.Omega.{arith}
-use Rattle.base.proofs.Tests.{ge-ltb, lt-ltb, or-none, or_left, or_right}
+use Rattle.base.proofs.Tests.{ge-ltb, lt-ltb, or-none, or_right}
 use Rattle.blocks.proofs.Refusing.Bounds.{AllBounded}
 use Rattle.blocks.proofs.Refusing.Legal.{owner-earlier}
 use Rattle.blocks.proofs.Refusing.Readings.{reading-cases}
@@ -30,7 +28,7 @@ use Rattle.logic.proofs.NormalForm.NormalFields.{Stored, nf-stored}
 use Rattle.logic.proofs.TreeRows.AllEntries.{AllEntries, OfRow, row-all, write-all}
 use Rattle.logic.specs.Layout.{write}
 use Rattle.logic.specs.Normal.{nf}
-use Rattle.logic.specs.Place.{Atom, Place, atom, has, lacks, least, most, nothing}
+use Rattle.logic.specs.Place.{Atom, atom, has, lacks, least, most, nothing}
 use Rattle.logic.specs.Tree.{Row, leaf_row, node_row}
 use Rattle.meaning.proofs.Descriptions.EntryFields.{Word, bounded_words, place-fields}
 use Rattle.meaning.specs.Description.{place_of}
@@ -44,8 +42,8 @@ use Rattle.narrow_listed.proofs.NamesListed.{excluded-named, excluded-positive, 
 use Rattle.narrow_listed.specs.Listed.{names_in, narrowest_under}
 use Rattle.narrowest.proofs.answer.FormedLaws.{formed-law, formed-place, input-bounded}
 use Rattle.narrowest.proofs.meant.LackedLaws.{excluded-small}
-use Rattle.narrowest.specs.Answer.{laid, narrowed_of, narrowest_of, narrowest_room, too_many}
-use Rattle.narrowest.specs.code.Formed.{result_entries, result_place, room_for, top_of}
+use Rattle.narrowest.specs.Answer.{laid, narrowed_of, narrowest_of, narrowest_room}
+use Rattle.narrowest.specs.code.Formed.{result_entries, result_place, room_for}
 use Rattle.narrowest.specs.code.Pushes.{Counted}
 use Rattle.normal.proofs.NormalWritten.{written-front}
 use Rattle.normal.specs.code.Formed.{FormRows, form_reading, form_under}

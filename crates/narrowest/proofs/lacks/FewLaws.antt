@@ -3,12 +3,12 @@
 use Prim.Native.Nat.{◌+◌, ◌<◌, ◌≤◌, suc, zero, ℕ}
 use lib.Dec.{eqb}
 use lib.ListN.{get_or, length, length-append, length-map}
-use mathlib.Core.Bool.{Bool, ◌||◌, cond, false, false≢true, true}
-use mathlib.Core.List.{List, [], ◌++◌, ◌∷◌, map}
+use mathlib.Core.Bool.{cond, false, false≢true, true}
+use mathlib.Core.List.{List, [], ◌∷◌}
 use mathlib.Core.Logic.{◌≢◌}
-use mathlib.Core.Path.{◌∙◌, ◌≡◌, ap, refl, sym}
+use mathlib.Core.Path.{◌≡◌, refl}
 use native.Mathlib.Omega.{arith}
-use Rattle.base.proofs.Tests.{bool_cases, eq-cases, eq-eqb, eqb-eq, eqb-sym, ne_eqb, neither_left, neither_right, or_cases}
+use Rattle.base.proofs.Tests.{bool_cases, eq-cases, eq-eqb, eqb-eq, ne_eqb, neither_left, neither_right, or_cases}
 use Rattle.blocks.specs.declared.Entry.{Entry}
 use Rattle.logic.proofs.SpecimenTrees.Names.{Different}
 use Rattle.logic.specs.Place.{Place}

@@ -1,10 +1,10 @@
 -- Links that are noted.
 -- Assumes nothing.
-use Prim.Native.Nat.{◌+◌, ◌≤◌, suc, ℕ}
+use Prim.Native.Nat.{◌+◌, ◌≤◌, ℕ}
 use lib.Dec.{eqb}
 use lib.ListN.{length, length-append}
 use mathlib.Core.Bool.{false, true}
-use mathlib.Core.List.{List, [], ◌++◌, ◌∷◌}
+use mathlib.Core.List.{List, [], ◌∷◌}
 use mathlib.Core.Logic.{◌≢◌}
 use mathlib.Core.Path.{◌≡◌, refl}
 use native.Mathlib.Omega.{arith}

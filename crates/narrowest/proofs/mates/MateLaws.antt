@@ -4,7 +4,7 @@ use Prim.Native.Nat.{◌+◌, ◌-◌, ◌<◌, ◌≤◌, suc, zero, ℕ}
 use lib.Dec.{eqb}
 use lib.ListN.{get_or, length, length-map, set}
 use lib.Seq.{get_or-set_other, get_or-set_same}
-use mathlib.Core.Bool.{Bool, ◌&&◌, ◌||◌, cond, false, not, true}
+use mathlib.Core.Bool.{◌&&◌, ◌||◌, cond, false, not, true}
 use mathlib.Core.List.{List}
 use mathlib.Core.Logic.{◌≢◌}
 use mathlib.Core.Path.{◌∙◌, ◌≡◌, ap, refl, sym}
@@ -23,7 +23,6 @@ use Rattle.narrowest.proofs.form.SeekLaws.{nth-row}
 use Rattle.narrowest.proofs.mates.SaysLaws.{says-right}
 use Rattle.narrowest.proofs.meant.BelowLaws.{lawful}
 use Rattle.narrowest.proofs.meant.EveryLaws.{Below, every-some}
-use Rattle.narrowest.specs.code.Codes.{first_alone, second_alone}
 use Rattle.narrowest.specs.code.Forms.{Held, entries_in, key_in}
 use Rattle.narrowest.specs.code.Mates.{Good, Joinable, Mated, Settled, joint_place, mate_at, says_any}
 use Rattle.pairs.specs.Pairs.{under}

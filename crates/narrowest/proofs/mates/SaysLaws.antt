@@ -1,9 +1,9 @@
 -- Whether two joined places say something: exactly where the joined place is not empty.
 -- Assumes nothing.
-use Prim.Native.Nat.{◌≤◌, suc, ℕ}
-use lib.Dec.{eqb, ltb}
-use lib.ListN.{length, length-map}
-use mathlib.Core.Bool.{Bool, ◌||◌, false, false≢true, not, true, true≢false}
+use Prim.Native.Nat.{◌≤◌, ℕ}
+use lib.Dec.{eqb}
+use lib.ListN.{length}
+use mathlib.Core.Bool.{Bool, ◌||◌, false, false≢true, not, true}
 use mathlib.Core.List.{List, [], ◌++◌, ◌∷◌, map}
 use native.Mathlib.Omega.{arith}
 use mathlib.Core.Path.{◌∙◌, ◌≡◌, ap, ap₂, refl, sym}

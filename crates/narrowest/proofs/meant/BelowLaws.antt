@@ -1,25 +1,21 @@
 -- What stands below a link of a place of the result, by its code.
 -- Assumes nothing.
-use Prim.Native.Nat.{◌%◌, ◌*◌, ◌+◌, ◌/◌, ◌<◌, ◌≤◌, ℕ}
-use lib.Dec.{eqb}
+use Prim.Native.Nat.{◌%◌, ◌*◌, ◌+◌, ◌/◌, ◌≤◌, ℕ}
 use lib.ListN.{get_or, length, length-map}
-use mathlib.Core.Bool.{Bool, ◌&&◌, ◌||◌, cond, false, not, true, true≢false}
+use mathlib.Core.Bool.{Bool, ◌||◌, false, true, true≢false}
 use mathlib.Core.List.{List}
 use mathlib.Core.Logic.{◌≢◌}
 use mathlib.Core.Path.{◌∙◌, ◌≡◌, ap, refl, sym}
 use native.Mathlib.Omega.{arith}
-use Rattle.base.proofs.Tests.{and_left, and_right, bool_cases, eq-cases, eq-eqb, ne_eqb}
-use Rattle.blocks.specs.Entries.{nth}
+use Rattle.base.proofs.Tests.{bool_cases, eq-cases, eq-eqb, ne_eqb}
 use Rattle.blocks.specs.declared.Entry.{Entry}
 use Rattle.logic.proofs.NormalForm.IsNormal.{canonical-end}
 use Rattle.logic.proofs.PlaceTrees.Lookup.{is-end}
 use Rattle.logic.proofs.SpecimenTrees.IncreasingNames.{Increasing}
 use Rattle.logic.specs.Background.{LawfulBackground}
-use Rattle.logic.specs.Canonical.{Canonical}
 use Rattle.logic.specs.Normal.{at_most, find, is_end, sub, supports}
 use Rattle.logic.specs.Place.{Place, atom, most}
 use Rattle.logic.specs.Tree.{end}
-use Rattle.logic.specs.Witness.{member}
 use Rattle.meaning.specs.Description.{place_of}
 use Rattle.meaning.specs.Lookup.{entry_for}
 use Rattle.narrow.proofs.Joining.JoinMeans.{below-joined, canonical-joined, joins}
@@ -31,9 +27,9 @@ use Rattle.narrowest.proofs.meant.EmptySide.{empty-joined}
 use Rattle.narrowest.proofs.meant.EveryLaws.{Below, ascending-in, every-none, every-some}
 use Rattle.narrowest.specs.code.Codes.{closes, code_below, first_alone, joined_code, mated, place_by, second_alone, tree_by}
 use Rattle.narrowest.specs.code.Forms.{Held, entries_in}
-use Rattle.narrowest.specs.code.Mates.{Good, GoodCode, Joinable, Mated, Settled, joint_place, mate_at}
+use Rattle.narrowest.specs.code.Mates.{Good, GoodCode, Joinable, Mated, Settled, joint_place}
 use Rattle.pairs.proofs.Under.{ruled-under}
-use Rattle.pairs.specs.Pairs.{excludes_in, pair_count, under}
+use Rattle.pairs.specs.Pairs.{pair_count, under}
 use Rattle.passes.proofs.Cells.CellsTell.{cap-open}
 use Rattle.unfolding.specs.code.Rows.{entry_of_row}
 

@@ -2,7 +2,7 @@
 -- Assumes nothing.
 use Prim.Native.Nat.{ℕ}
 use lib.Dec.{eqb}
-use mathlib.Core.Bool.{◌&&◌, ◌||◌, false, false≢true, true}
+use mathlib.Core.Bool.{false≢true, true}
 use mathlib.Core.Option.{some}
 use mathlib.Core.Path.{◌∙◌, ◌≡◌, ap, refl, sym}
 use Rattle.base.proofs.Tests.{and_right, bool_cases, both_ways, false_of_not, leb-self, or_left}

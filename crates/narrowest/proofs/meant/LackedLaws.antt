@@ -5,7 +5,6 @@ use lib.Dec.{eqb}
 use lib.ListN.{get_or, length, length-map}
 use mathlib.Core.Bool.{Bool, ◌&&◌, ◌||◌, false, false≢true, not, true}
 use mathlib.Core.List.{List, [], ◌∷◌, map}
-use mathlib.Core.Option.{none}
 use mathlib.Core.Path.{◌∙◌, ◌≡◌, ap, refl, sym}
 use native.Mathlib.Omega.{arith}
 use Rattle.base.proofs.Tests.{and_left, eq-cases, eqb-eq, eqb-self, or_cases, or_left, or_right}

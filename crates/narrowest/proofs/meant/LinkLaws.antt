@@ -1,20 +1,19 @@
 -- The links of a place of the result: those below which something stands.
 -- Assumes nothing.
-use Prim.Native.Nat.{◌%◌, ◌*◌, ◌-◌, ◌<◌, ◌≤◌, suc, zero, ℕ}
-use lib.Dec.{eqb, leb}
+use Prim.Native.Nat.{◌%◌, ◌<◌, ◌≤◌, suc, zero, ℕ}
+use lib.Dec.{eqb}
 use lib.ListN.{get_or, length}
-use mathlib.Core.Bool.{Bool, ◌&&◌, ◌||◌, cond, false, false≢true, not, true, true≢false}
+use mathlib.Core.Bool.{Bool, ◌&&◌, ◌||◌, false, false≢true, not, true}
 use mathlib.Core.List.{List, [], ◌++◌, ◌∷◌, map}
 use mathlib.Core.Logic.{◌≢◌}
-use mathlib.Core.Option.{Option, none, some}
-use mathlib.Core.Path.{◌∙◌, ◌≡◌, ap, ap₂, refl, sym}
+use mathlib.Core.Path.{◌∙◌, ◌≡◌, ap₂, refl, sym}
 use native.Mathlib.Omega.{arith}
-use Rattle.base.proofs.Tests.{and_left, bool_cases, both_ways, eq-cases, eq-eqb, eqb-eq, eqb-ne, eqb-self, iff-eq, leb-le, ne_eqb, or_cases, or_left, or_right}
+use Rattle.base.proofs.Tests.{bool_cases, eq-cases, eq-eqb, eqb-eq, eqb-ne, eqb-self, leb-le, ne_eqb, or_cases, or_left, or_right}
 use Rattle.blocks.specs.Entries.{nth, zero_entry}
 use Rattle.blocks.specs.declared.Entry.{Entry}
 use Rattle.logic.proofs.TreeRows.FillLaws.{Codes}
 use Rattle.logic.specs.Laying.{codes, joints}
-use Rattle.logic.specs.Normal.{at_most, find, is_end, sub}
+use Rattle.logic.specs.Normal.{is_end, sub}
 use Rattle.logic.specs.Place.{Place, most}
 use Rattle.logic.specs.Tree.{node}
 use Rattle.logic.specs.Witness.{member}
@@ -25,7 +24,7 @@ use Rattle.narrow.specs.code.Made.{nodes_of}
 use Rattle.narrowest.proofs.form.SeekLaws.{entry-small}
 use Rattle.narrowest.proofs.meant.BelowLaws.{Leading, leading}
 use Rattle.narrowest.proofs.meant.OnceLaws.{Once, once-each}
-use Rattle.narrowest.specs.code.Codes.{closes, code_below, first_alone, joined_code, knot, leads, links_in, links_of, mated, along, place_by, second_alone, tree_by}
+use Rattle.narrowest.specs.code.Codes.{closes, code_below, first_alone, joined_code, knot, leads, links_in, links_of, along, place_by, second_alone, tree_by}
 use Rattle.narrowest.specs.code.Forms.{Held, entries_in, owned_by}
 use Rattle.narrowest.specs.code.Mates.{Good, GoodCode, Joinable, Mated, Settled}
 use Rattle.std.specs.List.{flat_map}

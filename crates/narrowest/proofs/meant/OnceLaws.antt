@@ -1,13 +1,13 @@
 -- Names that are sorted, each once: they ascend, and are the same names.
 -- Assumes nothing.
-use Prim.Native.Nat.{◌<◌, ◌≤◌, suc, ℕ}
+use Prim.Native.Nat.{◌<◌, ℕ}
 use lib.Dec.{eqb}
 use mathlib.Core.Bool.{Bool, ◌||◌, false, false≢true, true}
 use mathlib.Core.List.{List, [], ◌∷◌, foldr}
 use mathlib.Core.Path.{◌∙◌, ◌≡◌, ap, refl, sym}
 use native.Mathlib.Omega.{arith}
 use Rattle.base.proofs.Missing.{or_swap}
-use Rattle.base.proofs.Tests.{bool_cases, eq-cases, eq-eqb, eqb-eq, eqb-self, ne_eqb, or_left, or_right}
+use Rattle.base.proofs.Tests.{bool_cases, eq-cases, eqb-self, ne_eqb, or_left}
 use Rattle.logic.proofs.SpecimenTrees.IncreasingNames.{Increasing}
 use Rattle.logic.specs.Witness.{member}
 use Rattle.narrowest.proofs.lacks.ApartLaws.{From, apart-increasing, apart-members}

@@ -1,16 +1,16 @@
 -- A normal place is its atoms, and then its 'every' entries.
 -- Assumes nothing.
-use Prim.Native.Nat.{◌<◌, ◌≤◌, suc, ℕ}
+use Prim.Native.Nat.{◌<◌, suc, ℕ}
 use lib.Dec.{eqb}
-use mathlib.Core.Bool.{◌||◌, false, false≢true, not, true}
-use mathlib.Core.List.{List, [], ◌++◌, ◌∷◌, map}
+use mathlib.Core.Bool.{false, false≢true, not, true}
+use mathlib.Core.List.{List, [], ◌∷◌, map}
 use mathlib.Core.Option.{some}
 use mathlib.Core.Path.{◌∙◌, ◌≡◌, ap, ap₂, refl, sym}
 use native.Mathlib.Omega.{arith}
-use Rattle.base.proofs.Tests.{bool_cases, both_ways, eq-cases, eq-eqb, eqb-eq, eqb-self, ne_eqb, or_left, or_right}
+use Rattle.base.proofs.Tests.{bool_cases, eq-cases, eqb-self, ne_eqb, or_left, or_right}
 use Rattle.blocks.specs.declared.Entry.{Entry}
 use Rattle.logic.proofs.PlaceTrees.Lookup.{find_head, sub-head}
-use Rattle.logic.proofs.PlaceTrees.Order.{above-sub, before-cases, find-rest}
+use Rattle.logic.proofs.PlaceTrees.Order.{before-cases, find-rest}
 use Rattle.logic.proofs.SpecimenTrees.IncreasingNames.{Increasing}
 use Rattle.logic.specs.Background.{Background}
 use Rattle.logic.specs.Canonical.{Above, Ascending, Canonical, Clean, canonical}

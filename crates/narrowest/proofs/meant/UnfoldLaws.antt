@@ -1,17 +1,15 @@
 -- A place of the result is what is written of it: its atoms, and then its 'every' entries, each with the code of the place below it.
 -- Assumes nothing.
-use Prim.Native.Nat.{◌<◌, ◌≤◌, suc, ℕ}
-use lib.Dec.{eqb, ltb}
-use lib.ListN.{length, length-append, length-map}
-use mathlib.Core.Bool.{Bool, ◌||◌, cond, false, false≢true, not, true}
+use Prim.Native.Nat.{◌<◌, ◌≤◌, ℕ}
+use lib.ListN.{length}
+use mathlib.Core.Bool.{false, not, true}
 use mathlib.Core.List.{List, [], ◌++◌, ◌∷◌, map}
 use mathlib.Core.Path.{◌∙◌, ◌≡◌, ap, refl, sym}
-use native.Mathlib.Omega.{arith}
-use Rattle.base.proofs.Tests.{bool_cases, eqb-self, iff-eq, or_left}
+use Rattle.base.proofs.Tests.{bool_cases}
 use Rattle.blocks.specs.declared.Entry.{Entry}
 use Rattle.logic.proofs.SpecimenTrees.IncreasingNames.{increasing-one}
 use Rattle.logic.proofs.TreeRows.FillLaws.{Codes}
-use Rattle.logic.specs.Laying.{Joint, codes, joints, leaves}
+use Rattle.logic.specs.Laying.{codes, joints, leaves}
 use Rattle.logic.specs.Normal.{is_end, sub}
 use Rattle.logic.specs.Place.{Atom, Place, has, lacks, least, most}
 use Rattle.logic.specs.Tree.{leaf}
@@ -29,7 +27,7 @@ use Rattle.narrowest.proofs.meant.LinkLaws.{every-good, every-joined, links-name
 use Rattle.narrowest.proofs.meant.OnceLaws.{Once}
 use Rattle.narrowest.proofs.meant.SplitLaws.{atoms_of, nodes-agree, nodes_in, own-atoms, parts-of}
 use Rattle.narrowest.proofs.rows.LeavesLaws.{kind-leaves}
-use Rattle.narrowest.specs.code.Codes.{atoms_in, first_alone, joined_atoms, knot, knots, lack_atom, lacks_in, links_in, place_by, second_alone, tree_by, whole_atoms}
+use Rattle.narrowest.specs.code.Codes.{atoms_in, first_alone, joined_atoms, knots, lack_atom, lacks_in, links_in, place_by, second_alone, tree_by, whole_atoms}
 use Rattle.narrowest.specs.code.Forms.{Held, entries_in, owned_by}
 use Rattle.narrowest.specs.code.Mates.{Good, GoodCode, Joinable, Mated, Settled}
 use Rattle.narrowest.specs.code.Lacks.{lacks_of}

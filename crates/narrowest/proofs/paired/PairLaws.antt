@@ -1,7 +1,7 @@
 -- Which links a place closes.
 -- Assumes nothing.
 use Prim.Native.Nat.{◌*◌, ◌+◌, ◌≤◌, ℕ}
-use lib.Dec.{eqb, leb}
+use lib.Dec.{eqb}
 use lib.ListN.{get_or, length, length-map}
 use mathlib.Core.Bool.{false}
 use mathlib.Core.List.{List}

@@ -1,8 +1,8 @@
 -- The rows of a place: its atoms, and then its 'every' entries.
 -- Assumes nothing.
-use Prim.Native.Nat.{◌+◌, ◌<◌, ◌≤◌, min, ℕ}
-use lib.ListN.{length, length-append, length-map}
-use mathlib.Core.List.{List, [], ◌++◌, ◌∷◌, map}
+use Prim.Native.Nat.{◌+◌, ◌≤◌, ℕ}
+use lib.ListN.{length, length-map}
+use mathlib.Core.List.{List, [], ◌++◌, ◌∷◌}
 use mathlib.Core.Path.{◌∙◌, ◌≡◌, ap, refl, sym}
 use native.Mathlib.Omega.{arith}
 use Rattle.logic.proofs.TreeRows.LaidLaws.{leaf-length}
@@ -10,7 +10,6 @@ use Rattle.logic.proofs.TreeRows.LaidWalk.{numbers-length}
 use Rattle.logic.specs.Filling.{Joined}
 use Rattle.logic.specs.Laying.{Joint, codes, leaf_rows, place_numbers}
 use Rattle.logic.specs.Place.{Atom}
-use Rattle.narrowest.proofs.links.KnotLaws.{knots-length}
 use Rattle.base.proofs.Tests.{eq-cases, eq-eqb, ne_eqb}
 use Rattle.blocks.specs.Entries.{packed}
 use Rattle.blocks.specs.declared.Entry.{Entry}

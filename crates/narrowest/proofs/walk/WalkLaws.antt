@@ -3,15 +3,14 @@
 use Prim.Native.Nat.{◌%◌, ◌+◌, ◌/◌, ◌<◌, ◌≤◌, ℕ}
 use lib.ListN.{get_or, length, length-map, length-replicate, replicate, take}
 use lib.Seq.{length-take-le}
-use mathlib.Core.List.{List, [], ◌++◌, map}
-use mathlib.Core.Logic.{◌≢◌}
+use mathlib.Core.List.{List, map}
 use mathlib.Core.Path.{◌∙◌, ◌≡◌, ap, refl, sym}
 use native.Mathlib.Omega.{arith}
 use Rattle.base.proofs.Tests.{eq-cases, lt-cases}
 use Rattle.blocks.specs.declared.Entry.{Entry}
 use Rattle.logic.proofs.TreeRows.FillLaws.{Codes}
 use Rattle.logic.proofs.TreeRows.LaidWalk.{Walking, top-least, walking-done, walking-least, walking-next, walking-place, walking_start}
-use Rattle.logic.specs.Laying.{Joint, codes, joints, leaves, place_numbers}
+use Rattle.logic.specs.Laying.{Joint, codes, joints, leaves}
 use Rattle.logic.specs.Layout.{write}
 use Rattle.logic.specs.Place.{Atom, Place}
 use Rattle.narrowest.proofs.meant.UnfoldLaws.{codes-good, unfolds}

@@ -1,6 +1,6 @@
 -- Rows of 'every' entries pushed one after another, each with the code of the place below it noted in a second table.
 -- Assumes nothing.
-use Rattle.std.specs.Prelude.{◌%◌, ◌*◌, ◌+◌, ◌/◌, ◌≤◌, ℕ, get_or, length, List, map, ◌≡◌, ◌≢◌}
+use Rattle.std.specs.Prelude.{◌%◌, ◌+◌, ◌/◌, ◌≤◌, ℕ, get_or, length, List, map, ◌≡◌, ◌≢◌}
 use Rattle.blocks.specs.declared.Entry.{Entry}
 use Rattle.logic.specs.Filling.{noted}
 use Rattle.logic.specs.Laying.{Joint, codes, joint_rows, place_numbers}

@@ -1,6 +1,6 @@
 -- For each 'every' entry of the first normal form, the second's at the same path, and where the two places together say something.
 -- Assumes nothing.
-use Rattle.std.specs.Prelude.{◌%◌, ◌*◌, ◌/◌, ◌<◌, ◌≤◌, ℕ, eqb, get_or, length, Bool, ◌&&◌, ◌||◌, cond, false, not, true, List, [], ◌∷◌, map, ◌≡◌, ◌≢◌}
+use Rattle.std.specs.Prelude.{◌%◌, ◌/◌, ◌<◌, ◌≤◌, ℕ, eqb, get_or, length, Bool, ◌&&◌, ◌||◌, cond, false, not, true, List, [], ◌∷◌, ◌≡◌, ◌≢◌}
 use Rattle.std.specs.List.{flat_map}
 use Rattle.blocks.specs.Entries.{nth}
 use Rattle.blocks.specs.Words.{word_at}

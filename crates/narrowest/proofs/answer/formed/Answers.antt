@@ -1,5 +1,4 @@
 -- `formed` meets its contract: the rows are those of a normal form.
-use mathlib.Core.Path.{ap, sym}
 use native.Mathlib.Omega.{arith}
 use Rattle.narrowest.proofs.answer.FormedLaws.{formed_of}
 use Rattle.narrowest.proofs.answer.formed.Goals as goal

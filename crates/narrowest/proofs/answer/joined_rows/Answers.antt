@@ -1,8 +1,8 @@
 -- `joined_rows` meets its contract: the mates are found, and the places are walked over.
-use Prim.Native.Nat.{◌+◌, ◌≤◌, ℕ}
+use Prim.Native.Nat.{◌+◌, ℕ}
 use lib.ListN.{length, length-replicate, replicate}
 use lib.Seq.{take_all}
-use mathlib.Core.Path.{◌∙◌, ◌≡◌, ap, refl, sym}
+use mathlib.Core.Path.{◌∙◌, ◌≡◌, ap, sym}
 use native.Mathlib.Omega.{arith}
 use Rattle.pairs.proofs.PairsAccepted.{pairs-right}
 use Rattle.narrowest.proofs.answer.joined_rows.Goals as goal

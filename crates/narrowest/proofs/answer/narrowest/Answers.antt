@@ -1,11 +1,10 @@
 -- `narrowest` meets its contract: refused, or the result is written.
-use Prim.Native.Nat.{◌<◌, ◌≤◌, ℕ}
-use lib.ListN.{get_or, length}
+use Prim.Native.Nat.{◌≤◌, ℕ}
+use lib.ListN.{length}
 use mathlib.Core.List.{List}
 use mathlib.Core.Path.{◌∙◌, ◌≡◌, ap, sym}
 use native.Mathlib.Omega.{arith}
 use Rattle.blocks.specs.Refusals.{unless_refused}
-use Rattle.blocks.specs.Words.{word_at}
 use Rattle.blocks.specs.declared.Entry.{Entry}
 use Rattle.narrow_listed.specs.Listed.{narrowest_under}
 use Rattle.narrowest.proofs.answer.FormedLaws.{formed_of}
@@ -35,14 +34,14 @@ pub returns-then-a-b-gt8192 : goal.returns-then-a-b-gt8192
 returns-then-a-b-gt8192 c =
     let a = c.args in
     let F = rw c.in_ok-n.was at c.form_rows.ensures.1 in
-    let x = too-long a.pairs.now a.a.now a.b.now a.out.now F.list.list_read F.read (sym c.read.ensures ∙ c.in_ok-read.was) c.if-a-b-gt8192.true in
+    let x = too-long a.pairs.now a.a.now a.b.now a.out.now F.list.list_read F.read (sym c.read.ensures ∙ c.in_ok-read.was) (omega (arith, c.if-a-b-gt8192.true)) in
     (ap Err c.refusal.ensures ∙ sym x, sym (narrowed-refused a.pairs.now a.a.now a.b.now a.out.now x))
 
 pub returns-then-out-a : goal.returns-then-out-a
 returns-then-out-a c =
     let a = c.args in
     let F = rw c.in_ok-n.was at c.form_rows.ensures.1 in
-    let x = output-short a.pairs.now a.a.now a.b.now a.out.now F.list.list_read F.read (sym c.read.ensures ∙ c.in_ok-read.was) c.if-a-b-gt8192.false c.if-out-a.true in
+    let x = output-short a.pairs.now a.a.now a.b.now a.out.now F.list.list_read F.read (sym c.read.ensures ∙ c.in_ok-read.was) (omega (arith, c.if-a-b-gt8192.false)) (omega (arith, c.if-out-a.true)) in
     (ap Err c.refusal-then-out-a.ensures ∙ sym x, sym (narrowed-refused a.pairs.now a.a.now a.b.now a.out.now x))
 
 -- an input that is read is not refused again
@@ -76,7 +75,7 @@ returns c =
     let gr : length c.form_rows-2.new.rows ≤ 1008 = omega (arith, c.form_rows-2.array_long) in
     let e : result_entries a.pairs.now c.formed.result.rows.now c.formed-2.result.rows.now ≡ narrowest_under a.pairs.now a.a.now a.b.now
     = rw (c.formed.ensures, c.formed-2.ensures) (result-under F G fr gr) in
-    let x = answered a.pairs.now a.a.now a.b.now a.out.now F.list.list_read F.read (sym c.read.ensures ∙ c.in_ok-read.was) c.if-a-b-gt8192.false c.if-out-a.false in (
+    let x = answered a.pairs.now a.a.now a.b.now a.out.now F.list.list_read F.read (sym c.read.ensures ∙ c.in_ok-read.was) (omega (arith, c.if-a-b-gt8192.false)) (omega (arith, c.if-out-a.false)) in (
       c.write_result.ensures.0 ∙ ap (room_for a.out.now) e ∙ sym x,
       c.write_result.ensures.1 ∙ ap (λ (N : List Entry). unless_refused {B = List ℕ} (λ y. a.out.now) (room_for a.out.now N) (laid N a.out.now)) e
           ∙ narrowed-by a.pairs.now a.a.now a.b.now a.out.now x,

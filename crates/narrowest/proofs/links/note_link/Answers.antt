@@ -1,7 +1,7 @@
 -- `note_link` meets its contract: the link of an entry that leads to a place.
 use Prim.Native.Nat.{ℕ}
 use mathlib.Core.Bool.{not}
-use mathlib.Core.List.{List, [], ◌∷◌}
+use mathlib.Core.List.{[], ◌∷◌}
 use mathlib.Core.Path.{◌∙◌, ap, refl, sym}
 use Rattle.base.proofs.Tests.{confirmed, refuted}
 use Rattle.narrowest.proofs.links.NoteLaws.{link-empty, link-listed, link-none}

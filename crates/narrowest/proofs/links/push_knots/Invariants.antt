@@ -1,7 +1,6 @@
 -- `push_knots` meets its contract: some are pushed, and the rest stand after the last.
 use lib.ListN.{drop, length}
 use mathlib.Core.List.{map}
-use mathlib.Core.Path.{◌≡◌}
 use Rattle.narrowest.proofs.links.KnotLaws.{KnotPart}
 use Rattle.narrowest.specs.code.Codes.{knot}
 use Rattle.narrowest.specs.code.Forms.{entries_in}

@@ -1,8 +1,6 @@
 -- `push_links` meets its contract: the links that are noted are put in order.
-use Prim.Native.Nat.{◌≤◌, ℕ}
-use lib.ListN.{length, length-map, take}
+use lib.ListN.{length-map}
 use lib.Seq.{length-take-le}
-use mathlib.Core.List.{List}
 use mathlib.Core.Path.{◌∙◌, ap, sym}
 use native.Mathlib.Omega.{arith}
 use Rattle.narrowest.proofs.links.NoteLaws.{links-few}

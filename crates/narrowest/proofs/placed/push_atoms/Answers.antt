@@ -2,7 +2,7 @@
 use mathlib.Core.List.{List}
 use mathlib.Core.Path.{◌∙◌, ap, refl, sym}
 use Rattle.logic.specs.Place.{Atom}
-use Rattle.narrowest.proofs.placed.PlacedLaws.{along-both, atoms-both, atoms-first, atoms-second}
+use Rattle.narrowest.proofs.placed.PlacedLaws.{atoms-both, atoms-first, atoms-second}
 use Rattle.narrowest.proofs.rows.CountLaws.{counted-as}
 use Rattle.narrowest.specs.code.Codes.{whole_atoms}
 use Rattle.narrowest.specs.code.Forms.{entries_in}

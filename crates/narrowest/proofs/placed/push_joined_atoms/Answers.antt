@@ -1,5 +1,5 @@
 -- `push_joined_atoms` meets its contract: kind by kind.
-use mathlib.Core.List.{List, map}
+use mathlib.Core.List.{map}
 use Rattle.logic.specs.Place.{has, least, most}
 use Rattle.narrowest.proofs.placed.PlacedLaws.{kinds-pushed}
 use Rattle.narrowest.specs.code.Codes.{joined_atoms, lack_atom, lacks_in}

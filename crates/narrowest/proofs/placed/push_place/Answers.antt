@@ -2,7 +2,6 @@
 use native.Mathlib.Omega.{arith}
 use Rattle.narrowest.proofs.lacks.FewLaws.{lacks-few}
 use Rattle.narrowest.proofs.placed.PlacedLaws.{placed-both}
-use Rattle.narrowest.proofs.rows.CountLaws.{counted-most}
 use Rattle.narrowest.specs.code.Codes.{atoms_in, knots, links_in}
 use Rattle.narrowest.specs.code.Forms.{entries_in}
 use Rattle.narrowest.specs.code.Places.{place_in}

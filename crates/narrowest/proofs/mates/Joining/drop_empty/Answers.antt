@@ -1,5 +1,5 @@
 -- `drop_empty` meets its contract: by whether the places of the entry say something.
-use Prim.Native.Nat.{◌+◌, ◌-◌, ◌<◌, ◌≤◌, ℕ}
+use Prim.Native.Nat.{◌+◌, ◌-◌, ◌≤◌, ℕ}
 use lib.ListN.{length, length-set}
 use mathlib.Core.Bool.{not}
 use mathlib.Core.Path.{◌∙◌, ◌≡◌, ap}

@@ -1,6 +1,6 @@
 -- `find_mates` meets its contract: one entry after another.
 use lib.ListN.{length-set}
-use mathlib.Core.Path.{◌∙◌, refl}
+use mathlib.Core.Path.{◌∙◌}
 use native.Mathlib.Omega.{arith}
 use Rattle.narrowest.proofs.mates.MateLaws.{mated-next}
 use Rattle.narrowest.proofs.mates.Joining.find_mates.Goals as goal

@@ -16,4 +16,4 @@ pub overflow_mul-result : goal.overflow_mul-result
 overflow_mul-result c = omega (arith, found-small c.args.self.sides.first.form.held _ 5 _ c.below-m.ensures)
 
 pub overflow_add-result : goal.overflow_add-result
-overflow_add-result c = omega (arith, found-small c.args.self.sides.first.form.held _ 5 _ c.below-m.ensures, c.from.ensures, c.from.auto)
+overflow_add-result c = omega (arith, found-small c.args.self.sides.first.form.held _ 5 _ c.below-m.ensures, c.from.ensures)
