@@ -1,7 +1,7 @@
 // The profile of one entry: its kind, its number and its depth.
 ghost use Rattle.std.specs.Prelude.{◌≡◌, None, true};
 ghost use Rattle.sheets.specs.Sheet.{in_profile, kind_in};
-ghost use Rattle.sheets.specs.code.SheetSteps.{plain_end, sheet_refusal};
+ghost use Rattle.sheets.specs.code.SheetSteps.{head_start, sheet_refusal};
 
 use blocks::{Cause, Entry, Schema, kinds};
 use reading::entry_refusal;
@@ -28,19 +28,20 @@ fn in_profile(e: Entry) -> bool
     kind_in(e.kind) && e.number <= 99
 }
 
-// The number at which those of a kind end that a look shows to be in a sheet: 1 where only 0 is, 0 where none is. All
-// are constants, so that this is a look into a table: entries come in any order of kinds, and a jump by kind would be
-// guessed wrong.
-#[tactic(auto, unfolding(crate::specs::code::SheetSteps::plain_end))]
-fn plain_end(kind: u8) -> u16
-    ensures { result ≡ plain_end kind }
+// What is added to an entry's number by its kind: the sum is at most 100 where a look shows it to be in a sheet. All are
+// constants, so that this is a look into a table: entries come in any order of kinds, and a jump by kind would be guessed
+// wrong. Lacks have their own, since a table with a hole among its kinds is asked for that first.
+#[tactic(auto, unfolding(crate::specs::code::SheetSteps::head_start))]
+fn head_start(kind: u8) -> u32
+    ensures { result ≡ head_start kind }
 {
     match kind {
-        kinds::HAS => 1,
-        kinds::AT_LEAST => 100,
-        kinds::AT_MOST => 100,
-        kinds::EVERY => 1,
-        _ => 0,
+        kinds::HAS => 100,
+        kinds::LACKS => 101,
+        kinds::AT_LEAST => 1,
+        kinds::AT_MOST => 1,
+        kinds::EVERY => 100,
+        _ => 102,
     }
 }
 
@@ -60,7 +61,7 @@ fn plainly_in(e: Entry, l: u8) -> bool
     if 5 <= l {
         return false;
     }
-    e.number < plain_end(e.kind)
+    u32::from(e.number) + head_start(e.kind) <= 100
 }
 
 // Why an entry of a sheet is refused whose owner has level l, if it is: as in any description, and else where it is

@@ -1,6 +1,6 @@
 -- One law for each way through the profile of an entry.
 -- Assumes nothing.
-use Rattle.std.proofs.Common.{◌≡◌, ◌≢◌, ℕ, ◌<◌, ◌≤◌, eqb, ◌||◌, true, false, Option, Some, None, nat_le, nat_lt, sym, ◌∙◌, arith}
+use Rattle.std.proofs.Common.{◌≡◌, ◌≢◌, ℕ, ◌+◌, ◌<◌, ◌≤◌, eqb, ◌||◌, true, false, Option, Some, None, nat_le, nat_lt, sym, ◌∙◌, arith}
 use Rattle.base.proofs.Tests.{bool_cases, eq-eqb, ne_eqb, or_cases, tests}
 use Rattle.blocks.specs.Entries.{form_ok, kind_ok, name_ok, number_ok}
 use Rattle.blocks.specs.code.ReadingSteps.{entry_refusal}
@@ -9,7 +9,7 @@ use Rattle.blocks.specs.declared.Cause.TheVariants.{Profile}
 use Rattle.blocks.specs.declared.Entry.{Entry}
 use Rattle.blocks.specs.declared.Schema.TheVariants.{Description}
 use Rattle.sheets.specs.Sheet.{in_profile, kind_in}
-use Rattle.sheets.specs.code.SheetSteps.{plain_end, sheet_refusal}
+use Rattle.sheets.specs.code.SheetSteps.{head_start, sheet_refusal}
 
 -- an entry that a look shows to be in a sheet
 module _ (e : Entry) (l : ℕ) (reserved : e.reserved ≡ 0) (name : e.name ≢ 0) (owner : l ≢ 0) (depth : l ≤ 4) where
@@ -24,13 +24,13 @@ module _ (e : Entry) (l : ℕ) (reserved : e.reserved ≡ 0) (name : e.name ≢ 
       let small : nat_le e.number 99 ≡ true = omega tests in
       rw (kind, eq-eqb reserved, six, named, number, ne_eqb owner, deep, inside, small, low)
 
-  pub told-plainly : {m : ℕ} → m ≡ plain_end e.kind → e.number < m → sheet_refusal e l ≡ None
+  pub told-plainly : {m : ℕ} → m ≡ head_start e.kind → e.number + m ≤ 100 → sheet_refusal e l ≡ None
   unfolding kind_in number_ok
   told-plainly {m} r h =
       let k = e.kind in
       bool_cases (eqb k 1 || eqb k 5)
       (λ q.
-      let one : m ≡ 1 = r ∙ rw q in
+      let whole : m ≡ 100 = r ∙ rw q in
       let z : e.number ≡ 0 = omega arith in
       or_cases (eqb k 1) (eqb k 5) q
       (λ i. let s : k ≡ 1 = omega tests in told (rw s) (rw s) (rw s) (rw (s, z)) (omega arith))
@@ -38,11 +38,14 @@ module _ (e : Entry) (l : ℕ) (reserved : e.reserved ≡ 0) (name : e.name ≢ 
       (λ q.
       bool_cases (eqb k 3 || eqb k 4)
       (λ q'.
-      let few : m ≡ 100 = r ∙ rw (q, q') in
+      let one : m ≡ 1 = r ∙ rw (q, q') in
       or_cases (eqb k 3) (eqb k 4) q'
       (λ i. let s : k ≡ 3 = omega tests in told (rw s) (rw s) (rw s) (rw s) (omega arith))
       (λ i. let s : k ≡ 4 = omega tests in told (rw s) (rw s) (rw s) (rw s) (omega arith)))
-      (λ q'. let none : m ≡ 0 = r ∙ rw (q, q') in absurd (omega arith)))
+      (λ q'.
+      bool_cases (eqb k 2)
+      (λ i. let past : m ≡ 101 = r ∙ rw (q, q', i) in absurd (omega arith))
+      (λ i. let past : m ≡ 102 = r ∙ rw (q, q', i) in absurd (omega arith))))
 
 module _ (e : Entry) (l : ℕ) {o : Option Cause} (r : o ≡ entry_refusal Description e l) where
   pub refused-plainly : {k : Cause} → o ≡ Some k → Some k ≡ sheet_refusal e l

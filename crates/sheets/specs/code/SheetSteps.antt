@@ -9,9 +9,9 @@ use Rattle.blocks.specs.declared.Entry.{Entry}
 use Rattle.blocks.specs.declared.Schema.TheVariants.{Description}
 use Rattle.sheets.specs.Sheet.{in_profile}
 
--- the number at which those end that a look at the kind shows to be in a sheet
-abbrev pub plain_end : ℕ → ℕ
-plain_end k = cond (k == 1 || k == 5) 1 (cond (k == 3 || k == 4) 100 0)
+-- what is added to the number of an entry by its kind: at most 100 together where a look shows it to be in a sheet
+abbrev pub head_start : ℕ → ℕ
+head_start k = cond (k == 1 || k == 5) 100 (cond (k == 3 || k == 4) 1 (cond (k == 2) 101 102))
 
 -- a cause, or else another
 abbrev pub else_by : Option Cause → Option Cause → Option Cause

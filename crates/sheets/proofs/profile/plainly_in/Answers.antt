@@ -8,4 +8,4 @@ pub returns : goal.returns
 returns c =
     λ h. told-plainly c.args.e c.args.l (omega (arith, c.if-e-ne0.false)) (λ z. c.if-e-eq0.false z)
     (λ z. c.if-l-eq0.false z)
-    (omega (arith, c.if-l-ge5.false)) c.plain_end.ensures (omega tests)
+    (omega (arith, c.if-l-ge5.false)) c.head_start.ensures (omega (tests, h, c.from.ensures))
