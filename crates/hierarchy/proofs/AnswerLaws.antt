@@ -21,9 +21,10 @@ use Rattle.blocks.specs.Reading.{Reading}
 use Rattle.blocks.specs.Refusals.{refused, unless_refused}
 use Rattle.blocks.specs.declared.Cause.TheVariants.{Room}
 use Rattle.blocks.specs.declared.Refusal.{Refusal}
-use Rattle.hierarchy.proofs.CellLaws.{joined-long, listed-same, row-long, rows-square, square-cell, square-long, square-same, uncovered-same}
+use Rattle.hierarchy.proofs.RowLaws.{direct-same, listed-same, rows-square, square-long, square-same}
+use Rattle.hierarchy.proofs.WordLaws.{bit-told}
 use Rattle.hierarchy.specs.Answer.{contains, hierarchy_of, hierarchy_size, ranked_of, ranks, service_entries, square_rows}
-use Rattle.hierarchy.specs.code.Cells.{cell, row_in, rows_in, uncovered, written}
+use Rattle.hierarchy.specs.code.Words.{Flat, Rows, cell, rows_in}
 use Rattle.lists.specs.Parts.{parts_of}
 use Rattle.meaning.specs.Hierarchy.{alike, class_of, direct, strict}
 use Rattle.pairs.specs.Pairs.{pairs_reading, under}
@@ -36,55 +37,33 @@ use Rattle.std.specs.Prelude.{Err, Ok}
 
 -- ---- what is written
 
-pub rows-long : (t : List ℕ) (n : ℕ) → length (joined (rows_in t n)) ≡ n * n
-rows-long t n = joined-long (row_in t n) n 0 n (λ j. row-long t n j)
-
-pub ranks-written : (t zeros zeros' out : List ℕ) (n : ℕ) {above below out₁ out₂ out₃ : List ℕ} {at₁ at₂ : ℕ} → n ≤ 64 → 4096 ≤ length zeros → 4096 ≤ length zeros'
-    → above ≡ rows_at zeros 0 (square_rows (strict (cell t)) n) → below ≡ rows_at zeros' 0 (square_rows (uncovered (cell above) n) n)
-    → out₁ ≡ stored out 0 (joined (rows_in t n)) → at₁ ≡ 0 + length (joined (rows_in t n)) → out₂ ≡ stored out₁ at₁ (joined (rows_in below n))
-    → at₂ ≡ at₁ + length (joined (rows_in below n)) → out₃ ≡ stored out₂ at₂ (listed (class_of (cell t) n) 0 n) → out₃ ≡ stored out 0 (written t n)
-unfolding written
-ranks-written t zeros zeros' out n {above} {below} {out₁} {out₂} {out₃} {at₁} {at₂} few z z' a b p l q m r =
-    let X = joined (rows_in t n) in
-    let Y = joined (rows_in below n) in
-    let Z = listed (class_of (cell t) n) 0 n in
-    let up : (i j : ℕ) → i < n → j < n → cell above i j ≡ strict (cell t) i j = λ i j hi hj. ap (λ (s : List ℕ). cell s i j) a ∙ square-cell (strict (cell t)) n zeros few z i j hi hj in
-    let whole : rows_in below n ≡ square_rows (uncovered (strict (cell t)) n) n =
-    ap (λ (s : List ℕ). rows_in s n) b ∙ rows-square (uncovered (cell above) n) n zeros' few z'
-    ∙ square-same (uncovered (cell above) n) (uncovered (strict (cell t)) n) n (uncovered-same (cell above) (strict (cell t)) n up) in
+-- the table, the direct superiors and the classes, one behind the other
+pub ranks-written : (t : ℕ → ℕ → Bool) (n : ℕ) (out : List ℕ) {up direct' out₁ out₂ out₃ : List ℕ} {at₁ at₂ : ℕ} → Rows t n n up → Rows (direct t n) n n direct'
+    → out₁ ≡ stored out 0 (joined (rows_in up n)) → at₁ ≡ 0 + length (joined (rows_in up n)) → out₂ ≡ stored out₁ at₁ (joined (rows_in direct' n))
+    → at₂ ≡ at₁ + length (joined (rows_in direct' n)) → out₃ ≡ stored out₂ at₂ (listed (class_of t n) 0 n) → out₃ ≡ stored out 0 (ranks t n)
+unfolding ranks
+ranks-written t n out {up} {direct'} {out₁} {out₂} {out₃} {at₁} {at₂} A B p l q m r =
+    let X = joined (rows_in up n) in
+    let Y = joined (rows_in direct' n) in
+    let Z = listed (class_of t n) 0 n in
+    let table = rows-square t n A in
+    let superiors = rows-square (direct t n) n B in
     let first = stored-then out X Y 0 at₁ p q l in
     let second = stored-then out (X ++ Y) Z 0 at₂ first r (omega (arith, l, m, length-append X Y)) in
-    second ∙ ap (stored out 0) (append_assoc X Y Z ∙ ap (λ (w : List (List ℕ)). X ++ (joined w ++ Z)) whole)
+    second ∙ ap (stored out 0) (append_assoc X Y Z ∙ rw (table, superiors) refl)
 
--- ---- what it is for a table whose cells are those of a test
-
-module _ (t : List ℕ) (f : ℕ → ℕ → Bool) (n : ℕ) (h : (i j : ℕ) → i < n → j < n → get_or t (64 * i + j) 0 ≡ bit (f i j)) where
-  cell-is : (i j : ℕ) → i < n → j < n → cell t i j ≡ f i j
-  cell-is i j hi hj = ap (λ (x : ℕ). eqb x 1) (h i j hi hj) ∙ bool_cases (f i j) (λ q. rw q refl) (λ q. rw q refl)
-
-  rows-are : rows_in t n ≡ square_rows f n
-  unfolding square_rows
-  rows-are =
-      listed-same (row_in t n) (λ i. listed (λ j. bit (f i j)) 0 n) 0 n
-      (λ i lo hi. listed-same (λ j. get_or t (64 * i + j) 0) (λ j. bit (f i j)) 0 n (λ j lo' hi'. h i j (omega arith) (omega arith)))
-
-  strict-is : (i j : ℕ) → i < n → j < n → strict (cell t) i j ≡ strict f i j
-  strict-is i j hi hj = let a = cell-is i j hi hj in let b = cell-is j i hj hi in rw (a, b) refl
-
-  class-is : (i : ℕ) → i < n → class_of (cell t) n i ≡ class_of f n i
-  unfolding class_of
-  class-is i hi =
-      first-same (λ k. not (alike (cell t) i (k - 1))) (λ k. not (alike f i (k - 1))) 1 n
-      (λ k lo hi'. let a = cell-is i (k - 1) hi (omega arith) in let b = cell-is (k - 1) i (omega arith) hi in rw (a, b) refl)
-
-  pub written-is : written t n ≡ ranks f n
-  unfolding written ranks
-  written-is =
-      let A = rows-are in
-      let B : square_rows (uncovered (strict (cell t)) n) n ≡ square_rows (direct f n) n =
-      square-same (uncovered (strict (cell t)) n) (uncovered (strict f) n) n (uncovered-same (strict (cell t)) (strict f) n strict-is) in
-      let C : listed (class_of (cell t) n) 0 n ≡ listed (class_of f n) 0 n = listed-same (class_of (cell t) n) (class_of f n) 0 n (λ i lo hi. class-is i (omega arith)) in
-      rw (A, B, C) refl
+-- tests that agree
+pub ranks-same : (f g : ℕ → ℕ → Bool) (n : ℕ) → ((i j : ℕ) → i < n → j < n → f i j ≡ g i j) → ranks f n ≡ ranks g n
+unfolding ranks class_of
+ranks-same f g n h =
+    let A = square-same f g n h in
+    let B = square-same (direct f n) (direct g n) n (direct-same f g n h) in
+    let C : listed (class_of f n) 0 n ≡ listed (class_of g n) 0 n =
+    listed-same (class_of f n) (class_of g n) 0 n
+    (λ i lo hi.
+    first-same (λ k. not (alike f i (k - 1))) (λ k. not (alike g i (k - 1))) 1 n
+    (λ k lo' hi'. let a = h i (k - 1) (omega arith) (omega arith) in let b = h (k - 1) i (omega arith) (omega arith) in rw (a, b) refl)) in
+    rw (A, B, C) refl
 
 -- how long it is
 pub ranks-long : (f : ℕ → ℕ → Bool) (n : ℕ) → length (ranks f n) ≡ hierarchy_size n
@@ -149,6 +128,16 @@ module _ (P list : List ℕ) {n : ℕ} (e : table_reading P list ≡ Ok n) where
       ap (λ (s : List ℕ). get_or s (64 * i + j) 0) (q ∙ table-is zeros)
       ∙ contained-cell (under P) all zeros i j (omega (arith, T.count, T.few)) (omega (arith, length-replicate {A = ℕ} 4096 0)) (omega (arith, T.count)) (omega (arith, T.count))
 
+  -- each of its bytes is 1 or 0
+  pub table-flat : {table : List ℕ} → table ≡ table_after P list (replicate 4096 0) → Flat n table
+  table-flat q i j hi hj = bool_cases (contains P list i j) (λ b. omega (arith, table-cell q i j hi hj, ap bit b)) (λ b. omega (arith, table-cell q i j hi hj, ap bit b))
+
+  -- and what is read off it is read off the comparisons
+  pub table-ranks : {table : List ℕ} → table ≡ table_after P list (replicate 4096 0) → ranks (cell table) n ≡ ranks (contains P list) n
+  table-ranks {table} q =
+      ranks-same (cell table) (contains P list) n
+      (λ i j hi hj. ap (λ (x : ℕ). eqb x 1) (table-cell q i j hi hj) ∙ bit-told (contains P list i j))
+
 -- ---- the ways to an answer
 
 module _ (P list out : List ℕ) where
@@ -161,14 +150,14 @@ module _ (P list out : List ℕ) where
     unfolding hierarchy_of ranked_of
     answer-short h = let c = (table-taken P list e).count in let l = lt-ltb (rw c at h) in (rw (e, l) refl, rw (e, l) refl)
 
-    pub answer-ranked : hierarchy_size n ≤ length out → {table new : List ℕ} → table ≡ table_after P list (replicate 4096 0) → new ≡ stored out 0 (written table n)
+    pub answer-ranked : hierarchy_size n ≤ length out → {table new : List ℕ} → table ≡ table_after P list (replicate 4096 0) → new ≡ stored out 0 (ranks (cell table) n)
         → (Ok (hierarchy_size n) ≡ hierarchy_of P list out) × (new ≡ ranked_of P list out)
     unfolding hierarchy_of ranked_of
     answer-ranked h {table} q w =
         let c = (table-taken P list e).count in
         let l = ge-ltb (rw c at h) in
         let f = contains P list in
-        let is : written table n ≡ ranks f n = written-is table f n (table-cell P list e q) in
+        let is = table-ranks P list e q in
         let long = ranks-long f n in
         let front : stored out 0 (ranks f n) ≡ ranks f n ++ drop (hierarchy_size n) out = stored-front out (ranks f n) (omega arith) ∙ ap (λ (k : ℕ). ranks f n ++ drop k out) long in
         let whole = w ∙ ap (stored out 0) is ∙ front in

@@ -25,7 +25,7 @@ use Rattle.blocks.specs.declared.Cause.TheVariants.{Length, Room}
 use Rattle.blocks.specs.declared.Refusal.{Refusal}
 use Rattle.blocks.specs.declared.Schema.TheVariants.{Description}
 use Rattle.hierarchy.proofs.AnswerLaws.{ranks-long, table-taken}
-use Rattle.hierarchy.proofs.CellLaws.{square-long}
+use Rattle.hierarchy.proofs.RowLaws.{square-long}
 use Rattle.hierarchy.specs.Answer.{contains, hierarchy_of, hierarchy_size, ranked_of, ranks, service_entries, square_rows}
 use Rattle.hierarchy.specs.Promise.{ContainedUnder, RanksServices, class_byte, service_in, services_in, superior_byte, table_byte}
 use Rattle.lists.proofs.PartLaws.{parts-of}

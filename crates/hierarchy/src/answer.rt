@@ -1,27 +1,29 @@
 // The call: the table of containment, the direct superiors and the classes, written all or not at all.
 ghost use Rattle.std.specs.Prelude.{◌≡◌, ◌≤◌, ◌+◌, ◌*◌, ℕ, length};
 ghost use Rattle.base.specs.Stores.{stored};
-ghost use Rattle.blocks.specs.Encoding.{joined};
-ghost use Rattle.hierarchy.specs.Answer.{hierarchy_of, hierarchy_size, ranked_of};
-ghost use Rattle.hierarchy.specs.code.Cells.{rows_in, written};
+ghost use Rattle.hierarchy.specs.Answer.{hierarchy_of, hierarchy_size, ranked_of, ranks};
+ghost use Rattle.hierarchy.specs.code.Words.{Flat, cell};
 
 use crate::classes::put_classes;
 use crate::superiors::{direct_rows, strict_rows};
-use crate::table::put_rows;
+use crate::table::{gather_rows, put_rows};
 use blocks::{Cause, Refusal};
 
 // Writes what is read off the table of n services.
 fn write_ranks(table: &[u8; 4096], n: usize, out: &mut [u8])
-    requires { (n ≤ 64) × (hierarchy_size n ≤ length out.old) }
-    ensures { out.new ≡ stored out.old 0 (written table.now n) }
+    requires { (n ≤ 64) × (hierarchy_size n ≤ length out.old) × Flat n table.now }
+    ensures { out.new ≡ stored out.old 0 (ranks (cell table.now) n) }
 {
-    let mut above = [0u8; 4096];
-    let mut direct = [0u8; 4096];
-    strict_rows(table, n, &mut above);
+    let mut up = [0u64; 64];
+    let mut down = [0u64; 64];
+    let mut above = [0u64; 64];
+    let mut direct = [0u64; 64];
+    gather_rows(table, n, &mut up, &mut down);
+    strict_rows(&up, &down, n, &mut above);
     direct_rows(&above, n, &mut direct);
-    let behind_table = put_rows(table, n, out, 0);
+    let behind_table = put_rows(&up, n, out, 0);
     let behind_direct = put_rows(&direct, n, out, behind_table);
-    put_classes(table, n, out, behind_direct);
+    put_classes(&up, &down, n, out, behind_direct);
 }
 
 /// Ranks the 1 to 64 services of a list, laid end to end, under a list of pairs. For n services it writes, from the start of the output, n rows

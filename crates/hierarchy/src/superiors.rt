@@ -1,98 +1,41 @@
-// From the table of containment: which services strictly contain which, and which of these do so directly.
-ghost use Rattle.std.specs.Prelude.{◌≡◌, ◌<◌, ◌≤◌, ◌+◌, ◌*◌, ℕ, Bool, ◌&&◌, ◌||◌, false, not, get_or};
-ghost use Rattle.base.specs.Stores.{rows_at, stored};
+// From the table of containment: which services strictly contain which, and which of these do so directly. A row is a word, so
+// that a step is for 64 services.
+ghost use Rattle.std.specs.Prelude.{◌≡◌, ◌<◌, ◌≤◌, ℕ, Bool};
 ghost use Rattle.meaning.specs.Hierarchy.{some_below, strict};
-ghost use Rattle.hierarchy.specs.Answer.{square_rows};
-ghost use Rattle.hierarchy.specs.code.Cells.{Marks, cell, led, uncovered};
-ghost use Rattle.base.proofs.Lists.{listed};
-ghost use Rattle.base.specs.Range.{bit};
+ghost use Rattle.hierarchy.specs.code.Words.{Rows, Told, led, turned, uncovered};
 
-use crate::table::is_set;
+use crate::table::has;
 
-// Whether service j strictly contains service i.
-fn is_strict(table: &[u8; 4096], i: usize, j: usize) -> bool
-    requires { (i < 64) × (j < 64) }
-    ensures { result ≡ strict (cell table.now) i j }
-{
-    is_set(table, i, j) && !is_set(table, j, i)
-}
-
-// Row i of the table of strict containers.
-fn strict_row(table: &[u8; 4096], n: usize, i: usize, above: &mut [u8; 4096])
-    requires { (n ≤ 64) × (i < 64) }
-    ensures { above.new ≡ stored above.old (64 * i) (listed (λ j. bit (strict (cell table.now) i j)) 0 n) }
-{
-    for j in 0..n {
-        above[64 * i + j] = u8::from(is_strict(table, i, j));
-    }
-}
-
-// Which services strictly contain which.
-pub(crate) fn strict_rows(table: &[u8; 4096], n: usize, above: &mut [u8; 4096])
+// Which services strictly contain which: those that contain one, and are not contained in it.
+pub(crate) fn strict_rows(up: &[u64; 64], down: &[u64; 64], n: usize, above: &mut [u64; 64])
     requires { n ≤ 64 }
-    ensures { above.new ≡ rows_at above.old 0 (square_rows (strict (cell table.now)) n) }
+    ensures { (t : ℕ → ℕ → Bool) → Rows t n n up.now → Rows (turned t) n n down.now → Rows (strict t) n n above.new }
 {
     for i in 0..n {
-        strict_row(table, n, i, above);
+        above[i] = up[i] & !down[i];
     }
 }
 
-// Marks what is above service k.
-fn cover(above: &[u8; 4096], n: usize, k: usize, covered: &mut [bool; 64])
-    requires { (n ≤ 64) × (k < 64) }
-    ensures { (f : ℕ → Bool) → Marks f n covered.old → Marks (λ j. cell above.now k j || f j) n covered.new }
+// What is above one of the services that are in a row.
+fn covered_by(above: &[u64; 64], n: usize, row: u64) -> u64
+    requires { n ≤ 64 }
+    ensures { (s : ℕ → ℕ → Bool) (f : ℕ → Bool) → Rows s n n above.now → Told f n row → Told (λ j. some_below (led f s j) n) n result }
 {
-    for j in 0..n {
-        covered[j] = is_set(above, k, j) || covered[j];
-    }
-}
-
-// The same where service k is above service i.
-fn cover_by(above: &[u8; 4096], n: usize, i: usize, k: usize, covered: &mut [bool; 64])
-    requires { (n ≤ 64) × (i < 64) × (k < 64) }
-    ensures { (f : ℕ → Bool) → Marks f n covered.old → Marks (λ j. led (cell above.now) i j k || f j) n covered.new }
-{
-    if is_set(above, i, k) {
-        cover(above, n, k, covered);
-    }
-}
-
-// Marks what is above a service that is above service i.
-fn cover_all(above: &[u8; 4096], n: usize, i: usize, covered: &mut [bool; 64])
-    requires { (n ≤ 64) × (i < 64) × Marks (λ j. false) n covered.old }
-    ensures { Marks (λ j. some_below (led (cell above.now) i j) n) n covered.new }
-{
+    let mut covered = 0;
     for k in 0..n {
-        cover_by(above, n, i, k, covered);
+        if has(row, k) {
+            covered = above[k] | covered;
+        }
     }
+    covered
 }
 
-// Whether service j is above service i and is not marked.
-fn is_direct(above: &[u8; 4096], i: usize, j: usize, covered: &[bool; 64]) -> bool
-    requires { (i < 64) × (j < 64) }
-    ensures { result ≡ (cell above.now i j && not (get_or covered.now j false)) }
-{
-    is_set(above, i, j) && !covered[j]
-}
-
-// Row i of the table of direct superiors.
-fn direct_row(above: &[u8; 4096], n: usize, i: usize, direct: &mut [u8; 4096])
-    requires { (n ≤ 64) × (i < 64) }
-    ensures { direct.new ≡ stored direct.old (64 * i) (listed (λ j. bit (uncovered (cell above.now) n i j)) 0 n) }
-{
-    let mut covered = [false; 64];
-    cover_all(above, n, i, &mut covered);
-    for j in 0..n {
-        direct[64 * i + j] = u8::from(is_direct(above, i, j, &covered));
-    }
-}
-
-// Which are direct superiors of which, by those that are strict.
-pub(crate) fn direct_rows(above: &[u8; 4096], n: usize, direct: &mut [u8; 4096])
+// Which are direct superiors of which, by those that are strict: they are above none of these.
+pub(crate) fn direct_rows(above: &[u64; 64], n: usize, direct: &mut [u64; 64])
     requires { n ≤ 64 }
-    ensures { direct.new ≡ rows_at direct.old 0 (square_rows (uncovered (cell above.now) n) n) }
+    ensures { (s : ℕ → ℕ → Bool) → Rows s n n above.now → Rows (uncovered s n) n n direct.new }
 {
     for i in 0..n {
-        direct_row(above, n, i, direct);
+        direct[i] = above[i] & !covered_by(above, n, above[i]);
     }
 }

@@ -1,7 +1,7 @@
 -- `hierarchy` meets its contract: refused, too short, or written.
 use mathlib.Core.Path.{◌∙◌, ap, sym}
 use native.Mathlib.Omega.{arith}
-use Rattle.hierarchy.proofs.AnswerLaws.{answer-ranked, answer-refused, answer-short, size-few, table-taken}
+use Rattle.hierarchy.proofs.AnswerLaws.{answer-ranked, answer-refused, answer-short, size-few, table-flat, table-taken}
 use Rattle.hierarchy.specs.Answer.{hierarchy_size}
 use Rattle.std.specs.Prelude.{Ok}
 use Rattle.std.proofs.lemmas.Result.{err_from_is_err_and}
@@ -19,7 +19,8 @@ returns-then-out-size c =
 pub write_ranks-requires : goal.write_ranks-requires
 write_ranks-requires c =
     let T = table-taken _ _ (sym c.contained_table.ensures.0 ∙ c.in_ok-count.was) in
-    (omega (arith, T.few, c.from-n.ensures), c.if-out-size.false)
+    let e = sym c.contained_table.ensures.0 ∙ c.in_ok-count.was ∙ ap Ok (sym c.from-n.ensures) in
+    (omega (arith, T.few, c.from-n.ensures), c.if-out-size.false, table-flat _ _ e c.contained_table.ensures.1)
 
 pub overflow_cast-result : goal.overflow_cast-result
 overflow_cast-result c =

@@ -7,31 +7,31 @@ use Rattle.base.proofs.Lists.{listed}
 use Rattle.base.proofs.StoresLaws.{length-stored, stored-none}
 use Rattle.base.specs.Range.{bit}
 use Rattle.base.specs.Stores.{stored}
-use Rattle.hierarchy.specs.code.Cells.{cell, led, rows_in, uncovered}
+use Rattle.hierarchy.specs.code.Words.{Rows, rows_in, turned}
 use Rattle.blocks.specs.Encoding.{joined}
-use Rattle.hierarchy.proofs.CellLaws.{joined-less, joined-more, joined-none, row-in, row-long, rows-many}
+use Rattle.hierarchy.proofs.RowLaws.{joined-less, joined-more, joined-none, row-in, row-long, rows-many}
 use Rattle.hierarchy.proofs.table.put_rows.Goals as goal
 use Rattle.hierarchy.proofs.table.put_rows.Goals.{In-loop-i}
 
 pub put_row-requires : goal.put_row-requires
 put_row-requires c =
-    let t = c.args.table.now in
+    let t = c.args.rows.now in
     let n = c.args.n in
     let i = c.loop-i.i in
     let A = c.loop-i.invariant in
     let h = c.loop-i-test.true in
     let less = joined-less (rows_in t n) i (omega (arith, h, rows-many t n)) in
-    (c.requires.0, omega (arith, h, c.requires.0), omega (arith, A.0, A.1, less, ap length (row-in t n i h), row-long t n i, c.requires.1))
+    (c.requires.0, omega (arith, A.0, A.1, less, ap length (row-in t n i h), row-long n (get_or t i 0), c.requires.1))
 
 pub loop-i-preserved : goal.loop-i-preserved
 loop-i-preserved c =
-    let t = c.args.table.now in
+    let t = c.args.rows.now in
     let n = c.args.n in
     let i = c.loop-i.i in
     let A = c.loop-i.invariant in
     let h = c.loop-i-test.true in
     let row = row-in t n i h in
-    let long = ap length row ∙ row-long t n i in
+    let long = ap length row ∙ row-long n (get_or t i 0) in
     let less = joined-less (rows_in t n) i (omega (arith, h, rows-many t n)) in
     let w = c.put_row.ensures ∙ ap (stored c.loop-i.out c.loop-i.behind) (sym row) in
     let more = joined-more (rows_in t n) i c.loop-i.out c.loop-i.behind (omega (arith, h, rows-many t n)) A.2 w in
@@ -39,7 +39,7 @@ loop-i-preserved c =
 
 pub returns : goal.returns
 returns c =
-    let t = c.args.table.now in
+    let t = c.args.rows.now in
     let n = c.args.n in
     let A = c.loop-i.invariant in
     let none = joined-none (rows_in t n) c.loop-i.i (omega (arith, c.loop-i-test.false, rows-many t n)) in

@@ -7,10 +7,10 @@ use Rattle.base.proofs.Lists.{listed}
 use Rattle.base.specs.Range.{bit}
 use Rattle.base.specs.Stores.{stored}
 use Rattle.blocks.specs.Encoding.{joined}
-use Rattle.hierarchy.specs.code.Cells.{Marks, cell, led, rows_in, uncovered}
+use Rattle.hierarchy.specs.code.Words.{Rows, rows_in, turned}
 use Rattle.hierarchy.proofs.table.put_rows.Given as goal
 
 abbrev pub invariant-loop-i : goal.invariant-loop-i
 invariant-loop-i l = (length l.out ≡ length l.initial.out)
-    × (l.behind + length (joined (drop l.i (rows_in l.table l.n))) ≡ l.at + length (joined (rows_in l.table l.n)))
-    × (stored l.out l.behind (joined (drop l.i (rows_in l.table l.n))) ≡ stored l.initial.out l.at (joined (rows_in l.table l.n)))
+    × (l.behind + length (joined (drop l.i (rows_in l.rows l.n))) ≡ l.at + length (joined (rows_in l.rows l.n)))
+    × (stored l.out l.behind (joined (drop l.i (rows_in l.rows l.n))) ≡ stored l.initial.out l.at (joined (rows_in l.rows l.n)))
