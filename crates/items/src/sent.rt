@@ -1,10 +1,14 @@
 // The items that fit a description as it is sent, or as a dictionary unfolds it.
 ghost use Rattle.std.specs.Prelude.{◌≡◌, ◌≤◌, ◌<◌, [], length, IfOk, IfErr};
 ghost use Rattle.blocks.specs.Entries.{entries_of};
+ghost use Rattle.blocks.specs.Reading.{reading_of};
+ghost use Rattle.blocks.specs.declared.Schema.{Schema};
 ghost use Rattle.items.specs.code.Record.{Marked};
 ghost use Rattle.names.specs.NamedReading.{unfolding_of};
+ghost use Rattle.places.specs.Owned.{with_room};
 
 use crate::marking::mark_fitting;
+use blocks::sizes::BLOCK;
 use blocks::{Refusal, Schema};
 use delivered::Delivered;
 use places::{PlaceTables, Places};
@@ -12,7 +16,11 @@ use unfolding::Dictionary;
 use writing::bytes_for;
 
 // Reads a description, input 2, where no name can be given. One that is refused is read again, since there a name is refused by another number.
-fn read_sent<'a>(d: &'a [u8], tables: &'a mut PlaceTables) -> Result<Places<'a>, Refusal>
+fn read_sent<'a, const N: usize>(
+    d: &'a [u8],
+    tables: &'a mut PlaceTables<N>,
+) -> Result<Places<'a>, Refusal>
+    requires { with_room N (reading_of Schema.Description 2 d.now) ≡ reading_of Schema.Description 2 d.now }
     ensures refused { IfErr result (λ x. unfolding_of [] 2 d.now ≡ Err x) }
     ensures accepted { IfOk result (λ p. (unfolding_of [] 2 d.now ≡ Ok p.total) × (p.bytes.now ≡ d.now)) }
 {
@@ -25,7 +33,23 @@ fn read_sent<'a>(d: &'a [u8], tables: &'a mut PlaceTables) -> Result<Places<'a>,
     }
 }
 
-// Marks the items of a record that fit a description as it is sent.
+// Marks the items of a record that fit a description as it is sent, with tables of N cells, which have room for its entries.
+fn mark_sent_in<const N: usize>(
+    delivered: Delivered,
+    description: &[u8],
+    marks: &mut [bool; 256],
+) -> Result<u16, Refusal>
+    requires { (N ≤ 1009) × (with_room N (reading_of Schema.Description 2 description.now) ≡ reading_of Schema.Description 2 description.now) }
+    ensures reading { result ≡ unfolding_of [] 2 description.now }
+    ensures marked { IfOk result (λ n. Marked [] delivered.entry.items (entries_of delivered.entry.bytes.now) description.now marks.new) }
+{
+    let mut tables = PlaceTables::<N>::new();
+    let places = read_sent(description, &mut tables)?;
+    mark_fitting(delivered, places, marks);
+    Ok(places.total() as u16)
+}
+
+// Marks the items of a record that fit a description as it is sent. Few entries take small tables, which are sooner cleared.
 pub(crate) fn mark_sent(
     delivered: Delivered,
     description: &[u8],
@@ -34,10 +58,10 @@ pub(crate) fn mark_sent(
     ensures reading { result ≡ unfolding_of [] 2 description.now }
     ensures marked { IfOk result (λ n. Marked [] delivered.entry.items (entries_of delivered.entry.bytes.now) description.now marks.new) }
 {
-    let mut tables = PlaceTables::new();
-    let places = read_sent(description, &mut tables)?;
-    mark_fitting(delivered, places, marks);
-    Ok(places.total() as u16)
+    if description.len() <= BLOCK {
+        return mark_sent_in::<64>(delivered, description, marks);
+    }
+    mark_sent_in::<1009>(delivered, description, marks)
 }
 
 // Marks the items of a record that fit what a description stands for under a dictionary, with a buffer that has room for every description.
@@ -54,7 +78,7 @@ pub(crate) fn mark_unfolded(
 {
     let n = dictionary.unfold_into(description, 2, buffer)?;
     let end = bytes_for(n);
-    let mut tables = PlaceTables::new();
+    let mut tables = PlaceTables::<1009>::new();
     let places = Places::read(&buffer[..end], 2, &mut tables)?;
     mark_fitting(delivered, places, marks);
     Ok(n)

@@ -1,27 +1,10 @@
--- `mark_sent` meets its contract.
-use Rattle.std.proofs.Common.{◌≡◌, ◌∙◌, ap, List, [], ℕ, Ok, refl, sym, arith}
-use Rattle.std.proofs.lemmas.Result.{err_from_is_err_and}
-use Rattle.unfolding.proofs.BufferLaws.{sent-itself}
+-- `mark_sent` meets its contract: the tables of each size have room.
+use Rattle.std.proofs.Common.{arith}
+use Rattle.places.proofs.ReadLaws.{room-all, room-blocks}
 use Rattle.items.proofs.sent.mark_sent.Goals as goal
 
-pub returns-in_err-places-clause-reading : goal.returns-in_err-places-clause-reading
-returns-in_err-places-clause-reading c =
-    let p = err_from_is_err_and c.from_residual.result c.from_residual.ensures.1 in
-    let e = rw c.in_err-places.was at c.read_sent.ensures.refused in
-    rw (p.1, p.2) (sym e)
+pub mark_sent_in-requires : goal.mark_sent_in-requires
+mark_sent_in-requires c = (omega arith, room-blocks 64 c.args.description.now 2 (omega (arith, c.if-description-le-BLOCK.true)))
 
-pub overflow_cast-result : goal.overflow_cast-result
-overflow_cast-result c =
-    let p = c.in_ok-places.places in
-    omega (arith, c.total.ensures, p.counted, p.few)
-
-pub returns-clause-reading : goal.returns-clause-reading
-returns-clause-reading c =
-    let p = c.in_ok-places.places in
-    let a = rw c.in_ok-places.was at c.read_sent.ensures.accepted in
-    rw (c.total.ensures ∙ sym p.counted) (sym a.0)
-
-pub returns-clause-marked : goal.returns-clause-marked
-returns-clause-marked c = λ x h.
-    let a = rw c.in_ok-places.was at c.read_sent.ensures.accepted in
-    rw (sent-itself [] c.args.description.now refl, ← a.1) (c.mark_fitting.ensures x h)
+pub mark_sent_in-requires-2 : goal.mark_sent_in-requires-2
+mark_sent_in-requires-2 c = (omega arith, room-all c.args.description.now 2)

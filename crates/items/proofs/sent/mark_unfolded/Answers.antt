@@ -10,6 +10,7 @@ use Rattle.clashes.proofs.Refusals.{refused-accepted}
 use Rattle.names.proofs.Legality.AcceptedReadings.{sent-accepted}
 use Rattle.names.specs.NamedReading.{sent_of, unfolding_of}
 use Rattle.unfolding.proofs.BufferLaws.{at-buffer, buffer-ends, buffer-plain, sent-plain}
+use Rattle.places.proofs.ReadLaws.{room-all}
 use Rattle.items.proofs.sent.mark_unfolded.Goals as goal
 use Rattle.items.proofs.sent.mark_unfolded.Goals.{After-bytes_for-end}
 
@@ -51,7 +52,7 @@ pub returns-in_err-places-clause-reading : goal.returns-in_err-places-clause-rea
 returns-in_err-places-clause-reading c =
     let d = (goal.at.returns-in_err-places-clause-reading c).After-bytes_for-end in
     let r = c.in_err-places.field-0.0 in
-    refused-accepted {k = r.cause} {i = r.input} {p = r.place} (rw c.in_err-places.was at c.read.ensures.refused) (plainly d)
+    refused-accepted {k = r.cause} {i = r.input} {p = r.place} (sym (room-all _ 2) ∙ rw c.in_err-places.was at c.read.ensures.refused) (plainly d)
 
 pub returns-clause-reading : goal.returns-clause-reading
 returns-clause-reading c = sym (read (goal.at.returns-clause-reading c).After-bytes_for-end)

@@ -4,4 +4,4 @@ use Rattle.places.proofs.PlaceLaws.{ChainedFrom}
 use Rattle.places.proofs.tables.fill.Given as goal
 
 abbrev pub invariant-loop-n : goal.invariant-loop-n
-invariant-loop-n l = ChainedFrom (entries_of l.s) l.tables.first l.tables.next l.n
+invariant-loop-n l = ChainedFrom (entries_of l.d) l.first l.next l.n

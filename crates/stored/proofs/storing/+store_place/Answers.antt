@@ -1,6 +1,6 @@
 -- `store_place` meets its contract.
-use Rattle.std.proofs.Common.{◌≡◌, ◌≤◌, ◌<◌, ◌+◌, ◌∙◌, ℕ, length, Option, refl, sym, ap, subst, arith}
-use Rattle.base.proofs.StoresLaws.{stored-none}
+use Rattle.std.proofs.Common.{◌≡◌, ◌≤◌, ◌<◌, ◌+◌, ◌∙◌, ℕ, length, length-set, Option, refl, set, sym, ap, subst, arith}
+use Rattle.base.proofs.StoresLaws.{length-stored, stored-none}
 use Rattle.base.proofs.Tests.{eq-cases}
 use Rattle.base.specs.Keys.{unless_zero}
 use Rattle.base.specs.Stores.{stored}
@@ -27,7 +27,7 @@ bounds-rows-end t c =
     let es = entries_of c.args.places.bytes.now in
     let i = c.loop-next.invariant in
     let N = subst (Next es c.args.o) c.in-Some.is i.own in
-    let room = subst (λ (r : Option ℕ). c.loop-next.end + length (packed_left c.args.depth (left_from es c.args.o r)) ≤ 1008) c.in-Some.is i.room in
+    let room = subst (λ (r : Option ℕ). c.loop-next.end + length (packed_left c.args.depth (left_from es c.args.o r)) ≤ length c.loop-next.rows) c.in-Some.is i.room in
     let some = some-left es c.args.places.legal c.args.o c.args.depth c.in-Some.n N.0 N.1 N.2 {r = unless_zero (next_of es c.in-Some.n)} refl refl in
     omega (arith, room, some)
 
@@ -43,11 +43,11 @@ store_place-end-requires t c =
     let i = c.loop-next.invariant in
     let n = c.in-Some.n in
     let N = subst (Next es c.args.o) c.in-Some.is i.own in
-    let room = subst (λ (r : Option ℕ). c.loop-next.end + length (packed_left c.args.depth (left_from es c.args.o r)) ≤ 1008) c.in-Some.is i.room in
+    let room = subst (λ (r : Option ℕ). c.loop-next.end + length (packed_left c.args.depth (left_from es c.args.o r)) ≤ length c.loop-next.rows) c.in-Some.is i.room in
     let D = deep-under es c.args.places.legal c.args.o c.args.depth n c.requires.1 N.0 N.1 N.2 in
     let k : (nth es n).kind ≡ 5 = sym (ap (λ (e : Entry). e.kind) c.entry-e.ensures) ∙ c.if-e-eq-EVERY.true in
     let l = node-length es c.args.places.legal c.args.o c.args.depth n N.0 N.1 N.2 {r = unless_zero (next_of es n)} refl refl c.args.rows.now c.loop-next.end k in
-    (omega (arith, c.decreases, owner-earlier c.args.places.legal n N.0 N.1, N.2, N.1), (N.1, D.1, omega (arith, room, l)))
+    (omega (arith, c.decreases, owner-earlier c.args.places.legal n N.0 N.1, N.2, N.1), (N.1, D.1, omega (arith, room, l, length-set c.loop-next.rows c.loop-next.end c.pack_stored.result)))
 
 pub loop-next-smaller : goal.loop-next-smaller
 loop-next-smaller t c =
@@ -71,7 +71,7 @@ loop-next-preserved t c =
     let rows = c.loop-next.rows in
     let rest = packed_left d (left_from es o c.after-next.result) in
     let N = subst (Next es o) c.in-Some.is i.own in
-    let room = subst (λ (r : Option ℕ). end + length (packed_left d (left_from es o r)) ≤ 1008) c.in-Some.is i.room in
+    let room = subst (λ (r : Option ℕ). end + length (packed_left d (left_from es o r)) ≤ length rows) c.in-Some.is i.room in
     let kind : (nth es n).kind ≡ c.entry-e.result.kind = sym (ap (λ (e : Entry). e.kind) c.entry-e.ensures) in
     let row = c.pack_stored.ensures ∙ ap stored_packed (c.placed.ensures ∙ ap (at_depth d) c.entry-e.ensures) in
     let after = c.after-next.ensures in
@@ -86,9 +86,14 @@ loop-next-preserved t c =
           rw (w.rows-is, w.end-is, w.store_place-end.ensures.0, w.store_place-end.ensures.1) (node-rows es L o d n N.0 N.1 N.2 after row rows end (kind ∙ w.if-e-eq-EVERY.true))
       | else-e-eq-EVERY w ↦ rw (w.rows-is, w.end-is) (leaf-rows es L o d n N.0 N.1 N.2 after row rows end (λ z. w.if-e-eq-EVERY.false (sym kind ∙ z)))
     ] in
+    let long : length c.if-e-eq-EVERY.rows ≡ length rows =
+    elim c.if-e-eq-EVERY.branch [
+      | then-e-eq-EVERY w ↦ rw (w.rows-is, w.store_place-end.ensures.1) (length-stored (set rows end c.pack_stored.result) _ _ ∙ length-set rows end c.pack_stored.result)
+      | else-e-eq-EVERY w ↦ rw w.rows-is (length-set rows end c.pack_stored.result)
+    ] in
     record {
       own = (then-left es o n N.0 N.1 N.2 after).1;
-      room = omega (arith, size, room);
+      room = omega (arith, size, room, long);
       ends = size ∙ ap (λ (r : Option ℕ). end + length (packed_left d (left_from es o r))) (sym c.in-Some.is) ∙ i.ends;
       rows = same ∙ ap (λ (r : Option ℕ). stored rows end (packed_left d (left_from es o r))) (sym c.in-Some.is) ∙ i.rows;
     }

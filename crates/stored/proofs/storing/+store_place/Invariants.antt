@@ -16,7 +16,7 @@ abbrev pub invariant-loop-next : goal.invariant-loop-next
 invariant-loop-next l =
     let es = entries_of l.places.bytes.now in record {
       own : Next es l.o l.next;
-      room : l.end + length (packed_left l.depth (left_from es l.o l.next)) ≤ 1008;
+      room : l.end + length (packed_left l.depth (left_from es l.o l.next)) ≤ length l.rows;
       ends : l.end + length (packed_left l.depth (left_from es l.o l.next)) ≡ l.at + length (packed_walk es l.o l.depth);
       rows : stored l.rows l.end (packed_left l.depth (left_from es l.o l.next)) ≡ stored l.fn.rows l.at (packed_walk es l.o l.depth);
     }
