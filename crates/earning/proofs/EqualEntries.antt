@@ -16,7 +16,7 @@ use Rattle.blocks.specs.Owners.{owner_of}
 use Rattle.blocks.specs.Promise.{Legal}
 use Rattle.blocks.specs.declared.Entry.{Entry}
 use Rattle.blocks.specs.declared.Schema.TheVariants.{Description}
-use Rattle.earning.proofs.AnswerLaws.{all-left}
+use Rattle.earning.proofs.AttemptLaws.{sayers-left}
 use Rattle.logic.specs.Background.{Background, LawfulBackground}
 use Rattle.meaning.specs.Description.{links_to, links_up}
 use Rattle.meaning.specs.Failing.{failing}
@@ -63,7 +63,7 @@ module _ {b : Background} (law : LawfulBackground b) (c d : List Entry) (C : Leg
   T = turning j (keep_from P (length c) (sayers c)) (sayers c)
 
   all-pass : P (sayers c) ≡ true
-  all-pass = all-left b c d {K = sayers c} refl ∙ eq-eqb yes
+  all-pass = rw (sayers-left c) (eq-eqb yes)
 
   passes : P T ≡ true
   passes = turn-passes P (length c) (sayers c) j hi all-pass

@@ -8,7 +8,9 @@ pub mod FoldLaws
 pub mod TrialLaws
 -- Owners marked from the last entry to the first.
 pub mod MarkLaws
--- The entries loaded, and the ways to an answer.
+-- The entries of both parts loaded, and what is asked of them.
+pub mod AttemptLaws
+-- The ways to an answer.
 pub mod AnswerLaws
 -- Of two equal entries the first is left.
 pub mod EqualEntries

@@ -5,9 +5,12 @@
 #![tactic(auto)]
 
 mod answer;
+mod attempt;
 mod fold;
 mod marks;
 mod tried;
 mod trying;
 
 pub use answer::earning;
+pub use attempt::{Attempt, Part, mark_left, together};
+pub use trying::Service;

@@ -14,11 +14,13 @@ ghost use Rattle.earning.specs.code.Tried.{Listed, set_of};
 use crate::tried::Tried;
 use writing::{bytes_for, write_entries};
 
-// A service, accepted, under a list of pairs that is accepted.
+/// A service, accepted, under a list of pairs that is accepted.
 #[derive(Clone, Copy)]
-pub(crate) struct Service<'a> {
-    pub(crate) pairs: &'a [u8],
-    pub(crate) d: &'a [u8],
+pub struct Service<'a> {
+    /// The list of pairs.
+    pub pairs: &'a [u8],
+    /// The service.
+    pub d: &'a [u8],
     ghost listed: { is_ok (pairs_reading pairs.now) ≡ true },
     ghost read: { is_ok (reading_of Schema.Description 2 d.now) ≡ true },
 }

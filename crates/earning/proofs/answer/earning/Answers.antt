@@ -1,12 +1,13 @@
--- `earning` meets its contract: refused, too short, or answered.
-use Prim.Native.Nat.{◌<◌, ◌≤◌}
+-- `earning` meets its contract: refused, or left to leaving out beside nothing.
+use mathlib.Core.List.{[]}
 use lib.ListN.{length}
-use mathlib.Core.Path.{◌∙◌, sym}
+use mathlib.Core.Path.{◌∙◌, ap, sym}
 use native.Mathlib.Omega.{arith}
 use Rattle.blocks.proofs.RoundTrip.Accepting.{none-of-accepted}
-use Rattle.blocks.specs.Entries.{entries_of}
 use Rattle.blocks.specs.declared.Schema.TheVariants.{Description}
-use Rattle.earning.proofs.AnswerLaws.{asked-answers, asked-first, asked-pairs, asked-second, asked-short, earning-given, earning-refused}
+use Rattle.earning.proofs.AnswerLaws.{asked-first, asked-pairs, asked-second, earning-left, earning-refused}
+use Rattle.earning.proofs.AttemptLaws.{none-entered, none-legal}
+use Rattle.narrow_listed.proofs.AcceptedLegal.{few-read, legal-read}
 use Rattle.std.proofs.lemmas.Result.{err_from_is_err_and}
 use Rattle.earning.proofs.answer.earning.Goals as goal
 
@@ -33,21 +34,22 @@ returns-in_err-read c =
     (asked-second a.pairs.now a.c.now a.d.now a.c.now a.out.now _ (sym c.read_pairs.ensures ∙ c.in_ok-read_pairs.was) (sym c.read.ensures ∙ c.in_ok-total.was)
     (sym c.read-2.ensures ∙ c.in_err-read.was)))
 
-pub returns-then-out-n : goal.returns-then-out-n
-returns-then-out-n c =
-    let a = c.args in
+pub invariant_of-stays : goal.invariant_of-stays
+invariant_of-stays c = record { counted = ap length (sym none-entered); legal = none-legal }
+
+pub invariant_of-tried : goal.invariant_of-tried
+invariant_of-tried c =
     let r = sym c.read.ensures ∙ c.in_ok-total.was in
-    let h : length a.out.now < length (entries_of a.c.now) = omega (arith, c.if-out-n.true, c.from-n.ensures, (none-of-accepted Description 1 a.c.now r).1) in
-    earning-refused a.pairs.now a.c.now a.d.now a.out.now
-    (asked-short a.pairs.now a.c.now a.d.now a.c.now a.out.now _ (sym c.read_pairs.ensures ∙ c.in_ok-read_pairs.was) r (sym c.read-2.ensures ∙ c.in_ok-read.was) h)
+    record { counted = c.from.ensures ∙ (none-of-accepted Description 1 c.args.c.now r).1; legal = legal-read 1 c.args.c.now r }
+
+pub invariant_of-attempt : goal.invariant_of-attempt
+invariant_of-attempt c =
+    let r = sym c.read.ensures ∙ c.in_ok-total.was in
+    record { few = omega (arith, c.from.ensures, (none-of-accepted Description 1 c.args.c.now r).1, few-read 1 c.args.c.now r) }
 
 pub returns : goal.returns
 returns c =
     let a = c.args in
-    let r = sym c.read.ensures ∙ c.in_ok-total.was in
-    let n = c.from-n.ensures ∙ (none-of-accepted Description 1 a.c.now r).1 in
-    let h : length (entries_of a.c.now) ≤ length a.out.now = omega (arith, c.if-out-n.false, n) in
-    let m = c.mark_earning.ensures in
-    earning-given a.pairs.now a.c.now a.d.now a.out.now
-    (asked-answers a.pairs.now a.c.now a.d.now a.c.now a.out.now _ (sym c.read_pairs.ensures ∙ c.in_ok-read_pairs.was) r (sym c.read-2.ensures ∙ c.in_ok-read.was) h)
-    n m.0 m.1
+    let p = sym c.read_pairs.ensures ∙ c.in_ok-read_pairs.was in
+    let l = earning-left a.pairs.now a.c.now a.d.now a.out.now p (sym c.read.ensures ∙ c.in_ok-total.was) (sym c.read-2.ensures ∙ c.in_ok-read.was) in
+    (c.mark_left.ensures.0 ∙ l.0, c.mark_left.ensures.1 ∙ l.1)
