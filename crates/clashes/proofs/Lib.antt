@@ -1,8 +1,6 @@
 -- Tests that one of the first entries passes.
 pub mod Among
--- The properties given so far: a walk along the chain of an owner and a property.
-pub mod PropertiesGiven
--- An entry completes a pair where its owner was given what stands beside its property in the list.
+-- An entry completes a pair where its owner was given what stands beside its property in the list; what an entry gives its owner.
 pub mod Completing
 -- The ways that reading a specimen under a list goes.
 pub mod Ways

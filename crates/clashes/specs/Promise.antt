@@ -1,6 +1,7 @@
 -- What the promises on specimens under a list speak of: where one is refused, and which one is not.
 -- Assumes nothing.
-use Rattle.std.specs.Prelude.{◌<◌, ◌≤◌, ℕ, length, Bool, ◌&&◌, false, not, true, List, ◌⊎◌, ◌≡◌}
+use Rattle.std.specs.Prelude.{◌<◌, ◌≤◌, ℕ, length, ltb, Bool, ◌&&◌, false, not, true, List, ◌⊎◌, ◌≡◌}
+use Rattle.blocks.specs.Owners.{owner_of}
 use Rattle.blocks.specs.Promise.{FirstOf, NoneApplies}
 use Rattle.blocks.specs.declared.Cause.{Cause}
 use Rattle.blocks.specs.declared.Entry.{Entry}
@@ -22,6 +23,10 @@ pub record LowestClash (P : List ℕ) (es : List Entry) (p : ℕ) : Type 0 where
 -- the contrary of number 12 at entry n
 abbrev pub apart_ok : List ℕ → List Entry → ℕ → Bool
 apart_ok P es n = not (completes P es n)
+
+-- of those whose owners are below m
+abbrev pub apart_below : ℕ → List ℕ → List Entry → ℕ → Bool
+apart_below m P es n = not (ltb (owner_of es n) m && completes P es n)
 
 -- no entry completes a pair
 pub record Apart (P : List ℕ) (es : List Entry) : Type 0 where

@@ -5,7 +5,6 @@
 #![tactic(auto)]
 
 mod clash;
-mod given;
 mod reader;
 mod sound;
 

@@ -5,15 +5,12 @@ ghost use Rattle.blocks.specs.Faults.{first, frame_faults};
 ghost use Rattle.blocks.specs.Frame.{plain, total_in};
 ghost use Rattle.blocks.specs.Reading.{answer};
 ghost use Rattle.blocks.specs.code.Blockwise.{Whole};
-ghost use Rattle.clashes.specs.Promise.{apart_ok};
+ghost use Rattle.clashes.specs.Promise.{apart_below};
 ghost use Rattle.pairs.specs.code.Search.{Finds};
 
-use crate::clash::first_clash;
+use crate::clash::clash_of_items;
 use blocks::{Refusal, Schema};
 use reading::read_blocks;
-
-// A list has 64 pairs at most; up to 3 bytes past them are no whole pair.
-const MOST_BYTES: usize = 259;
 
 /// An input of 1 to 32 blocks, none of which is refused. It borrows the bytes, so that it can be handed on as it is.
 #[derive(Clone, Copy)]
@@ -49,11 +46,10 @@ impl<'a> SoundBlocks<'a> {
         self.total
     }
 
-    /// The lowest entry that completes one of the first 64 pairs of a list.
+    /// The lowest entry that completes one of the first 64 pairs of a list, of the entries whose owners are up to 256, as items are.
     pub fn first_clash(self, pairs: &[u8]) -> Option<usize>
-        ensures { Finds (apart_ok (take 259 pairs.now) (entries_of self.entry.bytes.now)) (length (entries_of self.entry.bytes.now)) result }
+        ensures { Finds (apart_below 257 (take 259 pairs.now) (entries_of self.entry.bytes.now)) (length (entries_of self.entry.bytes.now)) result }
     {
-        let listed = &pairs[..pairs.len().min(MOST_BYTES)];
-        first_clash(listed, self.bytes, self.total)
+        clash_of_items(pairs, self.bytes, self.total)
     }
 }

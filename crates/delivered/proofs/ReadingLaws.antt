@@ -1,17 +1,18 @@
 -- The ways that reading a delivered record goes: the list is refused, or the total, a block, an entry, an entry that completes a pair; or nothing is.
 -- Assumes nothing.
-use Rattle.std.proofs.Common.{◌≡◌, ◌≢◌, ℕ, ◌+◌, ◌≤◌, ◌<◌, Bool, true, false, not, cond, eqb, ltb, List, [], ◌∷◌, ◌++◌, length, Result, Ok, Err, refl, sym, ap, ◌∙◌, arith}
+use Rattle.std.proofs.Common.{◌≡◌, ◌≢◌, ℕ, ◌≤◌, ◌<◌, false, cond, eqb, leb, ltb, List, ◌++◌, length, Result, Ok, Err, sym, ap, ◌∙◌, arith}
 use Rattle.base.proofs.SearchLaws.{none_first}
-use Rattle.base.proofs.Tests.{bool_cases, eqb-ne, ltb-ge, ne_eqb, neither_left, neither_right, not-to-true, true_of_not}
+use Rattle.base.proofs.Tests.{and_left, and_right, bool_cases, eqb-ne, ltb-ge, ne_eqb, neither_left, neither_right, not-to-true, tests, true_of_not}
 use Rattle.base.specs.Search.{first_from}
 use Rattle.blocks.proofs.Refusing.FirstFault.{clean-none, first-append, or_else}
 use Rattle.blocks.proofs.Refusing.Readings.{accepted-finding, reading-cases, refused-finding}
 use Rattle.blocks.proofs.Refusing.RowLaws.{none_each, none-split}
 use Rattle.blocks.specs.Entries.{entries_of, nth}
-use Rattle.blocks.specs.Faults.{Clean, Fault, Faulty, Finding, fault, first, frame_faults, rows_from}
+use Rattle.blocks.specs.Faults.{Clean, Fault, Finding, first, frame_faults, rows_from}
 use Rattle.blocks.specs.Frame.{plain, total_in}
+use Rattle.blocks.specs.Owners.{owner_of}
 use Rattle.blocks.specs.Promise.{NoneApplies}
-use Rattle.blocks.specs.Reading.{Reading, answer}
+use Rattle.blocks.specs.Reading.{answer}
 use Rattle.blocks.specs.Refusals.{refusal, refused}
 use Rattle.blocks.specs.declared.Cause.{Cause}
 use Rattle.blocks.specs.declared.Cause.TheVariants.{Clash, Item}
@@ -24,7 +25,7 @@ use Rattle.clashes.proofs.Ways.{never-completes}
 use Rattle.clashes.specs.Clash.{clash_rows, completes}
 use Rattle.clashes.specs.Promise.{Apart, apart_ok}
 use Rattle.delivered.specs.Promise.{LegalRecord, OneEach}
-use Rattle.delivered.specs.Reading.{delivered_faults, delivered_reading, delivered_rows, total_wrong}
+use Rattle.delivered.specs.Reading.{delivered_faults, delivered_reading, delivered_rows, is_item, items_ok, total_wrong}
 use Rattle.pairs.specs.Pairs.{pair_count, pairs_reading}
 
 -- what a pass that finds nothing wrong answers, and the answer by what one finds
@@ -85,6 +86,17 @@ pub total-bounds : (total : ℕ) → total_wrong total ≡ false → (1 ≤ tota
 total-bounds total q =
     let a = eqb-ne (neither_left (eqb total 0) (ltb 256 total) q) in
     (omega arith, ltb-ge (neither_right (eqb total 0) (ltb 256 total) q))
+
+-- where all entries are right, each owner is an item
+pub owners-below : (total : ℕ) (es : List Entry) → total_read total ≡ right → checked (first (rows_from (delivered_rows total es) 1 (length es))) ≡ right
+    → (k : ℕ) → 1 ≤ k → k ≤ length es → owner_of es k < 257
+unfolding items_ok owner_of
+owners-below total es t f k lo hi =
+    let rows = rows_from (delivered_rows total es) 1 (length es) in
+    let none = clean-none rows (accepted-finding 1 tt (first rows) f).1 in
+    let own = and_left (is_item total (nth es k).owner) _ ((legal-of total es none).items k lo hi) in
+    let most = and_right (ltb 0 (nth es k).owner) (leb (nth es k).owner total) own in
+    omega (tests, most, (total-bounds total (total-right total t)).1)
 
 -- ---- the whole
 

@@ -1,7 +1,8 @@
 // Reading a delivered record under a list of pairs: number 11 of the list, then 10 of the total, 1 to 3 of the blocks, 4, 10 and 9 entry by entry, and 12.
-ghost use Rattle.std.specs.Prelude.{◌≡◌, ◌+◌, ◌≤◌, ◌<◌, IfOk, IfErr, length, false, Ok};
+ghost use Rattle.std.specs.Prelude.{◌≡◌, ◌+◌, ◌≤◌, ◌<◌, ℕ, IfOk, IfErr, length, false, Ok};
 ghost use Rattle.blocks.specs.Entries.{entries_of};
 ghost use Rattle.blocks.specs.Faults.{first, rows_from};
+ghost use Rattle.blocks.specs.Owners.{owner_of};
 ghost use Rattle.blocks.specs.Reading.{answer};
 ghost use Rattle.blocks.specs.Refusals.{refused};
 ghost use Rattle.blocks.specs.code.Blockwise.{Whole};
@@ -83,9 +84,10 @@ fn check_entries(blocks: SoundBlocks, total: usize) -> Result<(), Refusal>
     check_in_tables::<4096, 8130, 2016>(blocks, total)
 }
 
-// Refuses a record by the lowest of its entries that completes a pair of a list. Where there is none, nothing is looked for.
+// Refuses a record, whose owners are items, by the lowest of its entries that completes a pair of a list. Where there is none, nothing is looked for.
 fn check_pairs(pairs: &[u8], blocks: SoundBlocks) -> Result<(), Refusal>
-    requires { pair_count pairs.now ≤ 64 }
+    requires { (pair_count pairs.now ≤ 64)
+        × ((k : ℕ) → 1 ≤ k → k ≤ length (entries_of blocks.bytes.now) → owner_of (entries_of blocks.bytes.now) k < 257) }
     ensures { result ≡ answer 1 tt (first (rows_from (clash_rows pairs.now (entries_of blocks.entry.bytes.now)) 1 (length (entries_of blocks.entry.bytes.now)))) }
 {
     if pairs.is_empty() {

@@ -1,6 +1,7 @@
 -- `read_clashes` meets its contract.
 use Rattle.std.proofs.Common.{◌∙◌, ap, arith}
 use Rattle.base.specs.Search.{first_from}
+use Rattle.blocks.proofs.Refusing.Legal.{owner-earlier}
 use Rattle.blocks.proofs.RoundTrip.Accepting.{sound-of-accepted}
 use Rattle.blocks.proofs.RoundTrip.Faithful.{entries-whole}
 use Rattle.blocks.specs.declared.Schema.TheVariants.{Specimen}
@@ -13,7 +14,7 @@ first_clash-requires c =
     let same = c.from.ensures in
     let many = many-entries _ _ p.0 p.1 in
     let whole = entries-whole (sound-of-accepted Specimen 1 c.args.s.now p.1).blocks in
-    (list-few _ p.0, omega (arith, few-entries _ _ p.0 p.1), omega (arith, many), omega (arith, many, whole))
+    (list-few _ p.0, omega (arith, few-entries _ _ p.0 p.1), omega (arith, many), omega (arith, many, whole), λ k lo hi. owner-earlier (sound-of-accepted Specimen 1 c.args.s.now p.1).entries k lo (omega (arith, many)))
 
 pub returns-in-Some : goal.returns-in-Some
 returns-in-Some c =

@@ -1,7 +1,8 @@
 -- `check_pairs` meets its contract.
-use Rattle.std.proofs.Common.{◌≡◌, ◌∙◌, ℕ, List, length, eqb, ap, sym, arith}
+use Rattle.std.specs.Prelude.{None, Some}
+use Rattle.std.proofs.Common.{◌∙◌, sym, arith}
 use Rattle.base.proofs.Tests.{eqb-eq}
-use Rattle.blocks.specs.Entries.{entries_of}
+use Rattle.clashes.proofs.Completing.{found-below}
 use Rattle.delivered.proofs.ReadingLaws.{clash-found, clash-nowhere, none-listed}
 use Rattle.pairs.proofs.IndexLaws.{list-whole}
 use Rattle.delivered.proofs.reader.check_pairs.Goals as goal
@@ -11,12 +12,12 @@ returns-then-is_empty c = none-listed c.args.pairs.now _ _ (eqb-eq (sym c.is_emp
 
 pub returns-in-Some : goal.returns-in-Some
 returns-in-Some c =
-    let f = rw (list-whole c.args.pairs.now c.requires) at c.in-Some.ensures in
+    let f = found-below _ _ c.requires.1 (Some c.in-Some.place) (rw (list-whole c.args.pairs.now c.requires.0) at c.in-Some.ensures) in
     clash-found c.args.pairs.now _ _ f.0 (omega (arith, f.1))
 
 pub returns-in-None : goal.returns-in-None
 returns-in-None c =
-    let f = rw (list-whole c.args.pairs.now c.requires) at c.in-None.ensures in
+    let f = found-below _ _ c.requires.1 None (rw (list-whole c.args.pairs.now c.requires.0) at c.in-None.ensures) in
     clash-nowhere c.args.pairs.now _ _ f
 
 pub overflow_cast-result : goal.overflow_cast-result

@@ -1,9 +1,8 @@
 -- `read` meets its contract, one law for each way through it.
-use Rattle.std.proofs.Common.{◌≡◌, ◌∙◌, ℕ, List, Ok, length, ap, refl, sym, arith}
+use Rattle.std.proofs.Common.{◌≡◌, ◌∙◌, ℕ, Ok, ap, refl, sym, arith}
 use Rattle.std.proofs.lemmas.Result.{err_from_is_err_and}
-use Rattle.blocks.specs.Entries.{entries_of}
 use Rattle.clashes.proofs.Ways.{list-few}
-use Rattle.delivered.proofs.ReadingLaws.{clash-refused, entries-refused, frames-refused, list-refused, none-refused, taken, total-refused}
+use Rattle.delivered.proofs.ReadingLaws.{clash-refused, entries-refused, frames-refused, list-refused, none-refused, owners-below, taken, total-refused}
 use Rattle.delivered.specs.Reading.{delivered_reading}
 use Rattle.delivered.proofs.reader.Delivered.read.Goals.{After-total}
 use Rattle.delivered.proofs.reader.Delivered.read.Goals as goal
@@ -40,7 +39,12 @@ returns-in_err-check_entries-clause-refused c =
     {k = r.cause} {i = r.input} {p = r.place} (sym f ∙ c.in_err-check_entries.was))
 
 pub check_pairs-requires : goal.check_pairs-requires
-check_pairs-requires c = list-few _ (sym c.read_pairs.ensures ∙ c.in_ok-read_pairs.was)
+check_pairs-requires c =
+    let b = rw c.in_ok-blocks.was at c.read.ensures.accepted in
+    let f = rw b.1 at c.check_entries.ensures in (
+      list-few _ (sym c.read_pairs.ensures ∙ c.in_ok-read_pairs.was),
+      rw b.1 (owners-below _ _ (sym c.check_total.ensures ∙ c.in_ok-check_total.was) (sym f ∙ c.in_ok-check_entries.was)),
+    )
 
 pub returns-in_err-check_pairs-clause-refused : goal.returns-in_err-check_pairs-clause-refused
 returns-in_err-check_pairs-clause-refused c =
