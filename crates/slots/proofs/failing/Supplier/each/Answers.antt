@@ -15,7 +15,7 @@ returns-then-self g c = λ d h.
     each-bottom c.args.self.ruled.lawful d _ h c.args.d.total c.args.bytes.now c.if-self.true few.0 (zeros-front _ _ (omega (arith, few.1, c.told-bytes)) (c.fill.ensures.after (λ y e. e)))
 
 pub each_failing_entry-requires : goal.each_failing_entry-requires
-each_failing_entry-requires g c = (omega arith, (accepted-few 1 _ c.args.d.read, c.requires))
+each_failing_entry-requires g c = (omega arith, (accepted-few 1 _ c.args.d.read, c.requires, c.args.self.right))
 
 pub returns : goal.returns
 returns g c = λ d h.

@@ -46,7 +46,7 @@ look-below-requires g c =
     let p = c.requires.0 in
     let l = c.loop-before in
     let is : c.from-e.result ≡ nth (entries_of c.args.d.now) (suc c.in-Some.before) = c.from-e.ensures ∙ h.entry_suc in
-    (omega arith, state-small p.2 (rw (← h.same) at l.invariant.stated) (omega (arith, h.before, p.0)) is (ap (λ (o : ℕ). get_or l.states o 0) c.from.ensures))
+    (omega arith, (state-small p.2 (rw (← h.same) at l.invariant.stated) (omega (arith, h.before, p.0)) is (ap (λ (o : ℕ). get_or l.states o 0) c.from.ensures), c.requires.2))
 
 pub offset_bounds-states-before : goal.offset_bounds-states-before
 offset_bounds-states-before g c = let h = here g (goal.at.offset_bounds-states-before g c).In-Some in omega (arith, h.before, c.requires.0.1)
@@ -63,7 +63,7 @@ loop-before-preserved g c =
     let p = c.requires.0 in
     let l = c.loop-before in
     let i = l.invariant in
-    let b = under c.args.exclusions.pairs.now in
+    let b = under c.args.marked.exclusions.pairs.now in
     let is : c.from-e.result ≡ nth (entries_of c.args.d.now) (suc c.in-Some.before) = c.from-e.ensures ∙ h.entry_suc in
     let read : get_or l.states c.from.result 0 ≡ get_or l.states c.from-e.result.owner 0 = ap (λ (o : ℕ). get_or l.states o 0) c.from.ensures in
     let S = rw (← h.same) at i.stated in

@@ -19,6 +19,6 @@ invariant-loop-before g l = record {
   stated : Stated l.d l.self.table.now g.row.BUCKETS l.self.cells.now l.self.used (length l.yielded) l.states;
   sized : length l.bytes ≡ 1008;
   so-far : (ss : List Slot) → Indexed ss l.self.table.now g.row.BUCKETS l.self.cells.now l.self.used
-      → (l.none ≡ eqb (first_from (holds_by_slots (under l.exclusions.pairs.now) ss (entries_of l.d)) 1 (length l.yielded)) 0)
-      × (l.bytes ≡ stored l.initial.bytes 0 (listed (λ n. bit (not (holds_by_slots (under l.exclusions.pairs.now) ss (entries_of l.d) n))) 1 (length l.yielded)));
+      → (l.none ≡ eqb (first_from (holds_by_slots (under l.marked.exclusions.pairs.now) ss (entries_of l.d)) 1 (length l.yielded)) 0)
+      × (l.bytes ≡ stored l.initial.bytes 0 (listed (λ n. bit (not (holds_by_slots (under l.marked.exclusions.pairs.now) ss (entries_of l.d) n))) 1 (length l.yielded)));
 }
