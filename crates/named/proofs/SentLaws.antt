@@ -98,7 +98,7 @@ module _ {e x : Entry} {b : Bool} (q : x ≡ e) (t : b ≡ (is_named x && named_
 -- ---- no dictionary
 
 -- what holds of a dictionary of no bytes holds of one of length 0
-none-given : (F : List ℕ → Type 0) (D : List ℕ) → length D ≡ 0 → F [] → F D
+pub none-given : (F : List ℕ → Type 0) (D : List ℕ) → length D ≡ 0 → F [] → F D
 none-given F [] e h = h
 none-given F (x ∷ D) e h = absurd (omega arith)
 
@@ -132,7 +132,7 @@ module _ (i : ℕ) (s : List ℕ) where
   sent-accepted e = let n = named_none i s in none-goes ∙ rw (n, e)
 
 -- a list is refused as input 0
-list-input : (P : List ℕ) {k : Cause} {i p : ℕ} → pairs_reading P ≡ refused k i p → i ≡ 0
+pub list-input : (P : List ℕ) {k : Cause} {i p : ℕ} → pairs_reading P ≡ refused k i p → i ≡ 0
 unfolding pairs_reading
 list-input P e = (refused-finding 0 (pair_count P) (first (pair_faults P)) e).0
 

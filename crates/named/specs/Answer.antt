@@ -9,6 +9,7 @@ use Rattle.fit.specs.Answer.{FitAnswer, fit_of}
 use Rattle.fit.specs.Counted.{table_adds, with_table}
 use Rattle.fit.specs.declared.Counted.{Counted}
 use Rattle.names.specs.NamedReading.{dictionary_of, dictionary_reading, named_unfolding, sent_of, unfolding_of}
+use Rattle.narrowest.specs.Answer.{narrowed_of, narrowest_of}
 use Rattle.normal.specs.Answer.{normalise_of, normalised_of}
 use Rattle.blocks.specs.Reading.{Reading}
 use Rattle.pairs.specs.Pairs.{pairs_reading}
@@ -38,6 +39,21 @@ output_named P D c d out =
     unless_refused (λ e. out) (pairs_reading P)
     (unless_refused (λ e. out) (unfolding_of D 1 c)
     (unless_refused (λ e. out) (unfolding_of D 2 d) (output_of P (sent_of D c) (sent_of D d) out)))
+
+-- ---- the narrowest description that contains two
+
+-- [R25] 11, the dictionary, input 1, input 2
+unfoldable pub narrowest_named : List ℕ → List ℕ → List ℕ → List ℕ → List ℕ → Reading
+narrowest_named P D a b out =
+    unless_refused Err (pairs_reading P)
+    (unless_refused Err (unfolding_of D 1 a)
+    (unless_refused Err (unfolding_of D 2 b) (narrowest_of P (sent_of D a) (sent_of D b) out)))
+
+unfoldable pub narrowed_named : List ℕ → List ℕ → List ℕ → List ℕ → List ℕ → List ℕ
+narrowed_named P D a b out =
+    unless_refused (λ e. out) (pairs_reading P)
+    (unless_refused (λ e. out) (unfolding_of D 1 a)
+    (unless_refused (λ e. out) (unfolding_of D 2 b) (narrowed_of P (sent_of D a) (sent_of D b) out)))
 
 -- ---- the fit answer
 
