@@ -42,3 +42,13 @@ pub mod RankingKept
 pub mod EarningAnswered
 -- Fitting all items of a delivered record refuses exactly by the first row that applies, and each byte says whether its item fits.
 pub mod ItemsKept
+-- The narrowest description that contains two: of accepted inputs, as entries and in blocks,
+pub mod NarrowestWritten
+-- as for the unfolded descriptions,
+pub mod NarrowestUnfolded
+-- refused exactly by the first row that applies,
+pub mod NarrowestOrder
+-- and what its answer says.
+pub mod NarrowestKept
+-- Examples of the narrowest description compute.
+pub mod NarrowestExamples

@@ -42,7 +42,7 @@ pub record Alike (s t : List ℕ) : Type 0 where
   pub size : length s ≡ length t
 
 -- what a call goes on with, and the plain description
-sent-alike : (D s : List ℕ) → Admitted D s → Alike (sent_of D s) (plain_of D s)
+pub sent-alike : (D s : List ℕ) → Admitted D s → Alike (sent_of D s) (plain_of D s)
 sent-alike D s A = record {
   read = λ i. sent-read D s A i ∙ sym (plain-read D s A i);
   entries = sent-plain-entries D s A;

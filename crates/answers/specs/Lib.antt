@@ -10,3 +10,7 @@ pub mod Ranking
 pub mod Earning
 -- Fitting all items of a delivered record: by which row it is refused, and what its bytes say.
 pub mod Items
+-- Asking for the narrowest description that contains two: by which row it is refused, and what its answer says of the output.
+pub mod Narrowest
+-- Examples of the narrowest description, as one list.
+pub mod NarrowestExamples

@@ -3,6 +3,8 @@
 use Rattle.std.specs.Prelude.{◌≡◌, ℕ, ◌*◌, ◌+◌, ◌%◌, ◌<◌, ◌≤◌, true, false, List, [], length, None, Ok, ◌≢◌, ◌↔◌, ◌⊎◌}
 use Rattle.std.proofs.Math.Option.{none, some}
 use mathlib.Core.List.{Memᴰ}
+use Rattle.answers.specs.NarrowestExamples as joins
+use Rattle.answers.specs.Narrowest.{SevenDue, both_bytes, narrowest_with}
 use Rattle.answers.specs.Promise.{Admitted, SameItemsNamed, normal_bytes, unfolded_list}
 use Rattle.answers.specs.Refusals.{AcceptedBy, NameRefused, ServicesTaken, SizeRefused}
 use Rattle.base.specs.Ascending.{Sorted}
@@ -39,9 +41,11 @@ use Rattle.meaning.specs.NormalExamples as forms
 use Rattle.meaning.specs.RowEntries.{entry_before}
 use Rattle.meaning.specs.Rules.{Applies}
 use Rattle.meaning.specs.StarredCases as starred
-use Rattle.named.specs.Answer.{compare_named, fit_named, normalise_named, normalised_named, output_named}
+use Rattle.named.specs.Answer.{compare_named, fit_named, narrowed_named, narrowest_named, normalise_named, normalised_named, output_named}
 use Rattle.names.specs.NamedReading.{dictionary_reading, named_reading, plain_of}
 use Rattle.narrow.specs.Narrowest.{narrowest_entries}
+use Rattle.narrow_listed.specs.Listed.{narrowest_under}
+use Rattle.narrowest.specs.Answer as narrowest
 use Rattle.names.specs.Promise.{Plain}
 use Rattle.normal.specs.Answer as normal
 use Rattle.normal.specs.Answer.{normalise_of, normalise_under, normalised_of, normalised_under}
@@ -129,6 +133,18 @@ SameBytesContained =
     → (first_blocks k (normalised_named P D c out) ≡ first_blocks k' (normalised_named P D d out'))
     ↔ ((compare_named P D c d o ≡ Ok None) × (compare_named P D d c o' ≡ Ok None))
 
+-- ---- the narrowest description that contains two
+
+-- [G9] without pairs an output as long as both is always long enough, for any two that are accepted with at most 16 blocks together
+abbrev pub NarrowestHasRoom : Type 0
+NarrowestHasRoom =
+    (D a b out : List ℕ) → Admitted D a → Admitted D b → both_bytes D a b ≤ 8192 → both_bytes D a b ≤ length out
+    → narrowest_named [] D a b out ≡ Ok (length (narrowest_with [] D a b))
+
+-- the examples compute, whichever description comes first
+abbrev pub NarrowestExamples : Type 0
+NarrowestExamples = (l : joins.Line) → Memᴰ l joins.lines → joins.Right l
+
 -- ---- the comparison and the fit answer
 
 abbrev pub ContainedFits : Type 0
@@ -142,6 +158,7 @@ EmptyListAsBefore =
     ((s d : List ℕ) → fit_of [] s d ≡ plain_fit s d)
     × ((d out : List ℕ) → (normalise_of [] d out ≡ normalise_under standing d out) × (normalised_of [] d out ≡ normalised_under standing d out))
     × ((c d out : List ℕ) → (compare_of [] c d out ≡ compare_under standing c d out) × (output_of [] c d out ≡ output_under standing c d out))
+    × ((a b : List ℕ) → narrowest_under [] a b ≡ narrowest_of a b)
 
 -- ---- names
 
@@ -156,6 +173,9 @@ AsUnfolded =
     × ((P D c list out : List ℕ) → AcceptedBy D c → ServicesTaken D list
     → (catalogue_of P D c list out ≡ catalogue_of P [] (plain_of D c) (unfolded_list D list) out)
     × (filled_of P D c list out ≡ filled_of P [] (plain_of D c) (unfolded_list D list) out))
+    × ((P D a b out : List ℕ) → Admitted D a → Admitted D b
+    → (narrowest_named P D a b out ≡ narrowest_named P [] (plain_of D a) (plain_of D b) out)
+    × (narrowed_named P D a b out ≡ narrowed_named P [] (plain_of D a) (plain_of D b) out))
 
 abbrev pub WithoutNames : Type 0
 WithoutNames =
@@ -165,6 +185,8 @@ WithoutNames =
     → (normalise_named P D d out ≡ normalise_of P d out) × (normalised_named P D d out ≡ normalised_of P d out))
     × ((P D c d out : List ℕ) (m i n j l : ℕ) → dictionary_reading D ≡ Ok m → reading_of Description i c ≡ Ok n → reading_of Description j d ≡ Ok l
     → (compare_named P D c d out ≡ compare_of P c d out) × (output_named P D c d out ≡ output_of P c d out))
+    × ((P D a b out : List ℕ) (m i n j l : ℕ) → dictionary_reading D ≡ Ok m → reading_of Description i a ≡ Ok n → reading_of Description j b ≡ Ok l
+    → (narrowest_named P D a b out ≡ narrowest.narrowest_of P a b out) × (narrowed_named P D a b out ≡ narrowest.narrowed_of P a b out))
 
 -- ---- numbers
 
@@ -178,6 +200,7 @@ SevenLast =
     × ((D d out : List ℕ) → ((read.returned (unfold_at D 1 d out)).number ≡ 7) ↔ (AcceptedBy D d × (length out < length (plain_of D d))))
     × ((P D c list out : List ℕ) → ((read.returned (catalogue_of P D c list out)).number ≡ 7)
     ↔ ((NoneApplies (pair_faults P) × (AcceptedBy D c × ServicesTaken D list)) × (length out < length (parts_of list))))
+    × ((P D a b out : List ℕ) → ((read.returned (narrowest_named P D a b out)).number ≡ 7) ↔ SevenDue P D a b out)
 
 -- 8 of a dictionary, and of a list of services, which is input 2; 12 of a specimen; 13 and 14 of a description
 abbrev pub RowsByNumber : Type 0

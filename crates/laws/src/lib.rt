@@ -9,7 +9,7 @@
 #![tactic(auto)]
 
 ghost use Rattle.laws.specs.Laws.{BytesAndEntries, ExchangeOtherwise, ExchangeRefused, WrittenIsAccepted};
-ghost use Rattle.laws.specs.Laws.{DeskExamples, NarrowestOfSheets, RowsByNumber, RulesLeaveNothingOut, SevenLast, YesAndNo};
+ghost use Rattle.laws.specs.Laws.{DeskExamples, NarrowestExamples, NarrowestHasRoom, NarrowestOfSheets, RowsByNumber, RulesLeaveNothingOut, SevenLast, YesAndNo};
 ghost use Rattle.laws.specs.Laws.{AsUnfolded, ContainedFits, EmptyListAsBefore, WithoutNames};
 ghost use Rattle.laws.specs.Laws.{OneSetOfBytes, SameBytesContained, SameBytesExactly};
 
@@ -52,6 +52,16 @@ pub fn one_set_of_bytes()
 // of some record fits at least one of them.
 pub fn narrowest_of_sheets()
     ensures { NarrowestOfSheets }
+{}
+
+// [G9] With no pairs an output as long as both inputs has room for the narrowest description that contains them.
+pub fn narrowest_has_room()
+    ensures { NarrowestHasRoom }
+{}
+
+// [G2] [G3] [G9] The examples of the narrowest description.
+pub fn narrowest_examples()
+    ensures { NarrowestExamples }
 {}
 
 // [C15] What fits a description fits every description that contains it.
