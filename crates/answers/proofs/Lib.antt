@@ -40,6 +40,8 @@ pub mod CatalogueUnfolded
 pub mod RankingKept
 -- Asking which entries earn a yes refuses exactly by the first row that applies, and what is left is contained by the single comparison.
 pub mod EarningAnswered
+-- Asking which entries fail: refused exactly by the first row that applies, and what its bytes say beside the comparison.
+pub mod FailingAnswered
 -- Fitting all items of a delivered record refuses exactly by the first row that applies, and each byte says whether its item fits.
 pub mod ItemsKept
 -- The narrowest description that contains two: of accepted inputs, as entries and in blocks,

@@ -8,6 +8,8 @@ pub mod Calls
 pub mod Ranking
 -- Asking which entries earn a yes: by which row it is refused, and what its bytes say.
 pub mod Earning
+-- Asking which entries fail: what its bytes say, beside the single comparison.
+pub mod Failing
 -- Fitting all items of a delivered record: by which row it is refused, and what its bytes say.
 pub mod Items
 -- Asking for the narrowest description that contains two: by which row it is refused, and what its answer says of the output.
