@@ -42,6 +42,8 @@ pub mod RankingKept
 pub mod EarningAnswered
 -- Asking which entries fail: refused exactly by the first row that applies, and what its bytes say beside the comparison.
 pub mod FailingAnswered
+-- Asking what a description lacks refuses exactly by the first row that applies, and with the addition it is contained by the single comparison.
+pub mod MissingAnswered
 -- Fitting all items of a delivered record refuses exactly by the first row that applies, and each byte says whether its item fits.
 pub mod ItemsKept
 -- The narrowest description that contains two: of accepted inputs, as entries and in blocks,

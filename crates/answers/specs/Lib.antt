@@ -10,6 +10,8 @@ pub mod Ranking
 pub mod Earning
 -- Asking which entries fail: what its bytes say, beside the single comparison.
 pub mod Failing
+-- Asking what a description lacks: by which row it is refused, and what its answer says.
+pub mod Missing
 -- Fitting all items of a delivered record: by which row it is refused, and what its bytes say.
 pub mod Items
 -- Asking for the narrowest description that contains two: by which row it is refused, and what its answer says of the output.
