@@ -3,11 +3,11 @@
 use reference::{earning, encode, Entry};
 
 use crate::chance::{description, Chance, Size};
-use crate::comparing::{every_tiny_description, weakened};
-use crate::marks::{check_fewest, contained, fewest_of_all_sets};
-use crate::naming::{chain, refusal};
-use crate::notation::{blocks, entries, entry, list, FILL};
-use crate::wrong::{marked, needs, refused, wrong_descriptions};
+use crate::comparing::weakened;
+use crate::marks::{check_fewest, contained, each_tiny_pair, fewest_of_all_sets};
+use crate::naming::chain;
+use crate::notation::{blocks, entries, entry, list};
+use crate::wrong::{marked, needs, refuses_inputs};
 
 /// The answer and the marks, with a longer output than needed.
 fn earned(pairs: &[u8], c: &[Entry], d: &[Entry]) -> (bool, Vec<bool>) {
@@ -76,15 +76,9 @@ fn check(pairs: &[u8], c: &[Entry], d: &[Entry]) -> bool {
 
 #[test]
 fn all_tiny_descriptions() {
-    for (link, pairs) in [(1, list(&[])), (32_768, list(&[(1, 2)]))] {
-        let all = every_tiny_description(link, 2);
-        for (c, d) in all
-            .iter()
-            .flat_map(|c| all.iter().step_by(4).map(move |d| (c, d)))
-        {
-            check(&pairs, c, d);
-        }
-    }
+    each_tiny_pair((1, 4), |pairs, c, d| {
+        check(pairs, c, d);
+    });
 }
 
 const SMALL: Size = Size {
@@ -114,26 +108,7 @@ fn drawn_descriptions() {
 
 #[test]
 fn inputs() {
-    let good = blocks("1,1");
-    for wrong in wrong_descriptions() {
-        for other in [&good[..], &[], &wrong.bytes] {
-            refused(wrong.as_input(1), |out| {
-                earning(&[], &wrong.bytes, other, out)
-            });
-        }
-        refused(wrong.as_input(2), |out| {
-            earning(&[], &good, &wrong.bytes, out)
-        });
-    }
-    let named = blocks("1,1; 9,1");
-    refused(refusal(4, 1, 2), |out| earning(&[], &named, &[], out));
-    refused(refusal(4, 2, 2), |out| earning(&[], &good, &named, out));
-    refused(refusal(11, 0, 0), |out| {
-        earning(&[1], &named, &[FILL; 9], out)
-    });
-    refused(refusal(11, 0, 1), |out| {
-        earning(&[1, 0, 1, 0], &[], &[], out)
-    });
+    refuses_inputs(earning);
 }
 
 #[test]

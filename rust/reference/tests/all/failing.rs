@@ -3,11 +3,10 @@
 use reference::{encode, failing, Entry};
 
 use crate::chance::{description, Chance, Size};
-use crate::comparing::{every_tiny_description, weakened};
-use crate::marks::{contained, cut};
-use crate::naming::refusal;
-use crate::notation::{blocks, compared_under, entries, entry, list, Answer, FILL};
-use crate::wrong::{marked, needs, refused, wrong_descriptions};
+use crate::comparing::weakened;
+use crate::marks::{contained, cut, each_tiny_pair};
+use crate::notation::{compared_under, entries, entry, list, Answer};
+use crate::wrong::{marked, needs, needs_a_byte_for_each_asked, refuses_inputs};
 
 /// The answer and the marks, with a longer output than needed.
 fn failed(pairs: &[u8], c: &[Entry], d: &[Entry]) -> (bool, Vec<bool>) {
@@ -57,15 +56,9 @@ fn check(pairs: &[u8], c: &[Entry], d: &[Entry]) -> bool {
 
 #[test]
 fn all_tiny_descriptions() {
-    for (link, pairs) in [(1, list(&[])), (32_768, list(&[(1, 2)]))] {
-        let all = every_tiny_description(link, 2);
-        for (c, d) in all
-            .iter()
-            .flat_map(|c| all.iter().step_by(4).map(move |d| (c, d)))
-        {
-            check(&pairs, c, d);
-        }
-    }
+    each_tiny_pair((1, 4), |pairs, c, d| {
+        check(pairs, c, d);
+    });
 }
 
 #[test]
@@ -90,35 +83,12 @@ fn drawn_descriptions() {
 
 #[test]
 fn inputs() {
-    let good = blocks("1,1");
-    for wrong in wrong_descriptions() {
-        for other in [&good[..], &[], &wrong.bytes] {
-            refused(wrong.as_input(1), |out| {
-                failing(&[], &wrong.bytes, other, out)
-            });
-        }
-        refused(wrong.as_input(2), |out| {
-            failing(&[], &good, &wrong.bytes, out)
-        });
-    }
-    let named = blocks("1,1; 9,1");
-    refused(refusal(4, 1, 2), |out| failing(&[], &named, &[], out));
-    refused(refusal(4, 2, 2), |out| failing(&[], &good, &named, out));
-    refused(refusal(11, 0, 0), |out| {
-        failing(&[1], &named, &[FILL; 9], out)
-    });
-    refused(refusal(11, 0, 1), |out| {
-        failing(&[1, 0, 1, 0], &[], &[], out)
-    });
+    refuses_inputs(failing);
 }
 
 #[test]
 fn outputs() {
-    for (d, length) in [("", 0), ("1,1", 1), ("5,1 [1,1; 1,2]", 3)] {
-        for c in ["", "6", "1,1; 1,2; 1,3; 1,4"] {
-            needs(length, |out| failing(&[], &blocks(c), &blocks(d), out));
-        }
-    }
+    needs_a_byte_for_each_asked(failing);
     // The length of both has no limit of its own.
     let most = encode(&vec![entry(1, 0, 1, 0); 1008]);
     needs(1008, |out| failing(&[], &most, &most, out));

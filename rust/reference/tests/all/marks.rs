@@ -2,7 +2,8 @@
 
 use reference::{encode, Entry};
 
-use crate::notation::{compared_under, Answer};
+use crate::comparing::every_tiny_description;
+use crate::notation::{compared_under, list, Answer};
 
 /// Whether C is contained in D by the single comparison.
 pub fn contained(pairs: &[u8], c: &[Entry], d: &[Entry]) -> bool {
@@ -96,4 +97,20 @@ pub fn fewest_of_all_sets(entries: &[Entry], keeps: impl Fn(&[Entry]) -> bool) -
     let mut sets = (0..1u32 << count).filter(of_facts);
     let least = sets.find(|&set| keeps(&cut(entries, &marks(set))));
     owned(entries, &marks(least.unwrap()))
+}
+
+/// Hands over tiny descriptions, of the first every so many and of the second
+/// every so many, with links on both sides of 32,768, under a list of pairs.
+pub fn each_tiny_pair(
+    (c_step, d_step): (usize, usize),
+    mut check: impl FnMut(&[u8], &[Entry], &[Entry]),
+) {
+    for (link, pairs) in [(1, list(&[])), (32_768, list(&[(1, 2)]))] {
+        let all = every_tiny_description(link, 2);
+        for c in all.iter().step_by(c_step) {
+            for d in all.iter().step_by(d_step) {
+                check(&pairs, c, d);
+            }
+        }
+    }
 }

@@ -3,11 +3,11 @@
 use reference::{encode, missing, Entry, Missing};
 
 use crate::chance::{description, Chance, Size};
-use crate::comparing::{every_tiny_description, weakened};
-use crate::marks::{check_fewest, contained, fewest_of_all_sets};
+use crate::comparing::weakened;
+use crate::marks::{check_fewest, contained, each_tiny_pair, fewest_of_all_sets};
 use crate::naming::refusal;
-use crate::notation::{blocks, entries, entry, list, normal_under, FILL};
-use crate::wrong::{marked, needs, refused, wrong_descriptions};
+use crate::notation::{blocks, entries, entry, list, normal_under};
+use crate::wrong::{marked, needs, needs_a_byte_for_each_asked, refused, refuses_inputs};
 
 /// The answer and the marks, with a longer output than needed.
 fn lacking(pairs: &[u8], c: &[Entry], d: &[Entry]) -> (Missing, Vec<bool>) {
@@ -95,16 +95,9 @@ fn check(pairs: &[u8], c: &[Entry], d: &[Entry]) -> Missing {
 
 #[test]
 fn all_tiny_descriptions() {
-    for (link, pairs) in [(1, list(&[])), (32_768, list(&[(1, 2)]))] {
-        let all = every_tiny_description(link, 2);
-        for (c, d) in all
-            .iter()
-            .step_by(5)
-            .flat_map(|c| all.iter().map(move |d| (c, d)))
-        {
-            check(&pairs, c, d);
-        }
-    }
+    each_tiny_pair((5, 1), |pairs, c, d| {
+        check(pairs, c, d);
+    });
 }
 
 #[test]
@@ -135,26 +128,7 @@ fn drawn_descriptions() {
 
 #[test]
 fn inputs() {
-    let good = blocks("1,1");
-    for wrong in wrong_descriptions() {
-        for other in [&good[..], &[], &wrong.bytes] {
-            refused(wrong.as_input(1), |out| {
-                missing(&[], &wrong.bytes, other, out)
-            });
-        }
-        refused(wrong.as_input(2), |out| {
-            missing(&[], &good, &wrong.bytes, out)
-        });
-    }
-    let named = blocks("1,1; 9,1");
-    refused(refusal(4, 1, 2), |out| missing(&[], &named, &[], out));
-    refused(refusal(4, 2, 2), |out| missing(&[], &good, &named, out));
-    refused(refusal(11, 0, 0), |out| {
-        missing(&[1], &named, &[FILL; 9], out)
-    });
-    refused(refusal(11, 0, 1), |out| {
-        missing(&[1, 0, 1, 0], &[], &[], out)
-    });
+    refuses_inputs(missing);
 }
 
 fn has(count: usize) -> Vec<u8> {
@@ -178,11 +152,7 @@ fn together() {
 
 #[test]
 fn outputs() {
-    for (d, length) in [("", 0), ("1,1", 1), ("5,1 [1,1; 1,2]", 3)] {
-        for c in ["", "6", "1,1; 1,2; 1,3; 1,4"] {
-            needs(length, |out| missing(&[], &blocks(c), &blocks(d), out));
-        }
-    }
+    needs_a_byte_for_each_asked(missing);
 }
 
 #[test]

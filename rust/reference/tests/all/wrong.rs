@@ -123,3 +123,33 @@ pub fn marked<T: Copy>(
     assert!(out[end..].iter().all(|&byte| byte == FILL));
     answer.map(|answer| (answer, out[..end].iter().map(|&byte| byte == 1).collect()))
 }
+
+/// A call under a list of pairs that marks entries of one of two descriptions.
+pub type Marking<T> = fn(&[u8], &[u8], &[u8], &mut [u8]) -> Result<T, Refusal>;
+
+/// Checks that such a call refuses wrong descriptions as either input, names in
+/// either, and wrong lists, each before all that comes later.
+pub fn refuses_inputs<T: Debug>(call: Marking<T>) {
+    let good = blocks("1,1");
+    for wrong in wrong_descriptions() {
+        for other in [&good[..], &[], &wrong.bytes] {
+            refused(wrong.as_input(1), |out| call(&[], &wrong.bytes, other, out));
+        }
+        refused(wrong.as_input(2), |out| call(&[], &good, &wrong.bytes, out));
+    }
+    let named = blocks("1,1; 9,1");
+    refused(refusal(4, 1, 2), |out| call(&[], &named, &[], out));
+    refused(refusal(4, 2, 2), |out| call(&[], &good, &named, out));
+    refused(refusal(11, 0, 0), |out| call(&[1], &named, &[FILL; 9], out));
+    refused(refusal(11, 0, 1), |out| call(&[1, 0, 1, 0], &[], &[], out));
+}
+
+/// Checks that such a call needs a byte for each entry of the second
+/// description, whatever it answers.
+pub fn needs_a_byte_for_each_asked<T: Debug>(call: Marking<T>) {
+    for (d, length) in [("", 0), ("1,1", 1), ("5,1 [1,1; 1,2]", 3)] {
+        for c in ["", "6", "1,1; 1,2; 1,3; 1,4"] {
+            needs(length, |out| call(&[], &blocks(c), &blocks(d), out));
+        }
+    }
+}
