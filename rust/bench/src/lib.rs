@@ -4,6 +4,7 @@
 
 pub mod catalogue;
 pub mod drafting;
+pub mod earning;
 pub mod excluding;
 pub mod hierarchy;
 pub mod inputs;

@@ -4,6 +4,7 @@
 
 mod delivered;
 mod desks;
+mod earned;
 mod listed;
 mod named;
 mod ranked;
@@ -72,6 +73,7 @@ fn main() {
         Some("sheets") => return sheets::rows(),
         Some("stored") => return stores::rows(),
         Some("desk") => return desks::rows(),
+        Some("earning") => return earned::rows(),
         _ => {}
     }
     model_rows();
@@ -83,6 +85,7 @@ fn main() {
     stores::rows();
     sheets::rows();
     delivered::rows();
+    earned::rows();
     turns::rows();
 }
 

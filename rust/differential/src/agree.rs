@@ -8,6 +8,7 @@
 
 mod catalogue;
 mod desk;
+mod earning;
 mod hierarchy;
 mod items;
 mod sheets;
@@ -18,13 +19,15 @@ use std::fmt;
 use goltximen::Under;
 use reference::{encode, Comparison, Entry, Refusal};
 
+use crate::catalogue::{cut, MOST_SERVICES};
 use crate::chance::Chance;
 use crate::damage::Sort;
 use crate::excluding::Given;
-use crate::{length_of, MOST_DESCRIPTION};
+use crate::{length_of, BLOCK, MOST_DESCRIPTION};
 
 pub use catalogue::catalogue;
 pub use desk::{bytes_of, desk_bytes, entry_of, is_given, Drafting};
+pub use earning::earning;
 pub use hierarchy::hierarchy;
 pub use items::fit_all;
 pub use sheets::read_sheet;
@@ -217,6 +220,43 @@ fn in_form(refusal: goltximen::Refusal) -> Refusal {
 /// The answer for a refusal.
 fn refused(refusal: Refusal) -> Answer {
     Answer::Refused(refusal.number, refusal.input)
+}
+
+/// The refusal of the output alone.
+const TOO_SHORT: Refusal = Refusal {
+    number: 7,
+    input: 0,
+    place: 0,
+};
+
+/// The refusal of the list of pairs, if it has one: it is looked at before the lengths of the inputs.
+fn of_pairs(under: Under) -> Option<Refusal> {
+    let refusal = under.fit(&[], &[]).err();
+    let of_pairs = refusal.filter(|refusal| refusal.reason == goltximen::Reason::Pairs);
+    of_pairs.map(in_form)
+}
+
+/// The services of a list, or the refusal of the list as a whole.
+fn services_of(list: &[u8]) -> Result<Vec<&[u8]>, Refusal> {
+    let of_list = |number| Refusal {
+        number,
+        input: 2,
+        place: 0,
+    };
+    if list.is_empty() || !list.len().is_multiple_of(BLOCK) {
+        return Err(of_list(1));
+    }
+    let services = cut(list);
+    match services.len() > MOST_SERVICES {
+        true => Err(of_list(8)),
+        false => Ok(services),
+    }
+}
+
+/// Whether a description is contained in another, by the library; refused is not.
+fn is_contained(under: Under, c: &[u8], d: &[u8]) -> bool {
+    let mut out = vec![0; 2 * length_of(MOST_DESCRIPTION)];
+    under.compare(c, d, &mut out) == Ok(goltximen::Comparison::Contained)
 }
 
 /// Reads a description.

@@ -147,6 +147,31 @@ pub fn way(entries: &[Entry], owner: u16) -> Vec<u16> {
     links
 }
 
+/// The marks, and one for each entry that owns a marked one, at any distance.
+pub fn with_owners(entries: &[Entry], marks: &[bool]) -> Vec<bool> {
+    let mut all = marks.to_vec();
+    // Owners are earlier, so each is come to after all that it owns.
+    for (at, e) in entries.iter().enumerate().rev() {
+        if all[at] && e.owner > 0 {
+            all[usize::from(e.owner) - 1] = true;
+        }
+    }
+    all
+}
+
+/// The marked entries, whose owners are marked, with the numbers that they have then.
+pub fn cut_down(entries: &[Entry], marks: &[bool]) -> Vec<Entry> {
+    let (mut left, mut numbers) = (Vec::new(), vec![0]);
+    for (e, &mark) in entries.iter().zip(marks) {
+        if mark {
+            let owner = numbers[usize::from(e.owner)];
+            left.push(Entry { owner, ..*e });
+        }
+        numbers.push(word(left.len()));
+    }
+    left
+}
+
 /// A description that goes on into a link of which C allows no item, and asks there what nothing fits; if C has such a link.
 pub fn past_at_most_0(chance: &mut Chance, c: &[Entry]) -> Option<Vec<Entry>> {
     let shut: Vec<&Entry> = c.iter().filter(|e| e.kind == 4 && e.number == 0).collect();

@@ -7,7 +7,8 @@
 //! keep the rule that links from 32,768 up never lead to two items, and the list of properties that exclude each
 //! other which a call is given. A call with a dictionary has to give what the call without one gives for the unfolded
 //! descriptions, the catalogue and the hierarchy what single comparisons give, and a field sheet what its profile says of
-//! a description. A drafting desk has to hold what the reference's desk holds after the same calls.
+//! a description. A drafting desk has to hold what the reference's desk holds after the same calls. The entries that earn a yes have
+//! to be those that single comparisons leave, one after the other.
 //!
 //! | Module | Subject |
 //! |---|---|

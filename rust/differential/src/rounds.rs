@@ -2,6 +2,7 @@
 
 mod catalogue;
 mod desk;
+mod earning;
 mod hierarchy;
 mod items;
 mod sheets;
@@ -161,7 +162,7 @@ impl Rounds {
     ///
     /// The difference.
     pub fn any(&mut self) -> Found {
-        match self.chance.below(83) {
+        match self.chance.below(86) {
             0..=13 => self.pair(),
             14..=17 => self.doubles(),
             18..=24 => self.normal(),
@@ -186,7 +187,9 @@ impl Rounds {
             76..=77 => self.sheets(),
             78..=79 => self.wrong_stores(),
             80..=81 => self.deliveries(),
-            _ => self.wrong_deliveries(),
+            82 => self.wrong_deliveries(),
+            83..=84 => self.earnings(),
+            _ => self.wrong_earnings(),
         }
     }
 

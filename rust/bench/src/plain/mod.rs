@@ -6,6 +6,7 @@
 mod catalogue;
 mod compare;
 pub mod desk;
+mod earning;
 mod entry;
 mod fit;
 mod hierarchy;
@@ -27,6 +28,7 @@ mod unfold;
 
 pub use catalogue::catalogue;
 pub use compare::{compare, compare_with, Comparison};
+pub use earning::earning;
 pub use fit::{fit, fit_with};
 pub use hierarchy::hierarchy;
 pub use items::fit_all;

@@ -2,6 +2,7 @@
 
 mod catalogue;
 mod desk;
+mod earning;
 mod excluding;
 mod hierarchy;
 mod items;

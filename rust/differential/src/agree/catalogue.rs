@@ -3,10 +3,12 @@
 use goltximen::{Reason, Under};
 use reference::Refusal;
 
-use super::{comparison, in_form, refused, unfolded, Answer, Case, Difference, Run};
-use crate::catalogue::{cut, MOST_SERVICES};
+use super::{
+    comparison, in_form, refused, services_of, unfolded, Answer, Case, Difference, Run, TOO_SHORT,
+};
+use crate::catalogue::cut;
 use crate::chance::Chance;
-use crate::{length_of, BLOCK, MOST_DESCRIPTION};
+use crate::{length_of, MOST_DESCRIPTION};
 
 /// The catalogue, with an output of this length. Each byte has to be the single comparison of the library, and a refusal the first
 /// that single comparisons give.
@@ -50,18 +52,7 @@ fn singly(under: Under, c: &[u8], list: &[u8], length: usize) -> Result<Vec<u8>,
         Err(refusal) if refusal.reason != Reason::Output => return Err(in_form(refusal)),
         _ => (),
     }
-    let of_list = |number| Refusal {
-        number,
-        input: 2,
-        place: 0,
-    };
-    if list.is_empty() || !list.len().is_multiple_of(BLOCK) {
-        return Err(of_list(1));
-    }
-    let services = cut(list);
-    if services.len() > MOST_SERVICES {
-        return Err(of_list(8));
-    }
+    let services = services_of(list)?;
     let mut out = vec![0; 2 * length_of(MOST_DESCRIPTION)];
     let mut bytes = Vec::new();
     for (input, service) in (2..).zip(services) {
@@ -73,11 +64,7 @@ fn singly(under: Under, c: &[u8], list: &[u8], length: usize) -> Result<Vec<u8>,
         bytes.push(u8::from(compared == reference::Comparison::Contained));
     }
     if length < bytes.len() {
-        return Err(Refusal {
-            number: 7,
-            input: 0,
-            place: 0,
-        });
+        return Err(TOO_SHORT);
     }
     Ok(bytes)
 }

@@ -1,12 +1,12 @@
 //! The hierarchy, against the reference, against the single comparisons of the library, and by what its tables mean.
 
-use goltximen::{hierarchy_bytes, Reason, Under};
+use goltximen::{hierarchy_bytes, Under};
 use reference::Refusal;
 
-use super::{comparison, in_form, refused, Answer, Case, Difference, Run};
-use crate::catalogue::{cut, MOST_SERVICES};
+use super::{
+    in_form, is_contained, of_pairs, refused, services_of, Answer, Case, Difference, Run, TOO_SHORT,
+};
 use crate::chance::Chance;
-use crate::{length_of, BLOCK, MOST_DESCRIPTION};
 
 /// The hierarchy, with an output of this length. Each byte of its table has to be the single comparison of the library, its superiors
 /// and classes what they mean, and a refusal the first that single calls give.
@@ -46,23 +46,10 @@ pub fn hierarchy(
 
 /// For each service which services contain it, by single comparisons of the library; or the first refusal.
 fn singly(under: Under, list: &[u8], length: usize) -> Result<Vec<Vec<bool>>, Refusal> {
-    let of_list = |number| Refusal {
-        number,
-        input: 2,
-        place: 0,
-    };
-    // The pairs are looked at before the lengths.
-    match under.fit(&[], &[]) {
-        Err(refusal) if refusal.reason == Reason::Pairs => return Err(in_form(refusal)),
-        _ => (),
+    if let Some(refusal) = of_pairs(under) {
+        return Err(refusal);
     }
-    if list.is_empty() || !list.len().is_multiple_of(BLOCK) {
-        return Err(of_list(1));
-    }
-    let services = cut(list);
-    if services.len() > MOST_SERVICES {
-        return Err(of_list(8));
-    }
+    let services = services_of(list)?;
     for (input, service) in (2..).zip(&services) {
         goltximen::read_description(service).map_err(|refusal| Refusal {
             input,
@@ -70,18 +57,9 @@ fn singly(under: Under, list: &[u8], length: usize) -> Result<Vec<Vec<bool>>, Re
         })?;
     }
     if length < hierarchy_bytes(services.len()) {
-        return Err(Refusal {
-            number: 7,
-            input: 0,
-            place: 0,
-        });
+        return Err(TOO_SHORT);
     }
-    let mut out = vec![0; 2 * length_of(MOST_DESCRIPTION)];
-    let mut contained = |c: &[u8], d: &[u8]| {
-        let compared = under.compare(c, d, &mut out).map(comparison);
-        compared.map_err(in_form) == Ok(reference::Comparison::Contained)
-    };
-    let row = |c: &&[u8]| services.iter().map(|d| contained(c, d)).collect();
+    let row = |c: &&[u8]| services.iter().map(|d| is_contained(under, c, d)).collect();
     Ok(services.iter().map(row).collect())
 }
 

@@ -1,5 +1,6 @@
 //! All services in one call: drawn lists, and sweeps over counts, lengths, numbers of blocks and the order of refusals.
 
+use super::sweeps::{self, each_byte, four_services, laid};
 use super::*;
 use differential::catalogue::{cut, MOST_SERVICES};
 use differential::naming::named;
@@ -17,11 +18,6 @@ fn refused(under: Under, c: &[u8], list: &[u8], length: usize) -> Option<(u8, u1
     catalogue(under, c, list, length);
     let refusal = under.catalogue(c, list, &mut vec![0; length]).err()?;
     Some((refusal.reason.number(), refusal.input, refusal.place))
-}
-
-/// The blocks of these texts, end to end.
-fn laid(texts: &[&str]) -> Vec<u8> {
-    texts.iter().flat_map(|text| blocks(text)).collect()
 }
 
 #[test]
@@ -89,26 +85,14 @@ fn each_count_and_length() {
     }
 }
 
-/// Each block of a list with each number that could begin, end or move a service, sealed and not.
+/// Each block of a list with each number that could begin, end or move a service.
 #[test]
 fn each_number_of_each_block() {
-    let two = encode(&mixed(100));
-    let parts = [blocks("1,7"), two.clone(), encode(&mixed(63)), two];
-    let (c, list) = (encode(&mixed(70)), parts.concat());
+    let (c, list) = (encode(&mixed(70)), four_services());
     assert_eq!(cut(&list).len(), 4);
-    for block in 0..list.len() / BLOCK {
-        for number in [0u16, 1, 2, 3, 16, 17, 255, 256, 257, 65_535] {
-            for sealed in [false, true] {
-                let mut list = list.clone();
-                let bytes = &mut list[BLOCK * block..][..BLOCK];
-                bytes[..2].copy_from_slice(&number.to_le_bytes());
-                if sealed {
-                    seal(bytes);
-                }
-                catalogue(Under::default(), &c, &list, 8);
-            }
-        }
-    }
+    sweeps::each_number_of_each_block(&list, |list| {
+        catalogue(Under::default(), &c, list, 8);
+    });
 }
 
 /// Each byte of a list changed, with right checks and without.
@@ -121,32 +105,17 @@ fn each_byte_of_a_list() {
     };
     let c = blocks("9,1; 5,1 [1,7]");
     let list = laid(&["9,1; 5,1 [2,8]", "5,1 [9,1]; 4,1,3"]);
-    for at in 0..list.len() {
-        for change in [1, 0x80] {
-            for sealed in [false, true] {
-                let mut list = list.clone();
-                list[at] ^= change;
-                if sealed {
-                    seal(&mut list[at / BLOCK * BLOCK..][..BLOCK]);
-                }
-                catalogue(under, &c, &list, 3);
-            }
-        }
-    }
+    each_byte(&list, |list| {
+        catalogue(under, &c, list, 3);
+    });
 }
 
 /// Each length of a list, and each length of the last service.
 #[test]
 fn each_length_of_a_list() {
-    let list = laid(&["1,7", "", "1,8"]);
-    for length in 0..=list.len() {
-        let due = match (length, length % BLOCK) {
-            (0, _) | (_, 1..) => Answer::Refused(1, 2),
-            _ => Answer::Count(length / BLOCK),
-        };
-        let answer = catalogue(Under::default(), &list[..BLOCK], &list[..length], 3);
-        assert_eq!(answer, due, "{length}");
-    }
+    let c = blocks("1,7");
+    let call = |list: &[u8]| catalogue(Under::default(), &c, list, 3);
+    sweeps::each_length_of_a_list(call, |services| services);
 }
 
 /// 16 blocks pass, 17 are 1 of that service; the longest list, and far longer ones.

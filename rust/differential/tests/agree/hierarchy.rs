@@ -1,5 +1,6 @@
 //! The catalogue as a hierarchy: drawn families, and sweeps over counts, lengths, numbers of blocks and the order of refusals.
 
+use super::sweeps::{self, each_byte, four_services, laid};
 use super::*;
 use differential::catalogue::MOST_SERVICES;
 use goltximen::hierarchy_bytes;
@@ -16,11 +17,6 @@ fn refused(pairs: &[u8], list: &[u8], length: usize) -> Option<(u8, u16, u16)> {
     hierarchy(pairs, list, length);
     let refusal = goltximen::hierarchy(pairs, list, &mut vec![0; length]).err()?;
     Some((refusal.reason.number(), refusal.input, refusal.place))
-}
-
-/// The blocks of these texts, end to end.
-fn laid(texts: &[&str]) -> Vec<u8> {
-    texts.iter().flat_map(|text| blocks(text)).collect()
 }
 
 #[test]
@@ -84,56 +80,27 @@ fn each_length_of_the_output() {
     }
 }
 
-/// Each block of a list with each number that could begin, end or move a service, sealed and not.
+/// Each block of a list with each number that could begin, end or move a service.
 #[test]
 fn each_number_of_each_block() {
-    let two = encode(&mixed(100));
-    let parts = [blocks("1,7"), two.clone(), encode(&mixed(63)), two];
-    let list = parts.concat();
-    for block in 0..list.len() / BLOCK {
-        for number in [0u16, 1, 2, 3, 16, 17, 255, 256, 257, 65_535] {
-            for sealed in [false, true] {
-                let mut list = list.clone();
-                let bytes = &mut list[BLOCK * block..][..BLOCK];
-                bytes[..2].copy_from_slice(&number.to_le_bytes());
-                if sealed {
-                    seal(bytes);
-                }
-                hierarchy(&[], &list, hierarchy_bytes(6));
-            }
-        }
-    }
+    sweeps::each_number_of_each_block(&four_services(), |list| {
+        hierarchy(&[], list, hierarchy_bytes(6));
+    });
 }
 
 /// Each byte of a list changed, with right checks and without.
 #[test]
 fn each_byte_of_a_list() {
     let list = laid(&["1,7; 5,1 [2,8]", "5,1 [1,7; 2,8]; 4,1,3", "1,7"]);
-    for at in 0..list.len() {
-        for change in [1, 0x80] {
-            for sealed in [false, true] {
-                let mut list = list.clone();
-                list[at] ^= change;
-                if sealed {
-                    seal(&mut list[at / BLOCK * BLOCK..][..BLOCK]);
-                }
-                hierarchy(&[7, 0, 8, 0], &list, 22);
-            }
-        }
-    }
+    each_byte(&list, |list| {
+        hierarchy(&[7, 0, 8, 0], list, 22);
+    });
 }
 
 /// Each length of a list, and each length of the last service.
 #[test]
 fn each_length_of_a_list() {
-    let list = laid(&["1,7", "", "1,8"]);
-    for length in 0..=list.len() {
-        let due = match (length, length % BLOCK) {
-            (0, _) | (_, 1..) => Answer::Refused(1, 2),
-            _ => Answer::Count(hierarchy_bytes(length / BLOCK)),
-        };
-        assert_eq!(hierarchy(&[], &list[..length], 21), due, "{length}");
-    }
+    sweeps::each_length_of_a_list(|list| hierarchy(&[], list, 21), hierarchy_bytes);
 }
 
 /// 16 blocks pass, 17 are 1 of that service; a name of any sort is 4; far longer lists.

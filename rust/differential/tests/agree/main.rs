@@ -3,12 +3,14 @@
 mod catalogue;
 mod desk;
 mod doubles;
+mod earning;
 mod excluding;
 mod hierarchy;
 mod items;
 mod naming;
 mod sheets;
 mod stored;
+mod sweeps;
 
 use differential::agree::{self, Answer, Difference};
 use differential::chance::Chance;
