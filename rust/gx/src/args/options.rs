@@ -124,9 +124,9 @@ pub const OPTIONS: &[Opt] = &[
     ),
     file(
         "--html",
-        "write a page with the answer; for folders, and of a catalogue, into this folder, with an index",
+        "write a page with the answer, of a field sheet that is shown a form for paper; for folders, and of a catalogue, into this folder, with an index",
         &[
-            Fit, Compare, Keep, Catalogue, Hierarchy, Delivered, Doubles,
+            Show, Fit, Compare, Keep, Catalogue, Hierarchy, Delivered, Doubles,
         ],
     ),
     file(
@@ -138,7 +138,7 @@ pub const OPTIONS: &[Opt] = &[
     flag(
         "--sheet",
         "the description has to be a field sheet, else it is refused (19); of a comparison the supplier's",
-        &[Check, Normal, Fit, Compare, Keep, Delivered],
+        &[Show, Check, Normal, Fit, Compare, Keep, Delivered],
     ),
     file(
         "--against",

@@ -2,7 +2,7 @@
 
 use std::path::Path;
 
-use super::{delivered, dictionary, list, services, Alone, Answer, Context, Status};
+use super::{held, Alone, Answer, Context, Status};
 use crate::blocks::BLOCK;
 use crate::dictionary::Naming;
 use crate::entry::Sort;
@@ -14,10 +14,7 @@ use crate::words;
 pub(super) fn check(context: &Context, file: &Path) -> Result<Answer, Trouble> {
     let input = match context.alone(file, Naming::Nothing)? {
         Alone::Entries(input) => input,
-        Alone::Pairs(pairs) => return Ok(list::check(&pairs)),
-        Alone::Dictionary(of) => return Ok(dictionary::check(&of)),
-        Alone::Services(of) => return Ok(services::check(&of)),
-        Alone::Record(of) => return Ok(delivered::check(&of)),
+        Alone::Held(of) => return Ok(held::check(&*of)),
     };
     let input = match input.sort {
         Sort::Specimen => keeping(file, input, &context.background.list)?,

@@ -19,8 +19,6 @@ use crate::trouble::Trouble;
 use crate::whereabouts;
 use crate::words::{grouped, Words};
 
-pub(super) use record::{check, show, write};
-
 /// Why an item does not fit.
 #[derive(Clone, Debug)]
 pub struct Unmet {

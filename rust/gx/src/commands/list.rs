@@ -1,68 +1,48 @@
-//! A list of properties that exclude each other as text and as bytes, and the library's answer to it.
+//! A list of properties that exclude each other.
 
-use super::{Answer, Context, Status};
-use crate::args::To;
+use super::held::Held;
 use crate::json::Json;
 use crate::names::Names;
 use crate::pairs::{List, Pair};
 use crate::readback;
-use crate::text;
+use crate::text::{self, Numbers};
 use crate::trouble::Trouble;
 use crate::words;
 
-/// What a file of pairs is called after its input, where it holds bytes.
-const ENDING: &str = "pairs";
-
-pub(super) fn show(context: &Context, list: &List) -> Result<Answer, Trouble> {
-    let desk = readback::pairs(text::desk_pairs(&list.pairs), list)?;
-    let (full, ending) = match context.options.to.unwrap_or(To::Text) {
-        To::Text => {
-            let text = text::pairs(&list.pairs, &list.names);
-            (readback::pairs(text, list)?.into_bytes(), "txt")
-        }
-        To::Desk => (format!("{desk}\n").into_bytes(), "txt"),
-        To::Blocks | To::Stored => (list.bytes.clone(), ENDING),
-    };
-    Ok(Answer {
-        full,
-        ending,
-        ..answer(desk, list)
-    })
-}
-
-pub(super) fn write(list: &List) -> Answer {
-    Answer {
-        full: list.bytes.clone(),
-        ending: ENDING,
-        ..answer(
-            format!("a list of {}", words::pairs(list.pairs.len())),
-            list,
-        )
+impl Held for List {
+    fn title(&self) -> &str {
+        &self.title
     }
-}
 
-pub(super) fn check(list: &List) -> Answer {
-    let line = format!("accepted: a list of {}", words::pairs(list.pairs.len()));
-    Answer {
-        full: format!("{line}\n").into_bytes(),
-        ..answer(line, list)
+    fn told(&self) -> String {
+        format!("a list of {}", words::pairs(self.pairs.len()))
     }
-}
 
-/// The answer on this line, for which nothing is written.
-fn answer(line: String, list: &List) -> Answer {
-    Answer {
-        status: Status::Yes,
-        line,
-        full: Vec::new(),
-        ending: "txt",
-        json: vec![
-            ("answer", Json::text("accepted")),
+    fn text(&self, _: Numbers) -> Result<String, Trouble> {
+        readback::pairs(text::pairs(&self.pairs, &self.names), self)
+    }
+
+    fn desk(&self) -> Result<Option<String>, Trouble> {
+        readback::pairs(text::desk_pairs(&self.pairs), self).map(Some)
+    }
+
+    fn bytes(&self) -> &[u8] {
+        &self.bytes
+    }
+
+    fn ending(&self) -> &'static str {
+        "pairs"
+    }
+
+    fn names(&self) -> &Names {
+        &self.names
+    }
+
+    fn fields(&self) -> Vec<(&'static str, Json)> {
+        vec![
             ("sort", Json::text("pairs")),
-            ("pairs", pairs_json(&list.pairs, &list.names)),
-        ],
-        extras: Vec::new(),
-        notes: list.names.settled().to_vec(),
+            ("pairs", pairs_json(&self.pairs, &self.names)),
+        ]
     }
 }
 

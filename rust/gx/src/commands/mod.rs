@@ -7,6 +7,7 @@ mod delivered;
 mod dictionary;
 mod doubles;
 mod fit;
+mod held;
 mod hierarchy;
 mod keep;
 mod list;
@@ -21,22 +22,21 @@ use std::path::Path;
 use crate::args::{Command, Content, Options, To};
 use crate::background::Background;
 use crate::delivered::Delivered;
-use crate::dictionary::{Dictionary, Naming};
+use crate::dictionary::Naming;
 use crate::entry::{Entry, Sort};
 use crate::given::Given;
 use crate::input::{bytes_of, not_refused, Form, Input, Reading};
 use crate::json::Json;
 use crate::library::{self, Reason};
 use crate::names::{Conflict, Names};
-use crate::pairs::List;
 use crate::readback;
-use crate::services::Services;
 use crate::stored;
 use crate::text::{self, Numbers};
 use crate::trouble::Trouble;
 
 pub use catalogue::{Contained, Service};
 pub use delivered::Unmet;
+use held::Held;
 
 /// How an answer ends the program.
 #[derive(Clone, Copy, Debug, PartialEq, Eq, PartialOrd, Ord)]
@@ -120,14 +120,14 @@ pub struct Context {
 enum Alone {
     /// A description or a specimen.
     Entries(Input),
-    /// A list of properties that exclude each other.
-    Pairs(List),
-    /// A dictionary.
-    Dictionary(Dictionary),
-    /// A list of services.
-    Services(Services),
-    /// A delivered record.
-    Record(Delivered),
+    /// A list, a dictionary or a record.
+    Held(Box<dyn Held>),
+}
+
+impl Alone {
+    fn held(of: impl Held + 'static) -> Alone {
+        Alone::Held(Box::new(of))
+    }
 }
 
 impl Context {
@@ -186,18 +186,18 @@ impl Context {
             .then_some(Content::Entries(Sort::Description));
         let said = sheet.or(self.options.sort);
         let sort = match said.or_else(|| self.told(file, &bytes)) {
-            Some(Content::Pairs) => return reading.list_of(file, bytes).map(Alone::Pairs),
+            Some(Content::Pairs) => return reading.list_of(file, bytes).map(Alone::held),
             Some(Content::Dictionary) => {
                 let read = reading.dictionary_of(file, bytes);
-                return read.map(Alone::Dictionary);
+                return read.map(Alone::held);
             }
             Some(Content::Services) => {
                 let mut read = reading.services_of(file, bytes, self.naming(naming))?;
                 let joined = read.names.join(&self.background.names);
                 joined.map_err(Trouble::Words)?;
-                return Ok(Alone::Services(read));
+                return Ok(Alone::held(read));
             }
-            Some(Content::Record) => return self.record(file, bytes).map(Alone::Record),
+            Some(Content::Record) => return self.record(file, bytes).map(Alone::held),
             Some(Content::Entries(sort)) => Some(sort),
             None => None,
         };

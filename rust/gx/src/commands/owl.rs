@@ -2,7 +2,7 @@
 
 use std::path::Path;
 
-use super::{entries_json, list, Answer, Context, Status, Written};
+use super::{entries_json, held, list, Answer, Context, Status, Written};
 use crate::args::{Content, To};
 use crate::blocks::{decode, encode};
 use crate::dictionary::Naming;
@@ -85,7 +85,7 @@ pub(super) fn from_owl(context: &Context, file: &Path) -> Result<Answer, Trouble
         positions: Vec::new(),
     };
     if pairs {
-        return list::show(context, &accepted_list(file, list)?);
+        return held::show(context, &accepted_list(file, list)?);
     }
     let draft = Input {
         title: title(file),

@@ -1,44 +1,61 @@
-//! A description or specimen as text, and as blocks; and a list or a dictionary likewise.
+//! A description or specimen as text, and as blocks.
 
 use std::path::Path;
 
-use super::{
-    delivered, dictionary, entries_json, list, services, Alone, Answer, Context, Status, Written,
-};
+use super::{entries_json, held, Alone, Answer, Context, Extra, Status, Written};
 use crate::dictionary::Naming;
+use crate::entry::Sort;
 use crate::input::Input;
 use crate::json::Json;
+use crate::library;
+use crate::page::{self, Shown};
+use crate::text::{self, Numbers};
 use crate::trouble::Trouble;
 use crate::words;
 
 pub(super) fn show(context: &Context, file: &Path) -> Result<Answer, Trouble> {
     let input = match context.alone(file, Naming::Any)? {
         Alone::Entries(input) => input,
-        Alone::Pairs(pairs) => return list::show(context, &pairs),
-        Alone::Dictionary(of) => return dictionary::show(context, &of),
-        Alone::Services(of) => return services::show(context, &of),
-        Alone::Record(of) => return delivered::show(context, &of),
+        Alone::Held(of) => return held::show(context, &*of),
     };
     let written = Written::of(&input);
     let (full, ending) = context.written(written)?;
+    let mut extras = Vec::new();
+    if context.options.html.is_some() {
+        extras.push((Extra::Html, page(context, &input)?.into_bytes()));
+    }
     Ok(Answer {
         status: Status::Yes,
         line: written.desk()?,
         full,
         ending,
         json: fields(&input),
-        extras: Vec::new(),
+        extras,
         notes: input.names.settled().to_vec(),
+    })
+}
+
+/// The page of a description or a specimen.
+fn page(context: &Context, input: &Input) -> Result<String, Trouble> {
+    let written = Written::of(input);
+    let text = text::text(
+        written.sort,
+        written.entries,
+        written.names,
+        Numbers::WhereNeeded,
+    );
+    page::shown(Shown {
+        input,
+        sheet: input.sort == Sort::Description && library::read_sheet(&input.bytes).is_ok(),
+        text: &written.read_back(text)?,
+        given: &context.given,
     })
 }
 
 pub(super) fn write(context: &Context, file: &Path) -> Result<Answer, Trouble> {
     let input = match context.alone(file, Naming::Any)? {
         Alone::Entries(input) => input,
-        Alone::Pairs(pairs) => return Ok(list::write(&pairs)),
-        Alone::Dictionary(of) => return Ok(dictionary::write(&of)),
-        Alone::Services(of) => return Ok(services::write(&of)),
-        Alone::Record(of) => return Ok(delivered::write(&of)),
+        Alone::Held(of) => return Ok(held::write(&*of)),
     };
     let blocks = input.bytes.len() / crate::blocks::BLOCK;
     let (full, ending) = match context.options.to {

@@ -25,7 +25,8 @@ pub(super) fn detail(command: Command) -> &'static str {
 const SHOW: &str = "\
 Shows blocks as text that 'gx write' reads back to the same blocks. An entry's number is written, as #12, only where entries do
 not stand in the order of their numbers; --numbers writes them all. Named entries stay as they are; with --dictionary they have
-the words of the dictionary.
+the words of the dictionary. --html writes a page as well; of a field sheet it is a form for paper, with a box for each entry and room
+for what was counted. --sheet refuses what is no field sheet (19).
 ";
 
 const WRITE: &str = "\
@@ -180,8 +181,9 @@ with files beside it. An option of the command line counts before it. Each answe
 SHA-256.
 
 Inputs are files, or standard input as -, also where no FILE is given. They are blocks or text, told apart by their bytes: an input
-with a zero byte, or an empty one, is blocks (the second byte of all accepted blocks is zero); any other is text. A file that ends
-in .stored is in the shorter stored form. --from says it where that is wrong. A folder stands for its files, without hidden ones,
+with a zero byte, or an empty one, is blocks (the second byte of all accepted blocks is zero); any other is text. Blocks that are
+accepted in the shorter stored form are read in it, and a file that ends in .stored is taken for it in any case. --from says it where
+that is wrong. A folder stands for its files, without hidden ones,
 names files (*.names), lists of pairs (*.pairs), dictionaries (*.dictionary), settings (*.gx) and folders: each gets a line, and one
 bad file stops none of the others. So it is for several files. A folder without an input is an error; folders in it are told, and
 read with --recursive.

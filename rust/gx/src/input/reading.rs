@@ -10,7 +10,7 @@ use crate::blocks;
 use crate::delivered::Delivered;
 use crate::dictionary::{self, Dictionary, Naming, Part};
 use crate::entry::Sort;
-use crate::library::Under;
+use crate::library::{self, Under};
 use crate::names::Names;
 use crate::pairs::{self, List};
 use crate::services::Services;
@@ -58,6 +58,9 @@ impl Reading {
         naming: Naming<'_>,
     ) -> Result<Input, Trouble> {
         let draft = match self.form_at(path, &bytes) {
+            Form::Blocks if self.form.is_none() && is_stored(&bytes, sort) => {
+                self.blocks(path, unstored(path, &bytes, input)?, sort)
+            }
             Form::Blocks => self.blocks(path, bytes, sort),
             Form::Stored => self.blocks(path, unstored(path, &bytes, input)?, sort),
             Form::Text => self.text(path, &bytes, sort)?,
@@ -308,6 +311,13 @@ impl Reading {
             positions: parsed.positions,
         })
     }
+}
+
+/// Whether bytes that are not said to be in the stored form are: the library accepts them in it. Of all descriptions only two are accepted
+/// in both forms, the one of no entries and 'nothing fits' alone, and these say the same in both; a specimen with entries is not.
+fn is_stored(bytes: &[u8], sort: Option<Sort>) -> bool {
+    let description = library::from_stored(bytes);
+    sort != Some(Sort::Specimen) && description.is_ok_and(|d| !blocks::decode(&d).is_empty())
 }
 
 /// Takes over the words of a text.

@@ -58,7 +58,7 @@ pub fn delivered(sheet: Checked<'_>) -> Result<String, Trouble> {
     );
     body.push_str(&described);
     readback::checked(&body, "description", sheet.description, sheet.names)?;
-    body.push_str(&settled(sheet.names));
+    body.push_str(&settled(sheet.names.settled()));
     body.push_str(&format!(
         "<footer>\n{FOOTER}{}</footer>\n",
         given(sheet.given)
@@ -94,25 +94,48 @@ fn headed(sheet: Checked<'_>) -> (String, String) {
     (says, head)
 }
 
-/// A row for each item.
+/// As many items one after the other that fit have a row each; more have one together.
+const FEW: usize = 3;
+
+/// A row for each item that does not fit, and for those that do.
 fn table(sheet: Checked<'_>, words: Words<'_>) -> String {
-    let row = |(item, unmet): (usize, &Option<Unmet>)| {
-        match unmet {
-        None => format!(
-            "<tr class=\"yes\"><td aria-hidden=\"true\">✓</td><td>item {item}</td><td>fits</td></tr>\n"
-        ),
-        Some(unmet) => format!(
-            "<tr class=\"no\"><td aria-hidden=\"true\">✕</td><td><a href=\"#item-{item}\">item {item}</a></td><td>\
-             <a href=\"#description-{entry}\">entry {entry}</a>: {}</td></tr>\n",
-            marked(&unmet.asks(words)),
-            entry = unmet.entry
-        ),
+    let mut rows = String::new();
+    let mut item = 1;
+    for alike in sheet
+        .unmet
+        .chunk_by(|one, other| one.is_none() && other.is_none())
+    {
+        match &alike[0] {
+            Some(unmet) => rows.push_str(&unmet_row(item, unmet, words)),
+            None if alike.len() > FEW => {
+                let last = item + alike.len() - 1;
+                rows.push_str(&fitting_row(&format!("items {item} to {last}"), "fit"));
+            }
+            None => {
+                let each = (item..item + alike.len()).map(|item| format!("item {item}"));
+                rows.extend(each.map(|item| fitting_row(&item, "fits")));
+            }
+        }
+        item += alike.len();
     }
-    };
-    let rows: String = (1..).zip(sheet.unmet).map(row).collect();
     format!(
         "<section class=\"card\">\n<h2>The items</h2>\n<table class=\"index\">\n<thead><tr><th></th><th>Item</th><th>Answer</th></tr></thead>\n\
          <tbody>\n{rows}</tbody>\n</table>\n</section>\n"
+    )
+}
+
+fn fitting_row(items: &str, says: &str) -> String {
+    format!(
+        "<tr class=\"yes\"><td aria-hidden=\"true\">✓</td><td>{items}</td><td>{says}</td></tr>\n"
+    )
+}
+
+fn unmet_row(item: usize, unmet: &Unmet, words: Words<'_>) -> String {
+    format!(
+        "<tr class=\"no\"><td aria-hidden=\"true\">✕</td><td><a href=\"#item-{item}\">item {item}</a></td><td>\
+         <a href=\"#description-{entry}\">entry {entry}</a>: {}</td></tr>\n",
+        marked(&unmet.asks(words)),
+        entry = unmet.entry
     )
 }
 

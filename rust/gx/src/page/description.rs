@@ -13,6 +13,9 @@ use crate::words::{self, Words};
 /// Up to so many entries all places are open; of more, those on the way to the marked entry.
 const ALL_OPEN: usize = 60;
 
+/// The class of rows on the way to what is marked.
+const ON_THE_WAY: &str = " way";
+
 /// The entries that are marked.
 #[derive(Clone, Debug, Default)]
 pub(super) struct Marks {
@@ -26,13 +29,15 @@ pub(super) struct Marks {
     pub(super) says: Vec<usize>,
     /// What is told of entries, each with the class of its row.
     pub(super) notes: BTreeMap<usize, (&'static str, String)>,
+    /// All places are open and no line is folded, as on paper.
+    pub(super) whole: bool,
 }
 
 impl Marks {
     /// The entries that earn a yes, and the others grey.
     pub(super) fn earning(marks: &[bool]) -> Marks {
         let note = |(entry, &is): (usize, &bool)| match is {
-            true => (entry, (" way", "earns it".to_string())),
+            true => (entry, (ON_THE_WAY, "earns it".to_string())),
             false => (entry, (" gone", String::new())),
         };
         Marks {
@@ -46,7 +51,16 @@ impl Marks {
             || self.too.contains(&entry)
             || self.way.contains(&entry)
             || self.says.contains(&entry)
-            || self.notes.contains_key(&entry)
+            || self
+                .notes
+                .get(&entry)
+                .is_some_and(|note| !note.1.is_empty())
+    }
+
+    /// Whether the place that an entry owns is open in any case.
+    fn opens(&self, entry: usize) -> bool {
+        let on_the_way = |note: &(&str, String)| note.0 == ON_THE_WAY;
+        self.way.contains(&entry) || self.notes.get(&entry).is_some_and(on_the_way)
     }
 }
 
@@ -65,7 +79,7 @@ pub(super) fn listing(
         marks,
         words,
         tree: Tree::new(&input.entries),
-        open: count <= ALL_OPEN,
+        open: marks.whole || count <= ALL_OPEN,
     };
     let mut body = String::new();
     match count {
@@ -116,7 +130,8 @@ impl Listing<'_> {
     /// The entries of a place; of a long one those without a mark are folded in runs.
     fn place(&self, owner: usize, out: &mut String) {
         out.push_str("<ul>\n");
-        for part in parts(self.tree.owned(owner), |entry| self.marks.any(entry)) {
+        let shown = |entry| self.marks.whole || self.marks.any(entry);
+        for part in parts(self.tree.owned(owner), shown) {
             match part {
                 Part::Shown(shown) => shown.iter().for_each(|&entry| self.entry(entry, out)),
                 Part::Folded(run) => self.run(run, out),
@@ -144,7 +159,7 @@ impl Listing<'_> {
             out.push_str(&format!("<li id=\"{id}\">{row}</li>\n"));
             return;
         }
-        let open = if self.open || self.marks.way.contains(&entry) {
+        let open = if self.open || self.marks.opens(entry) {
             " open"
         } else {
             ""

@@ -80,7 +80,7 @@ pub fn fitting(sheet: Fitting<'_>) -> Result<String, Trouble> {
         body.push_str(&specimen::listing(failure, words));
         readback::specimen(&body, failure, sheet.names)?;
     }
-    body.push_str(&settled(sheet.names));
+    body.push_str(&settled(sheet.names.settled()));
     body.push_str(&format!("<footer>\n{}</footer>\n", given(sheet.given)));
     let [specimen, description] =
         [sheet.specimen, sheet.description].map(|input| file_name(&input.title));

@@ -46,7 +46,7 @@ pub fn kept(sheet: Kept<'_>) -> Result<String, Trouble> {
     for (id, input) in [("supplier", c), ("service", d)] {
         readback::checked(&body, id, input, sheet.names)?;
     }
-    body.push_str(&settled(sheet.names));
+    body.push_str(&settled(sheet.names.settled()));
     body.push_str(&format!(
         "<footer>\n{FOOTER}{}</footer>\n",
         given(sheet.given)

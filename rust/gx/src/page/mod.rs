@@ -11,6 +11,7 @@ mod hierarchy;
 mod index;
 mod kept;
 mod readback;
+mod shown;
 mod specimen;
 mod style;
 
@@ -19,7 +20,7 @@ use std::collections::BTreeSet;
 use crate::explain::{Explained, Failure};
 use crate::given::Given;
 use crate::input::Input;
-use crate::names::Names;
+use crate::names::{Conflict, Names};
 use crate::pairs::{List, Pair};
 use crate::shown::file_name;
 use crate::svg::{self, escaped};
@@ -35,6 +36,7 @@ pub use fitting::{fitting, Fitting};
 pub use hierarchy::hierarchy;
 pub use index::{index, Row};
 pub use kept::{kept, Kept};
+pub use shown::{shown, text as shown_text, Shown};
 
 /// What a page of a comparison is made of.
 #[derive(Clone, Copy, Debug)]
@@ -82,7 +84,7 @@ pub fn page(sheet: Sheet<'_>) -> Result<String, Trouble> {
             FOOTER.replace("two items,", "two items, and keeps these pairs,"),
         ),
     };
-    let settled = settled(sheet.names);
+    let settled = settled(sheet.names.settled());
     let given = given(sheet.given);
     let footer = format!("<footer>\n{footer}{given}</footer>\n");
     Ok(framed(&title, &format!("{body}{listed}{settled}{footer}")))
@@ -142,10 +144,10 @@ fn pairs(sheet: Sheet<'_>) -> String {
 }
 
 /// The words that were sent and are not shown, since the names file has others.
-fn settled(names: &Names) -> String {
-    let lines = names.settled().iter();
+fn settled(told: &[Conflict]) -> String {
+    let lines = told.iter();
     let lines = lines.map(|told| format!("<li><bdi>{}</bdi></li>\n", escaped(&told.settled())));
-    match names.settled().is_empty() {
+    match told.is_empty() {
         true => String::new(),
         false => format!(
             "<section class=\"card\" id=\"words\">\n<h2>Words that the names file settles</h2>\n<ul>\n{}</ul>\n</section>\n",
@@ -172,10 +174,15 @@ fn given(given: &Given) -> String {
 }
 
 fn framed(title: &str, body: &str) -> String {
+    framed_as(title, "", body)
+}
+
+/// The same with more to the style sheet.
+fn framed_as(title: &str, more: &str, body: &str) -> String {
     format!(
         "<!DOCTYPE html>\n<html lang=\"en\">\n<head>\n<meta charset=\"utf-8\">\n\
          <meta name=\"viewport\" content=\"width=device-width, initial-scale=1\">\n\
-         <title>{}</title>\n<style>\n{}{}\n</style>\n</head>\n<body>\n<main>\n{body}</main>\n</body>\n</html>\n",
+         <title>{}</title>\n<style>\n{}{}{more}\n</style>\n</head>\n<body>\n<main>\n{body}</main>\n</body>\n</html>\n",
         escaped(title),
         style::STYLE,
         svg::STYLE

@@ -88,3 +88,17 @@ bdi.long{white-space:normal;max-width:none}
 }
 bdi.long{display:inline-block;max-width:min(100%,40ch);overflow:hidden;text-overflow:ellipsis;white-space:nowrap;vertical-align:bottom}
 ";
+
+/// What the form of a field sheet has besides: a box before each line, and room behind it.
+pub(super) const FORM: &str = "\
+.blanks{display:flex;flex-wrap:wrap;gap:.9rem 1.5rem;margin-top:1rem;max-width:none!important}
+.blanks span{flex:1 1 12rem;display:flex;align-items:baseline;gap:.5rem}
+.blanks span::after{content:\"\";flex:1;border-bottom:1px solid var(--ink)}
+.form .e{padding:.35rem .4rem}
+.form li>.e::before{content:\"\";flex:none;width:1.05rem;height:1.05rem;margin-right:.1rem;border:1.5px solid var(--ink);border-radius:.15rem;align-self:center}
+.form li>.e::after{content:\"\";flex:none;width:clamp(3.5rem,16vw,9rem);border-bottom:1px solid var(--soft);align-self:end}
+.form summary .e{font-weight:600}
+.form .k{display:none}
+.blank{border-bottom:1px solid var(--soft);height:2rem;margin:0}
+@media print{.form li,.form .e{break-inside:avoid}.answer{padding:.4rem .8rem}}
+";

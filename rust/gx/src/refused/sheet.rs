@@ -11,8 +11,6 @@ use crate::words;
 
 /// The largest number in a field sheet.
 const MOST_NUMBER: u16 = 99;
-/// So many of the later ones are told.
-const MOST_TOLD: usize = 12;
 
 /// What is wrong with this entry, and which others are outside.
 pub(super) fn fault(entries: &[Entry], place: usize) -> String {
@@ -43,15 +41,19 @@ fn others(entries: &[Entry], place: usize) -> String {
         matches!(library::read_sheet(&alone), Err(refusal) if refusal.reason == Reason::Sheet)
     };
     let later: Vec<usize> = (place + 1..=entries.len()).filter(outside).collect();
-    let told: Vec<String> = later.iter().take(MOST_TOLD).map(usize::to_string).collect();
-    match later.len() {
-        0 => String::new(),
-        1 => format!("; outside too is entry {}", told[0]),
-        count if count > MOST_TOLD => format!(
-            "; outside too are {}, the first of them {}",
-            words::entries(count),
-            words::listed(&told)
-        ),
-        _ => format!("; outside too are entries {}", words::listed(&told)),
+    match later.as_slice() {
+        [] => String::new(),
+        [one] => format!("; outside too is entry {one}"),
+        all => format!("; outside too are entries {}", words::listed(&runs(all))),
     }
+}
+
+/// Numbers that rise, those that follow each other as one run: 7, 9 to 12.
+fn runs(numbers: &[usize]) -> Vec<String> {
+    let runs = numbers.chunk_by(|one, next| one + 1 == *next);
+    runs.flat_map(|run| match run {
+        [first, _, .., last] => vec![format!("{first} to {last}")],
+        few => few.iter().map(usize::to_string).collect(),
+    })
+    .collect()
 }

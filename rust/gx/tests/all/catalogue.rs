@@ -67,21 +67,18 @@ fn a_line_for_each_service() {
     );
 }
 
-/// What the README shows.
+/// Services of which one does not contain the description.
 #[test]
-fn the_services_of_the_readme() {
+fn the_services_of_the_examples() {
     let path = |name: &str| repository(name).display().to_string();
     let (supplier, services) = (path("examples/supplier.blocks"), path("examples/services"));
-    let ran = Folder::new("catalogue-readme").gx(&["catalogue", &supplier, &services]);
+    let ran = Folder::new("catalogue-examples").gx(&["catalogue", &supplier, &services]);
     let due = "\
 few-cores.blocks: contained
 sealed.blocks: not contained
 with-core.blocks: contained
 ";
     is(&ran, 1, due);
-    let readme = std::fs::read_to_string(repository("README.md")).unwrap();
-    let indented: String = due.lines().map(|line| format!("    {line}\n")).collect();
-    assert!(readme.contains(&indented));
 }
 
 /// One bad service stops none of the others.

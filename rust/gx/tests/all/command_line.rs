@@ -37,8 +37,8 @@ fn a_near_word_is_suggested() {
             "--to takes text or desk or blocks or stored; did you mean 'blocks'?",
         ),
         (
-            &["show", "d", "--html", "p"],
-            "show has no option '--html'; fit, compare, keep, catalogue, hierarchy, delivered, doubles has",
+            &["normal", "d", "--html", "p"],
+            "normal has no option '--html'; show, fit, compare, keep, catalogue, hierarchy, delivered, doubles has",
         ),
         (&["judge"], "there is no command 'judge'\n"),
         (

@@ -84,6 +84,28 @@ fn each_item() {
     }
 }
 
+/// On the page many items that fit one after the other have a row together.
+#[test]
+fn many_that_fit() {
+    let folder = Folder::new("delivered-many");
+    let record = "record of 256 items\nitem 100 has property 7\nitem 103 has property 7";
+    folder.put("r", record).put("d", "lacks property 7");
+    let ran = folder.gx(&["delivered", "r", "d", "--html", "page"]);
+    assert_eq!(ran.status, 1);
+    assert!(ran.text().contains("\nitem 256: fits\n"));
+    let page = String::from_utf8(folder.get("page")).unwrap();
+    for due in [
+        "<td>items 1 to 99</td><td>fit</td>",
+        "<td>item 101</td><td>fits</td>",
+        "<td>item 102</td><td>fits</td>",
+        "<td>items 104 to 256</td><td>fit</td>",
+        "<a href=\"#item-103\">item 103</a>",
+    ] {
+        assert!(page.contains(due), "{due}");
+    }
+    assert_eq!(page.matches("<tr class=").count(), 6);
+}
+
 /// Each form is read, and text and blocks are written.
 #[test]
 fn forms() {

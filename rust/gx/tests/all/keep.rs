@@ -79,6 +79,23 @@ fn pairs_a_dictionary_and_folders() {
     is(&ran, 1, due);
 }
 
+/// On a page of many entries the places of those that earn the yes are open, and runs of the others folded.
+#[test]
+fn a_page_of_many_entries() {
+    let folder = Folder::new("keep-many");
+    let owned: Vec<String> = (1..=60).map(|name| format!("1,{name}")).collect();
+    folder
+        .put("c", format!("5,1 [{0}]; 5,2 [{0}]", owned.join("; ")))
+        .put("d", "5,1 [1,30]");
+    let ran = folder.gx(&["keep", "c", "d", "--html", "page"]);
+    assert_eq!(ran.status, 0, "{}", ran.err);
+    let page = String::from_utf8(folder.get("page")).unwrap();
+    assert_eq!(page.matches(">earns it</span>").count(), 2);
+    assert!(page.contains("<li id=\"supplier-1\"><details open>"));
+    assert!(page.contains("<li id=\"supplier-62\"><details>"));
+    assert!(page.contains("29 entries of this place, 2 to 30<"));
+}
+
 /// Drawn ones, beside the reference, and what is written compared.
 #[test]
 fn as_the_reference() {

@@ -24,8 +24,13 @@ fn there_and_back() {
         0,
         "5,1 [1,7; 3,2,1]; 2,8\n",
     );
-    // By another name its form has to be said.
+    // By another name it may be said, and is told by its bytes.
     folder.put("other", folder.get("d.stored"));
+    is(
+        &folder.gx(&["show", "other", "--to", "desk"]),
+        0,
+        "5,1 [1,7; 3,2,1]; 2,8\n",
+    );
     is(
         &folder.gx(&["show", "--from", "stored", "other", "--to", "desk"]),
         0,
@@ -81,6 +86,43 @@ fn block(entries: &[[u8; 4]]) -> Vec<u8> {
     let first = words(&block).into_iter().fold(0u16, u16::wrapping_add);
     block.extend(first.to_le_bytes());
     block
+}
+
+/// What is accepted in both forms says the same in both, and blocks that are said to be blocks are no stored form.
+#[test]
+fn told_by_its_bytes() {
+    let folder = Folder::new("stored-told");
+    for (entries, due) in [
+        (&[][..], "description:\n"),
+        (&[[6, 0, 0, 0]], "6\n"),
+        (&[[1, 0, 7, 0]], "1,7\n"),
+        (
+            &[[5, 0, 1, 0], [3, 1, 1, 0], [1, 0, 7, 0], [4, 0, 2, 9]],
+            "5,1 [3,1,0]; 1,7; 4,2,9\n",
+        ),
+    ] {
+        let ran = folder
+            .put("d", block(entries))
+            .gx(&["show", "d", "--to", "desk"]);
+        is(&ran, 0, due);
+    }
+    let ran = folder.gx(&["show", "d", "--from", "blocks"]);
+    assert_eq!(ran.status, 2, "{}", ran.err);
+    assert!(ran.err.contains("refused 4"), "{}", ran.err);
+    // What is refused in both is told as blocks, unless it is said to be stored.
+    let bytes = block(&[[5, 0, 1, 0], [1, 2, 7, 0]]);
+    let ran = folder.put("d", bytes).gx(&["check", "d"]);
+    assert!(
+        ran.text().starts_with("d: refused 4: entry 1:"),
+        "{}",
+        ran.text()
+    );
+    let ran = folder.gx(&["check", "d", "--from", "stored"]);
+    assert!(
+        ran.text().starts_with("d: refused 15: entry 2:"),
+        "{}",
+        ran.text()
+    );
 }
 
 #[test]

@@ -1,79 +1,66 @@
-//! A delivered record as text and as blocks, and the library's answer to it.
+//! A delivered record.
 
-use super::super::{Answer, Context, Status};
-use crate::args::To;
+use super::super::held::Held;
 use crate::blocks::BLOCK;
 use crate::delivered::{Delivered, LINKED};
 use crate::json::Json;
+use crate::names::Names;
 use crate::readback;
-use crate::text;
+use crate::text::{self, Numbers};
 use crate::trouble::Trouble;
 use crate::words;
 
-pub(in crate::commands) fn show(context: &Context, of: &Delivered) -> Result<Answer, Trouble> {
-    let text = readback::record(text::record(of.items, &of.entries, &of.names), of)?;
-    let (full, ending) = match context.options.to.unwrap_or(To::Text) {
-        To::Text | To::Desk => (text.into_bytes(), "txt"),
-        To::Blocks | To::Stored => (of.bytes.clone(), "blocks"),
-    };
-    Ok(Answer {
-        full,
-        ending,
-        ..answer(counted(of), of)
-    })
-}
-
-pub(in crate::commands) fn write(of: &Delivered) -> Answer {
-    Answer {
-        full: of.bytes.clone(),
-        ending: "blocks",
-        ..answer(format!("a {}", counted(of)), of)
+impl Held for Delivered {
+    fn title(&self) -> &str {
+        &self.title
     }
-}
 
-pub(in crate::commands) fn check(of: &Delivered) -> Answer {
-    let line = format!("accepted: a {}", counted(of));
-    Answer {
-        full: format!("{line}\n").into_bytes(),
-        ..answer(line, of)
+    fn told(&self) -> String {
+        let items = if self.items == 1 { "item" } else { "items" };
+        format!(
+            "a record of {} {items}, {} in {}",
+            self.items,
+            words::entries(self.entries.len()),
+            words::blocks(self.bytes.len() / BLOCK)
+        )
     }
-}
 
-fn counted(of: &Delivered) -> String {
-    let items = if of.items == 1 { "item" } else { "items" };
-    format!(
-        "record of {} {items}, {} in {}",
-        of.items,
-        words::entries(of.entries.len()),
-        words::blocks(of.bytes.len() / BLOCK)
-    )
-}
+    fn text(&self, _: Numbers) -> Result<String, Trouble> {
+        readback::record(text::record(self.items, &self.entries, &self.names), self)
+    }
 
-/// The answer on this line, for which nothing is written.
-fn answer(line: String, of: &Delivered) -> Answer {
-    let said = of.entries.iter().map(|e| {
-        let mut fields = vec![
-            ("item", Json::number(e.owner.into())),
-            ("kind", Json::number(e.kind.into())),
-            ("name", Json::number(e.name.into())),
-        ];
-        if e.kind == LINKED {
-            fields.push(("to", Json::number(e.number.into())));
-        }
-        Json::Object(fields)
-    });
-    Answer {
-        status: Status::Yes,
-        line,
-        full: Vec::new(),
-        ending: "txt",
-        json: vec![
-            ("answer", Json::text("accepted")),
+    fn desk(&self) -> Result<Option<String>, Trouble> {
+        Ok(None)
+    }
+
+    fn bytes(&self) -> &[u8] {
+        &self.bytes
+    }
+
+    fn ending(&self) -> &'static str {
+        "blocks"
+    }
+
+    fn names(&self) -> &Names {
+        &self.names
+    }
+
+    fn fields(&self) -> Vec<(&'static str, Json)> {
+        let said = self.entries.iter().map(|e| {
+            let mut fields = vec![
+                ("item", Json::number(e.owner.into())),
+                ("kind", Json::number(e.kind.into())),
+                ("name", Json::number(e.name.into())),
+            ];
+            if e.kind == LINKED {
+                fields.push(("to", Json::number(e.number.into())));
+            }
+            Json::Object(fields)
+        });
+        vec![
             ("sort", Json::text("record")),
-            ("items", Json::number(of.items)),
+            ("items", Json::number(self.items)),
             ("said", Json::List(said.collect())),
-        ],
-        extras: Vec::new(),
-        notes: of.names.settled().to_vec(),
+        ]
     }
 }
