@@ -3,26 +3,9 @@
 use super::*;
 use differential::named::catalogue;
 
-/// An answer that fills these bytes.
-fn filled(answer: &'static str, bytes: &[u8]) -> Expected {
-    Expected {
-        answer,
-        written: bytes.to_vec(),
-    }
-}
-
 /// Refused with this number, input and place.
-macro_rules! refused {
-    ($number:literal, $input:literal, $place:literal) => {
-        said(concat!(
-            "catalogue refused ",
-            $number,
-            " input ",
-            $input,
-            " place ",
-            $place
-        ))
-    };
+fn refused(number: u8, input: u16, place: u32) -> Expected {
+    super::refused("catalogue", number, input, place)
 }
 
 #[test]
@@ -63,21 +46,21 @@ fn where_a_service_begins() {
         filled("catalogue 1", &[1]),
         filled("catalogue 2", &[1, 1]),
         filled("catalogue 3", &[0, 1, 0]),
-        refused!(3, 2, 1),
-        refused!(3, 2, 1),
-        refused!(3, 2, 1),
+        refused(3, 2, 1),
+        refused(3, 2, 1),
+        refused(3, 2, 1),
         // Of the second service the block numbered 1 is one of two, and uses one entry.
-        refused!(3, 3, 1),
-        refused!(2, 3, 1),
+        refused(3, 3, 1),
+        refused(2, 3, 1),
     ];
     // Numbers 0, 3, 256, 257 and 65,535 in the second block of the second service.
-    expected.extend([(); 5].map(|()| refused!(3, 3, 2)));
+    expected.extend([(); 5].map(|()| refused(3, 3, 2)));
     check(&catalogue::begins(), &expected);
 }
 
 #[test]
 fn number_1_of_a_list() {
-    check(&catalogue::lengths(), &[(); 6].map(|()| refused!(1, 2, 0)));
+    check(&catalogue::lengths(), &[(); 6].map(|()| refused(1, 2, 0)));
 }
 
 #[test]
@@ -86,9 +69,9 @@ fn number_8_of_a_list() {
     most[63] = 0;
     let expected = [
         filled("catalogue 64", &most),
-        refused!(8, 2, 0),
-        refused!(8, 2, 0),
-        refused!(1, 2, 0),
+        refused(8, 2, 0),
+        refused(8, 2, 0),
+        refused(1, 2, 0),
     ];
     check(&catalogue::counts(), &expected);
 }
@@ -96,28 +79,28 @@ fn number_8_of_a_list() {
 #[test]
 fn the_services_own_checks() {
     let expected = [
-        refused!(2, 2, 2),
-        refused!(2, 4, 2),
-        refused!(3, 2, 1),
-        refused!(3, 4, 1),
-        refused!(4, 2, 2),
-        refused!(4, 4, 2),
-        refused!(4, 2, 2),
-        refused!(4, 4, 2),
-        refused!(4, 2, 2),
-        refused!(4, 4, 2),
-        refused!(13, 2, 2),
-        refused!(13, 4, 2),
-        refused!(5, 2, 2),
-        refused!(5, 4, 2),
-        refused!(6, 2, 34),
-        refused!(6, 4, 34),
-        refused!(14, 2, 0),
-        refused!(14, 4, 0),
+        refused(2, 2, 2),
+        refused(2, 4, 2),
+        refused(3, 2, 1),
+        refused(3, 4, 1),
+        refused(4, 2, 2),
+        refused(4, 4, 2),
+        refused(4, 2, 2),
+        refused(4, 4, 2),
+        refused(4, 2, 2),
+        refused(4, 4, 2),
+        refused(13, 2, 2),
+        refused(13, 4, 2),
+        refused(5, 2, 2),
+        refused(5, 4, 2),
+        refused(6, 2, 34),
+        refused(6, 4, 34),
+        refused(14, 2, 0),
+        refused(14, 4, 0),
         // Sixteen blocks pass, and seventeen are 1, whatever they would unfold to.
         filled("catalogue 2", &[0, 1]),
-        refused!(1, 3, 0),
-        refused!(1, 2, 0),
+        refused(1, 3, 0),
+        refused(1, 2, 0),
     ];
     check(&catalogue::own_checks(), &expected);
 }
@@ -125,11 +108,11 @@ fn the_services_own_checks() {
 #[test]
 fn each_service_before_the_next() {
     let expected = [
-        refused!(4, 3, 2),
-        refused!(3, 3, 1),
-        refused!(14, 3, 0),
-        refused!(14, 3, 0),
-        refused!(14, 4, 0),
+        refused(4, 3, 2),
+        refused(3, 3, 1),
+        refused(14, 3, 0),
+        refused(14, 3, 0),
+        refused(14, 4, 0),
     ];
     check(&catalogue::one_after_the_other(), &expected);
 }
@@ -137,27 +120,27 @@ fn each_service_before_the_next() {
 #[test]
 fn the_order() {
     let expected = [
-        refused!(11, 0, 0),
-        refused!(11, 0, 2),
-        refused!(1, 100, 0),
-        refused!(13, 103, 1),
-        refused!(1, 1, 0),
-        refused!(4, 1, 1),
-        refused!(13, 1, 2),
-        refused!(14, 1, 0),
+        refused(11, 0, 0),
+        refused(11, 0, 2),
+        refused(1, 100, 0),
+        refused(13, 103, 1),
+        refused(1, 1, 0),
+        refused(4, 1, 1),
+        refused(13, 1, 2),
+        refused(14, 1, 0),
         // More than 64 services, and a supplier that is refused.
-        refused!(4, 1, 1),
-        refused!(1, 2, 0),
-        refused!(4, 2, 1),
-        refused!(4, 4, 1),
-        refused!(7, 0, 0),
+        refused(4, 1, 1),
+        refused(1, 2, 0),
+        refused(4, 2, 1),
+        refused(4, 4, 1),
+        refused(7, 0, 0),
     ];
     check(&catalogue::order(), &expected);
 }
 
 #[test]
 fn fewer_bytes_than_services() {
-    let short = || refused!(7, 0, 0);
+    let short = || refused(7, 0, 0);
     let five = || filled("catalogue 5", &[1, 0, 1, 1, 0]);
     let expected = [
         short(),
@@ -188,8 +171,8 @@ fn under_a_list_and_with_names() {
         filled("catalogue 3", &[0, 0, 0]),
         filled("catalogue 3", &[1, 1, 1]),
         filled("catalogue 4", &[1, 1, 1, 0]),
-        refused!(13, 1, 1),
-        refused!(13, 3, 1),
+        refused(13, 1, 1),
+        refused(13, 3, 1),
         filled("catalogue 2", &[1, 1]),
     ];
     check(&catalogue::pairs_and_names(), &expected);

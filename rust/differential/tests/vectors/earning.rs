@@ -3,34 +3,19 @@
 use super::*;
 use differential::named::earning;
 
+/// Refused with this number, input and place.
+fn refused(number: u8, input: u16, place: u32) -> Expected {
+    super::refused("earning", number, input, place)
+}
+
 /// Contained, with a mark for each entry.
 fn yes(marks: &[u8]) -> Expected {
-    Expected {
-        answer: "earning yes",
-        written: marks.to_vec(),
-    }
+    filled("earning yes", marks)
 }
 
 /// Not contained, and nothing is marked of so many entries.
 fn no(entries: usize) -> Expected {
-    Expected {
-        answer: "earning no",
-        written: vec![0; entries],
-    }
-}
-
-/// Refused with this number, input and place.
-macro_rules! refused {
-    ($number:literal, $input:literal, $place:literal) => {
-        said(concat!(
-            "earning refused ",
-            $number,
-            " input ",
-            $input,
-            " place ",
-            $place
-        ))
-    };
+    filled("earning no", &vec![0; entries])
 }
 
 #[test]
@@ -112,25 +97,25 @@ fn outputs_and_refusals() {
         &earning::outputs(),
         &[
             yes(&[1, 0]),
-            refused!(7, 0, 0),
-            refused!(7, 0, 0),
+            refused(7, 0, 0),
+            refused(7, 0, 0),
             no(2),
             yes(&[]),
             no(0),
-            refused!(7, 0, 0),
+            refused(7, 0, 0),
         ],
     );
     check(
         &earning::order(),
         &[
-            refused!(11, 0, 0),
-            refused!(11, 0, 2),
-            refused!(4, 1, 1),
-            refused!(4, 2, 2),
-            refused!(1, 1, 0),
-            refused!(1, 2, 0),
-            refused!(5, 2, 1),
-            refused!(4, 2, 1),
+            refused(11, 0, 0),
+            refused(11, 0, 2),
+            refused(4, 1, 1),
+            refused(4, 2, 2),
+            refused(1, 1, 0),
+            refused(1, 2, 0),
+            refused(5, 2, 1),
+            refused(4, 2, 1),
         ],
     );
 }

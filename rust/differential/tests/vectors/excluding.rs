@@ -8,7 +8,7 @@ fn each_call(answers: &[[&'static str; 3]]) -> Vec<Expected> {
     answers
         .iter()
         .flatten()
-        .map(|answer| said(answer))
+        .map(|answer| said(*answer))
         .collect()
 }
 

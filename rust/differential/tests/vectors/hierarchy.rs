@@ -3,6 +3,11 @@
 use super::*;
 use differential::named::hierarchy;
 
+/// Refused with this number, input and place.
+fn refused(number: u8, input: u16, place: u32) -> Expected {
+    super::refused("hierarchy", number, input, place)
+}
+
 /// An answer that writes a table, superiors and classes, each row in brackets of its own.
 fn ranked<const N: usize>(
     answer: &'static str,
@@ -10,24 +15,8 @@ fn ranked<const N: usize>(
     superiors: [[u8; N]; N],
     classes: [u8; N],
 ) -> Expected {
-    Expected {
-        answer,
-        written: [table.concat(), superiors.concat(), classes.to_vec()].concat(),
-    }
-}
-
-/// Refused with this number, input and place.
-macro_rules! refused {
-    ($number:literal, $input:literal, $place:literal) => {
-        said(concat!(
-            "hierarchy refused ",
-            $number,
-            " input ",
-            $input,
-            " place ",
-            $place
-        ))
-    };
+    let written = [table.concat(), superiors.concat(), classes.to_vec()];
+    filled(answer, &written.concat())
 }
 
 /// Two services of which neither contains the other.
@@ -215,18 +204,18 @@ fn where_a_service_begins() {
     let mut expected = vec![
         ranked("hierarchy 3", [[1]], [[0]], [1]),
         alike(),
-        refused!(3, 2, 1),
-        refused!(3, 2, 1),
-        refused!(3, 3, 1),
-        refused!(2, 3, 1),
+        refused(3, 2, 1),
+        refused(3, 2, 1),
+        refused(3, 3, 1),
+        refused(2, 3, 1),
     ];
-    expected.extend([(); 3].map(|()| refused!(3, 3, 2)));
+    expected.extend([(); 3].map(|()| refused(3, 3, 2)));
     check(&hierarchy::begins(), &expected);
 }
 
 #[test]
 fn number_1_of_a_list() {
-    check(&hierarchy::lengths(), &[(); 6].map(|()| refused!(1, 2, 0)));
+    check(&hierarchy::lengths(), &[(); 6].map(|()| refused(1, 2, 0)));
 }
 
 /// The longest chain: row i is 1 from its diagonal on, and each but the last has the next as its one superior.
@@ -241,12 +230,9 @@ fn number_8_of_a_list() {
         written[8192 + i] = i as u8 + 1;
     }
     let expected = [
-        Expected {
-            answer: "hierarchy 8256",
-            written,
-        },
-        refused!(8, 2, 0),
-        refused!(1, 2, 0),
+        filled("hierarchy 8256", &written),
+        refused(8, 2, 0),
+        refused(1, 2, 0),
     ];
     check(&hierarchy::counts(), &expected);
 }
@@ -254,49 +240,49 @@ fn number_8_of_a_list() {
 #[test]
 fn the_services_own_checks() {
     let expected = [
-        refused!(2, 2, 2),
-        refused!(2, 4, 2),
-        refused!(3, 2, 1),
-        refused!(3, 4, 1),
-        refused!(4, 2, 2),
-        refused!(4, 4, 2),
-        refused!(4, 2, 2),
-        refused!(4, 4, 2),
-        refused!(4, 2, 2),
-        refused!(4, 4, 2),
-        refused!(4, 2, 1),
-        refused!(4, 4, 1),
-        refused!(5, 2, 2),
-        refused!(5, 4, 2),
-        refused!(6, 2, 34),
-        refused!(6, 4, 34),
-        refused!(1, 2, 0),
-        refused!(1, 3, 0),
+        refused(2, 2, 2),
+        refused(2, 4, 2),
+        refused(3, 2, 1),
+        refused(3, 4, 1),
+        refused(4, 2, 2),
+        refused(4, 4, 2),
+        refused(4, 2, 2),
+        refused(4, 4, 2),
+        refused(4, 2, 2),
+        refused(4, 4, 2),
+        refused(4, 2, 1),
+        refused(4, 4, 1),
+        refused(5, 2, 2),
+        refused(5, 4, 2),
+        refused(6, 2, 34),
+        refused(6, 4, 34),
+        refused(1, 2, 0),
+        refused(1, 3, 0),
     ];
     check(&hierarchy::own_checks(), &expected);
 }
 
 #[test]
 fn each_service_before_the_next() {
-    let expected = [refused!(4, 3, 2), refused!(3, 3, 1), refused!(2, 3, 2)];
+    let expected = [refused(4, 3, 2), refused(3, 3, 1), refused(2, 3, 2)];
     check(&hierarchy::one_after_the_other(), &expected);
 }
 
 #[test]
 fn the_order() {
     let expected = [
-        refused!(11, 0, 0),
-        refused!(11, 0, 2),
-        refused!(1, 2, 0),
-        refused!(4, 3, 1),
-        refused!(7, 0, 0),
+        refused(11, 0, 0),
+        refused(11, 0, 2),
+        refused(1, 2, 0),
+        refused(4, 3, 1),
+        refused(7, 0, 0),
     ];
     check(&hierarchy::order(), &expected);
 }
 
 #[test]
 fn an_output_that_is_too_short() {
-    let short = || refused!(7, 0, 0);
+    let short = || refused(7, 0, 0);
     let one = || ranked("hierarchy 3", [[1]], [[0]], [1]);
     let three = || {
         ranked(

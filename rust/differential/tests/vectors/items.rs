@@ -3,26 +3,9 @@
 use super::*;
 use differential::named::items;
 
-/// A byte for each item.
-fn filled(answer: &'static str, fits: &[u8]) -> Expected {
-    Expected {
-        answer,
-        written: fits.to_vec(),
-    }
-}
-
 /// Refused with this number, input and place.
-macro_rules! refused {
-    ($number:literal, $input:literal, $place:literal) => {
-        said(concat!(
-            "fit all refused ",
-            $number,
-            " input ",
-            $input,
-            " place ",
-            $place
-        ))
-    };
+fn refused(number: u8, input: u16, place: u32) -> Expected {
+    super::refused("fit all", number, input, place)
 }
 
 #[test]
@@ -75,8 +58,8 @@ fn links_to_one_item() {
         &items::singles(),
         &[
             filled("fit all 3", &[1, 0, 0]),
-            refused!(9, 1, 2),
-            refused!(9, 1, 3),
+            refused(9, 1, 2),
+            refused(9, 1, 3),
             filled("fit all 3", &[1, 1, 1]),
             filled("fit all 3", &[1, 1, 1]),
             filled("fit all 3", &[1, 1, 1]),
@@ -94,25 +77,25 @@ fn totals_and_item_numbers() {
     check(
         &items::totals(),
         &[
-            refused!(10, 1, 0),
+            refused(10, 1, 0),
             filled("fit all 1", &[1]),
             filled("fit all 255", &first(255)),
             filled("fit all 256", &first(256)),
-            refused!(10, 1, 0),
-            refused!(10, 1, 0),
-            refused!(10, 1, 0),
-            refused!(10, 1, 0),
-            refused!(1, 1, 0),
+            refused(10, 1, 0),
+            refused(10, 1, 0),
+            refused(10, 1, 0),
+            refused(10, 1, 0),
+            refused(1, 1, 0),
         ],
     );
     check(
         &items::numbers(),
         &[
-            refused!(10, 1, 2),
-            refused!(10, 1, 1),
-            refused!(10, 1, 1),
-            refused!(10, 1, 1),
-            refused!(10, 1, 1),
+            refused(10, 1, 2),
+            refused(10, 1, 1),
+            refused(10, 1, 1),
+            refused(10, 1, 1),
+            refused(10, 1, 1),
         ],
     );
 }
@@ -122,16 +105,16 @@ fn order() {
     check(
         &items::order(),
         &[
-            refused!(4, 1, 1),
-            refused!(4, 1, 1),
-            refused!(4, 1, 1),
-            refused!(10, 1, 2),
-            refused!(9, 1, 2),
-            refused!(2, 1, 1),
-            refused!(10, 1, 3),
-            refused!(12, 1, 2),
-            refused!(4, 2, 1),
-            refused!(4, 1, 1),
+            refused(4, 1, 1),
+            refused(4, 1, 1),
+            refused(4, 1, 1),
+            refused(10, 1, 2),
+            refused(9, 1, 2),
+            refused(2, 1, 1),
+            refused(10, 1, 3),
+            refused(12, 1, 2),
+            refused(4, 2, 1),
+            refused(4, 1, 1),
         ],
     );
 }
@@ -142,9 +125,9 @@ fn lists_and_names() {
         &items::by_the_list(),
         &[
             filled("fit all 2", &[1, 0]),
-            refused!(12, 1, 4),
+            refused(12, 1, 4),
             filled("fit all 2", &[1, 1]),
-            refused!(11, 0, 0),
+            refused(11, 0, 0),
         ],
     );
     check(
@@ -152,10 +135,10 @@ fn lists_and_names() {
         &[
             filled("fit all 2", &[1, 0]),
             filled("fit all 2", &[0, 1]),
-            refused!(13, 2, 1),
-            refused!(13, 2, 1),
-            refused!(4, 101, 1),
-            refused!(10, 1, 0),
+            refused(13, 2, 1),
+            refused(13, 2, 1),
+            refused(4, 101, 1),
+            refused(10, 1, 0),
         ],
     );
 }
@@ -165,10 +148,10 @@ fn outputs() {
     check(
         &items::outputs(),
         &[
-            refused!(7, 0, 0),
-            refused!(7, 0, 0),
+            refused(7, 0, 0),
+            refused(7, 0, 0),
             filled("fit all 256", &[0; 256]),
-            refused!(7, 0, 0),
+            refused(7, 0, 0),
             filled("fit all 256", &[0; 256]),
         ],
     );

@@ -49,32 +49,38 @@ fn sorts(vectors: &[Vector]) -> BTreeMap<String, usize> {
 
 /// An answer that is expected, and the bytes that the call writes.
 struct Expected {
-    answer: &'static str,
+    answer: String,
     written: Vec<u8>,
 }
 
 /// An answer that writes nothing.
-fn said(answer: &'static str) -> Expected {
+fn said(answer: impl Into<String>) -> Expected {
+    filled(answer, &[])
+}
+
+/// Refused by this call with this number, input and place.
+fn refused(call: &str, number: u8, input: u16, place: u32) -> Expected {
+    said(format!(
+        "{call} refused {number} input {input} place {place}"
+    ))
+}
+
+/// An answer that writes these bytes.
+fn filled(answer: impl Into<String>, written: &[u8]) -> Expected {
     Expected {
-        answer,
-        written: Vec::new(),
+        answer: answer.into(),
+        written: written.to_vec(),
     }
 }
 
 /// An answer that writes the blocks of this text.
-fn wrote(answer: &'static str, text: &str) -> Expected {
-    Expected {
-        answer,
-        written: blocks(text),
-    }
+fn wrote(answer: &str, text: &str) -> Expected {
+    filled(answer, &blocks(text))
 }
 
 /// An answer that writes the blocks of these entries.
-fn wrote_entries(answer: &'static str, entries: &[Entry]) -> Expected {
-    Expected {
-        answer,
-        written: encode(entries),
-    }
+fn wrote_entries(answer: &str, entries: &[Entry]) -> Expected {
+    filled(answer, &encode(entries))
 }
 
 /// Each vector gives the line that is expected, with the digest of an output that starts with what is written.
@@ -443,10 +449,7 @@ fn checks() {
     let mut expected = vec![
         said("description accepted 0"),
         said("specimen accepted 0"),
-        Expected {
-            answer: "normal form 0",
-            written: empty,
-        },
+        filled("normal form 0", &empty),
         said("description refused 2 input 1 place 1"),
         said("specimen refused 2 input 1 place 1"),
         said("description refused 2 input 1 place 1"),

@@ -6,7 +6,7 @@ use differential::naming::chain;
 
 /// These answers, none of which writes anything.
 fn all_said(answers: &[&'static str]) -> Vec<Expected> {
-    answers.iter().map(|answer| said(answer)).collect()
+    answers.iter().map(|answer| said(*answer)).collect()
 }
 
 /// Refused with this in each call that takes a dictionary.

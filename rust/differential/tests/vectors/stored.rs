@@ -3,28 +3,9 @@
 use super::*;
 use differential::named::stored::{self, Row};
 
-/// Refused with this number and place; 7 is of no input.
-macro_rules! refused {
-    ($call:literal, 7) => {
-        said(concat!($call, " stored refused 7 input 0 place 0"))
-    };
-    ($call:literal, $number:literal, $place:literal) => {
-        said(concat!(
-            $call,
-            " stored refused ",
-            $number,
-            " input 1 place ",
-            $place
-        ))
-    };
-}
-
 /// Written in the stored form.
 fn rows(answer: &'static str, rows: &[Row]) -> Expected {
-    Expected {
-        answer,
-        written: stored::stored(rows),
-    }
+    filled(answer, &stored::stored(rows))
 }
 
 /// So many properties, written as a description.
@@ -76,15 +57,15 @@ fn eighty_four_to_a_block() {
     check(
         &stored::sizes(),
         &[
-            refused!("to", 7),
-            refused!("to", 7),
+            refused("to stored", 7, 0, 0),
+            refused("to stored", 7, 0, 0),
             rows("to stored 0", &[]),
             rows("to stored 64", &stored::flat(64)),
             rows("to stored 84", &stored::flat(84)),
-            refused!("to", 7),
+            refused("to stored", 7, 0, 0),
             rows("to stored 85", &stored::flat(85)),
             rows("to stored 1008", &stored::flat(1008)),
-            refused!("to", 7),
+            refused("to stored", 7, 0, 0),
         ],
     );
 }
@@ -94,14 +75,14 @@ fn descriptions_that_are_refused() {
     check(
         &stored::refused_descriptions(),
         &[
-            refused!("to", 1, 0),
-            refused!("to", 2, 1),
-            refused!("to", 4, 1),
-            refused!("to", 4, 1),
-            refused!("to", 4, 1),
-            refused!("to", 5, 1),
-            refused!("to", 6, 34),
-            refused!("to", 4, 1),
+            refused("to stored", 1, 1, 0),
+            refused("to stored", 2, 1, 1),
+            refused("to stored", 4, 1, 1),
+            refused("to stored", 4, 1, 1),
+            refused("to stored", 4, 1, 1),
+            refused("to stored", 5, 1, 1),
+            refused("to stored", 6, 1, 34),
+            refused("to stored", 4, 1, 1),
         ],
     );
 }
@@ -124,15 +105,15 @@ fn written_as_descriptions() {
     check(
         &stored::restored_sizes(),
         &[
-            refused!("from", 7),
+            refused("from stored", 7, 0, 0),
             flat("from stored 63", 63),
-            refused!("from", 7),
+            refused("from stored", 7, 0, 0),
             flat("from stored 64", 64),
             flat("from stored 84", 84),
             flat("from stored 85", 85),
             flat("from stored 1008", 1008),
-            refused!("from", 7),
-            refused!("from", 1, 0),
+            refused("from stored", 7, 0, 0),
+            refused("from stored", 1, 1, 0),
         ],
     );
 }
@@ -142,15 +123,15 @@ fn depths_that_no_owner_gives() {
     check(
         &stored::owners(),
         &[
-            refused!("from", 15, 2),
-            refused!("from", 15, 2),
-            refused!("from", 15, 1),
-            refused!("from", 15, 3),
-            refused!("from", 15, 3),
-            refused!("from", 15, 4),
-            refused!("from", 15, 1),
-            refused!("from", 15, 1),
-            refused!("from", 15, 1),
+            refused("from stored", 15, 1, 2),
+            refused("from stored", 15, 1, 2),
+            refused("from stored", 15, 1, 1),
+            refused("from stored", 15, 1, 3),
+            refused("from stored", 15, 1, 3),
+            refused("from stored", 15, 1, 4),
+            refused("from stored", 15, 1, 1),
+            refused("from stored", 15, 1, 1),
+            refused("from stored", 15, 1, 1),
         ],
     );
 }
@@ -160,19 +141,19 @@ fn order() {
     check(
         &stored::order(),
         &[
-            refused!("from", 6, 34),
-            refused!("from", 6, 34),
-            refused!("from", 15, 34),
-            refused!("from", 4, 34),
-            refused!("from", 4, 1),
-            refused!("from", 4, 1),
-            refused!("from", 4, 1),
-            refused!("from", 4, 1),
-            refused!("from", 4, 1),
-            refused!("from", 4, 1),
-            refused!("from", 15, 1),
-            refused!("from", 4, 1),
-            refused!("from", 15, 1),
+            refused("from stored", 6, 1, 34),
+            refused("from stored", 6, 1, 34),
+            refused("from stored", 15, 1, 34),
+            refused("from stored", 4, 1, 34),
+            refused("from stored", 4, 1, 1),
+            refused("from stored", 4, 1, 1),
+            refused("from stored", 4, 1, 1),
+            refused("from stored", 4, 1, 1),
+            refused("from stored", 4, 1, 1),
+            refused("from stored", 4, 1, 1),
+            refused("from stored", 15, 1, 1),
+            refused("from stored", 4, 1, 1),
+            refused("from stored", 15, 1, 1),
         ],
     );
 }
@@ -182,18 +163,18 @@ fn lengths_frames_and_checks() {
     check(
         &stored::frames(),
         &[
-            refused!("from", 1, 0),
-            refused!("from", 1, 0),
-            refused!("from", 1, 0),
-            refused!("from", 3, 1),
-            refused!("from", 2, 1),
-            refused!("from", 2, 1),
-            refused!("from", 2, 2),
-            refused!("from", 3, 1),
-            refused!("from", 3, 1),
-            refused!("from", 3, 1),
-            refused!("from", 3, 1),
-            refused!("from", 3, 1),
+            refused("from stored", 1, 1, 0),
+            refused("from stored", 1, 1, 0),
+            refused("from stored", 1, 1, 0),
+            refused("from stored", 3, 1, 1),
+            refused("from stored", 2, 1, 1),
+            refused("from stored", 2, 1, 1),
+            refused("from stored", 2, 1, 2),
+            refused("from stored", 3, 1, 1),
+            refused("from stored", 3, 1, 1),
+            refused("from stored", 3, 1, 1),
+            refused("from stored", 3, 1, 1),
+            refused("from stored", 3, 1, 1),
         ],
     );
 }
@@ -204,11 +185,11 @@ fn entries_that_change_places() {
         &stored::exchanged(),
         &[
             wrote("from stored 2", "3,2,1; 3,1,2"),
-            refused!("from", 2, 1),
+            refused("from stored", 2, 1, 1),
             wrote("from stored 3", "3,1,32768; 1,9; 3,1,0"),
-            refused!("from", 2, 1),
-            refused!("from", 2, 1),
-            refused!("from", 15, 3),
+            refused("from stored", 2, 1, 1),
+            refused("from stored", 2, 1, 1),
+            refused("from stored", 15, 1, 3),
         ],
     );
 }
@@ -220,10 +201,10 @@ fn the_other_form() {
         &[
             wrote("from stored 0", ""),
             wrote("from stored 1", "6"),
-            refused!("from", 4, 1),
-            refused!("from", 4, 2),
-            refused!("from", 3, 1),
-            refused!("from", 3, 1),
+            refused("from stored", 4, 1, 1),
+            refused("from stored", 4, 1, 2),
+            refused("from stored", 3, 1, 1),
+            refused("from stored", 3, 1, 1),
         ],
     );
 }
