@@ -100,5 +100,5 @@ pub(super) const FORM: &str = "\
 .form summary .e{font-weight:600}
 .form .k{display:none}
 .blank{border-bottom:1px solid var(--soft);height:2rem;margin:0}
-@media print{.form li,.form .e{break-inside:avoid}.answer{padding:.4rem .8rem}}
+@media print{.form .e{padding:.2rem .4rem}.answer{padding:.4rem .8rem}}
 ";
