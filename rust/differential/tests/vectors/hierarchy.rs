@@ -239,26 +239,18 @@ fn number_8_of_a_list() {
 
 #[test]
 fn the_services_own_checks() {
-    let expected = [
-        refused(2, 2, 2),
-        refused(2, 4, 2),
-        refused(3, 2, 1),
-        refused(3, 4, 1),
-        refused(4, 2, 2),
-        refused(4, 4, 2),
-        refused(4, 2, 2),
-        refused(4, 4, 2),
-        refused(4, 2, 2),
-        refused(4, 4, 2),
-        refused(4, 2, 1),
-        refused(4, 4, 1),
-        refused(5, 2, 2),
-        refused(5, 4, 2),
-        refused(6, 2, 34),
-        refused(6, 4, 34),
-        refused(1, 2, 0),
-        refused(1, 3, 0),
+    let own = [
+        (2, 2),
+        (3, 1),
+        (4, 2),
+        (4, 2),
+        (4, 2),
+        (4, 1),
+        (5, 2),
+        (6, 34),
     ];
+    let mut expected = first_and_third("hierarchy", &own);
+    expected.extend([refused(1, 2, 0), refused(1, 3, 0)]);
     check(&hierarchy::own_checks(), &expected);
 }
 

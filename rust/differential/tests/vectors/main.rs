@@ -65,6 +65,13 @@ fn refused(call: &str, number: u8, input: u16, place: u32) -> Expected {
     ))
 }
 
+/// Refused by this call with each of these numbers and places, where it is the first service of a list and where it is the third.
+fn first_and_third(call: &str, refusals: &[(u8, u32)]) -> Vec<Expected> {
+    let each = refusals.iter();
+    each.flat_map(|&(number, place)| [2, 4].map(|input| refused(call, number, input, place)))
+        .collect()
+}
+
 /// An answer that writes these bytes.
 fn filled(answer: impl Into<String>, written: &[u8]) -> Expected {
     Expected {
