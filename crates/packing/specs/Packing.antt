@@ -7,6 +7,8 @@ use Rattle.blocks.specs.declared.Refusal.{Refusal}
 use Rattle.compare.specs.Answer.{Comparison}
 use Rattle.fit.specs.Answer.{FitAnswer}
 use Rattle.fit.specs.declared.Counted.{Counted}
+use Rattle.missing.specs.Answer.{Lacking}
+use Rattle.missing.specs.declared.Lack.TheVariants.{Addable, Against, Nothing}
 
 -- [K5] the four fields of an answer
 abbrev pub packed : ℕ → ℕ → ℕ → ℕ → ℕ
@@ -39,6 +41,13 @@ pack_adds (Err e) walk table = pack_refusal e
 
 abbrev pub pack_counted : Counted → ℕ
 pack_counted c = pack_adds c.answer c.walk c.table
+
+-- what is lacking: [K5] 1 for nothing, 2 for what is to be added, 3 where no item fits both
+abbrev pub pack_lack : Lacking → ℕ
+pack_lack (Ok Nothing) = packed 1 0 0 0
+pack_lack (Ok Addable) = packed 2 0 0 0
+pack_lack (Ok Against) = packed 3 0 0 0
+pack_lack (Err e) = pack_refusal e
 
 -- comparing: [K5] not contained: 2, the entry that fails, the specimen's total
 abbrev pub pack_comparison : Comparison → ℕ

@@ -5,4 +5,4 @@
 
 mod packing;
 
-pub use packing::{pack_comparison, pack_counted, pack_fit, pack_reading};
+pub use packing::{pack_comparison, pack_counted, pack_fit, pack_lack, pack_reading};

@@ -1,10 +1,11 @@
 // The number of 64 bits that stands for an answer.
 ghost use Rattle.std.specs.Prelude.{◌≡◌};
-ghost use Rattle.packing.specs.Packing.{pack_adds, pack_comparison, pack_counted, pack_fit, pack_reading, pack_refusal, packed};
+ghost use Rattle.packing.specs.Packing.{pack_adds, pack_comparison, pack_counted, pack_fit, pack_lack, pack_reading, pack_refusal, packed};
 
 use blocks::Refusal;
 use compare::NotContained;
 use fit::Counted;
+use missing::Lack;
 
 // Four fields as one number: bits 0 to 7, 8 to 15, 16 to 31, and those from 32 up. What is answered and refused is told
 // by numbers here alone, since C reads them.
@@ -67,6 +68,18 @@ pub fn pack_comparison(answer: Result<Option<NotContained>, Refusal>) -> u64
     match answer {
         Ok(None) => pack(1, 0, 0, 0),
         Ok(Some(shown)) => pack(2, 0, shown.entry, shown.entries),
+        Err(refusal) => pack_refusal(refusal),
+    }
+}
+
+// What a description lacks: nothing, what is to be added, or that no item fits both; or the refusal.
+pub fn pack_lack(answer: Result<Lack, Refusal>) -> u64
+    ensures { result ≡ pack_lack answer }
+{
+    match answer {
+        Ok(Lack::Nothing) => pack(1, 0, 0, 0),
+        Ok(Lack::Addable) => pack(2, 0, 0, 0),
+        Ok(Lack::Against) => pack(3, 0, 0, 0),
         Err(refusal) => pack_refusal(refusal),
     }
 }
