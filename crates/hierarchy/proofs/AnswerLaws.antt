@@ -3,30 +3,28 @@
 use Prim.Native.Nat.{◌*◌, ◌+◌, ◌-◌, ◌<◌, ◌≤◌, ℕ}
 use lib.Dec.{eqb}
 use lib.ListN.{drop, get_or, length, length-append, length-replicate, replicate}
-use mathlib.Core.Bool.{Bool, false, not, true, ◌&&◌}
-use mathlib.Core.List.{List, [], ◌++◌, append_assoc}
-use mathlib.Core.Path.{◌∙◌, ◌≡◌, ap, refl, sym}
+use mathlib.Core.Bool.{Bool, not}
+use mathlib.Core.List.{List, ◌++◌, append_assoc}
+use mathlib.Core.Path.{◌∙◌, ◌≡◌, ap, refl}
 use native.Mathlib.Nat.{mul-le-mul_left}
 use native.Mathlib.Omega.{arith}
 use Rattle.base.proofs.Lists.{length-listed, listed}
 use Rattle.base.proofs.SearchLaws.{first-same}
-use Rattle.base.proofs.StoresLaws.{length-stored, stored-front, stored-then}
+use Rattle.base.proofs.StoresLaws.{stored-front, stored-then}
 use Rattle.base.proofs.Tests.{bool_cases, ge-ltb, lt-ltb}
 use Rattle.base.specs.Range.{bit}
 use Rattle.base.specs.Stores.{rows_at, stored}
-use Rattle.blocks.proofs.Refusing.Readings.{reading-cases}
 use Rattle.blocks.specs.Encoding.{joined}
-use Rattle.blocks.specs.Entries.{entries_of}
 use Rattle.blocks.specs.Reading.{Reading}
 use Rattle.blocks.specs.Refusals.{refused, unless_refused}
 use Rattle.blocks.specs.declared.Cause.TheVariants.{Room}
 use Rattle.blocks.specs.declared.Refusal.{Refusal}
 use Rattle.hierarchy.proofs.RowLaws.{direct-same, listed-same, rows-square, square-long, square-same}
 use Rattle.hierarchy.proofs.WordLaws.{bit-told}
-use Rattle.hierarchy.specs.Answer.{contains, hierarchy_of, hierarchy_size, ranked_of, ranks, service_entries, square_rows}
+use Rattle.hierarchy.specs.Answer.{contains, hierarchy_of, hierarchy_size, ranked_of, ranks, square_rows}
 use Rattle.hierarchy.specs.code.Words.{Flat, Rows, cell, rows_in}
 use Rattle.lists.specs.Parts.{parts_of}
-use Rattle.meaning.specs.Hierarchy.{alike, class_of, direct, strict}
+use Rattle.meaning.specs.Hierarchy.{alike, class_of, direct}
 use Rattle.pairs.specs.Pairs.{pairs_reading, under}
 use Rattle.slots.proofs.CutLaws.{cut-taken}
 use Rattle.slots.proofs.ContainmentLaws.{contained-cell}

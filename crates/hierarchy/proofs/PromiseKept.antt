@@ -1,10 +1,9 @@
 -- What is promised of ranking a list of services.
 -- Assumes nothing.
-use Prim.Native.Nat.{◌%◌, ◌*◌, ◌+◌, ◌<◌, ◌≤◌, suc, zero, ℕ}
-use lib.Dec.{eqb}
-use lib.ListN.{drop, get_or, get_or-append, length, length-append}
+use Prim.Native.Nat.{◌*◌, ◌+◌, ◌<◌, ◌≤◌, suc, zero, ℕ}
+use lib.ListN.{drop, get_or, get_or-append, length}
 use lib.Seq.{drop_at, get_or-append-add}
-use mathlib.Core.Bool.{Bool, not, true, ◌||◌}
+use mathlib.Core.Bool.{Bool, true}
 use mathlib.Core.List.{List, [], ◌++◌, ◌∷◌}
 use mathlib.Core.Logic.{◌↔◌, ◌≢◌}
 use mathlib.Core.Path.{◌∙◌, ◌≡◌, ap, refl, sym}
@@ -17,7 +16,6 @@ use Rattle.base.specs.Range.{bit}
 use Rattle.blocks.proofs.Refusing.Readings.{reading-cases}
 use Rattle.blocks.proofs.RoundTrip.Accepting.{sound-of-accepted}
 use Rattle.blocks.specs.Encoding.{joined}
-use Rattle.blocks.specs.Entries.{entries_of}
 use Rattle.blocks.specs.Promise.{Legal}
 use Rattle.blocks.specs.Reading.{reading_of}
 use Rattle.blocks.specs.Refusals.{refused}
@@ -27,13 +25,13 @@ use Rattle.blocks.specs.declared.Schema.TheVariants.{Description}
 use Rattle.hierarchy.proofs.AnswerLaws.{ranks-long, table-taken}
 use Rattle.hierarchy.proofs.RowLaws.{square-long}
 use Rattle.hierarchy.specs.Answer.{contains, hierarchy_of, hierarchy_size, ranked_of, ranks, service_entries, square_rows}
-use Rattle.hierarchy.specs.Promise.{ContainedUnder, RanksServices, class_byte, service_in, services_in, superior_byte, table_byte}
+use Rattle.hierarchy.specs.Promise.{ContainedUnder, RanksServices, class_byte, service_in, services_in}
 use Rattle.lists.proofs.PartLaws.{parts-of}
 use Rattle.lists.specs.Parts.{parts_of}
 use Rattle.meaning.proofs.Hierarchies.OrderedTable.{table-ordered}
 use Rattle.meaning.proofs.Hierarchies.Superiors.{class-alike, class-only, leads-strict, reaches}
 use Rattle.meaning.proofs.Verdicts.Contained.{contained-all}
-use Rattle.meaning.specs.Hierarchy.{Ordered, alike, class_of, direct}
+use Rattle.meaning.specs.Hierarchy.{Ordered, class_of, direct}
 use Rattle.pairs.proofs.Under.{ruled-under}
 use Rattle.pairs.specs.Pairs.{under}
 use Rattle.names.proofs.Legality.AcceptedReadings.{any-input}

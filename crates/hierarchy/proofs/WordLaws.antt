@@ -3,7 +3,7 @@
 -- Assumes nothing.
 use Prim.Native.Nat.{◌*◌, ◌+◌, ◌-◌, ◌/◌, ◌<◌, ◌%◌, ◌^◌, ◌≤◌, max, min, suc, zero, ℕ}
 use lib.Dec.{eqb}
-use lib.ListN.{get_or, length, set}
+use lib.ListN.{length, set}
 use lib.Seq.{get_or-set_other, get_or-set_same}
 use mathlib.Core.Bool.{Bool, false, not, true, ◌&&◌, ◌||◌}
 use mathlib.Core.List.{List}
@@ -15,11 +15,11 @@ use Rattle.std.proofs.lemmas.Nat.Bits.{bit_at-suc, bit_at-trailing_zeros, bit_at
 use Rattle.std.specs.Int.{bit_at, bit_not, trailing_zeros}
 use Rattle.std.specs.Int.RustNames.{bit_and, bit_or}
 use Rattle.std.specs.Int.Width.{w64}
-use Rattle.base.proofs.SearchLaws.{Least, least_first, none_first}
+use Rattle.base.proofs.SearchLaws.{least_first, none_first}
 use Rattle.base.proofs.Tests.{bool_cases, eq-cases, lt-cases, lt-ltb, ge-ltb}
 use Rattle.base.specs.Range.{bit}
 use Rattle.base.specs.Search.{first_from}
-use Rattle.hierarchy.specs.code.Words.{Rows, Told, led, uncovered}
+use Rattle.hierarchy.specs.code.Words.{Rows, Told, led}
 use Rattle.meaning.specs.Hierarchy.{some_below}
 use Rattle.std.specs.Prelude.{ltb}
 

@@ -1,5 +1,5 @@
 -- `write_ranks` meets its contract: the three parts are written one behind the other.
-use Rattle.std.proofs.Common.{◌∙◌, ap, length, arith}
+use Rattle.std.proofs.Common.{ap, length, arith}
 use Rattle.base.proofs.StoresLaws.{length-stored}
 use Rattle.blocks.specs.Encoding.{joined}
 use Rattle.hierarchy.proofs.AnswerLaws.{ranks-written}

@@ -1,5 +1,5 @@
 -- `gather` meets its contract: the last j bytes are gathered.
-use Rattle.std.proofs.Common.{◌+◌, ◌-◌, ◌*◌, ◌<◌, ◌^◌, ℕ, eqb, get_or}
+use Rattle.std.proofs.Common.{◌+◌, ◌-◌, ◌*◌, ◌<◌, ◌^◌, eqb, get_or}
 use Rattle.hierarchy.specs.code.Words.{Told}
 use Rattle.hierarchy.proofs.table.gather.Given as goal
 

@@ -1,14 +1,9 @@
-use Prim.Native.Nat.{◌*◌, ◌+◌, ◌-◌, ◌<◌, ◌≤◌, ℕ, suc}
-use lib.ListN.{drop, get_or, length, length-set, set}
-use mathlib.Core.Bool.{Bool, ◌||◌, ◌&&◌, false, not, true}
-use mathlib.Core.Path.{◌∙◌, ◌≡◌, ap, refl, sym}
+use lib.ListN.{get_or, length}
+use mathlib.Core.Path.{◌∙◌, ap, sym}
 use native.Mathlib.Omega.{arith}
-use Rattle.base.proofs.Lists.{listed}
 use Rattle.base.proofs.StoresLaws.{length-stored, stored-none}
-use Rattle.base.specs.Range.{bit}
 use Rattle.base.specs.Stores.{stored}
-use Rattle.hierarchy.specs.code.Words.{Rows, rows_in, turned}
-use Rattle.blocks.specs.Encoding.{joined}
+use Rattle.hierarchy.specs.code.Words.{rows_in}
 use Rattle.hierarchy.proofs.RowLaws.{joined-less, joined-more, joined-none, row-in, row-long, rows-many}
 use Rattle.hierarchy.proofs.table.put_rows.Goals as goal
 use Rattle.hierarchy.proofs.table.put_rows.Goals.{In-loop-i}

@@ -1,13 +1,10 @@
 -- `put_rows` meets its contract: the rows so far are stored, and those that are left give the output.
-use Prim.Native.Nat.{◌*◌, ◌+◌, ◌-◌, ◌≤◌, ℕ}
-use lib.ListN.{drop, get_or, length}
-use mathlib.Core.Bool.{Bool, ◌||◌, ◌&&◌, not, false}
+use Prim.Native.Nat.{◌+◌}
+use lib.ListN.{drop, length}
 use mathlib.Core.Path.{◌≡◌}
-use Rattle.base.proofs.Lists.{listed}
-use Rattle.base.specs.Range.{bit}
 use Rattle.base.specs.Stores.{stored}
 use Rattle.blocks.specs.Encoding.{joined}
-use Rattle.hierarchy.specs.code.Words.{Rows, rows_in, turned}
+use Rattle.hierarchy.specs.code.Words.{rows_in}
 use Rattle.hierarchy.proofs.table.put_rows.Given as goal
 
 abbrev pub invariant-loop-i : goal.invariant-loop-i
