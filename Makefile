@@ -94,6 +94,8 @@ outside: lib gx $(PROGRAM)
 		"take off: 1 entries,add: 2 entries,add: refused 5 place 3,go back: 2 entries,write: 2 entries,read: 2 entries"
 	$(CC) $(CFLAGS) examples/delivered.c target/staticlib/libcapi.a -o target/c/delivered
 	test "$$(target/c/delivered | paste -s -d,)" = "item 1 fits,item 2 does not fit,item 3 does not fit"
+	$(CC) $(CFLAGS) examples/failing.c target/staticlib/libcapi.a -o target/c/failing
+	test "$$(cd examples && ../target/c/failing supplier.blocks services/sealed.blocks | paste -s -d,)" = "entry 2 fails"
 	$(CC) $(CFLAGS) examples/sheet.c target/staticlib/libcapi.a -o target/c/sheet
 	test "$$(cd examples && ../target/c/sheet supplier.blocks pair.blocks | paste -s -d,)" = \
 		"supplier.blocks: field sheet of 3 entries,pair.blocks: refused 3 place 1"

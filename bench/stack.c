@@ -128,6 +128,9 @@ static void catalogue(void) {
 static void earning(void) {
     answer = gx_earning(pairs, sizeof pairs, wide, sizeof wide, wide, sizeof wide, out, sizeof out);
 }
+static void failing(void) {
+    answer = gx_failing(pairs, sizeof pairs, wide, sizeof wide, wide, sizeof wide, out, sizeof out);
+}
 static void hierarchy(void) { answer = gx_hierarchy(pairs, sizeof pairs, list, sizeof list, out, sizeof out); }
 static void fit_all(void) {
     answer = gx_fit_all(pairs, sizeof pairs, NULL, 0, 256, record, sizeof record, places, sizeof places, out, sizeof out);
@@ -209,6 +212,7 @@ int main(void) {
     show("gx_catalogue", catalogue);
     show("gx_hierarchy", hierarchy);
     show("gx_earning", earning);
+    show("gx_failing", failing);
     show("gx_desk_add", desk_add);
     show("gx_desk_take_off", desk_take_off);
     show("gx_desk_name", desk_name);

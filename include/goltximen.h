@@ -39,7 +39,7 @@
  * All answers and written bytes, numbers of entries included, are those for the unfolded descriptions, and an output is measured
  * by them too; one of them has at most GX_BYTES(1008) bytes. The limit of 16 blocks is about a description as it is sent. gx_fit,
  * gx_fit_counted, gx_normal and gx_compare have a dictionary of length 0, so they refuse every name with 13; the three readers,
- * gx_hierarchy, gx_earning, gx_to_stored, gx_from_stored and a desk take no dictionary and refuse kind 9 with 4.
+ * gx_hierarchy, gx_earning, gx_failing, gx_to_stored, gx_from_stored and a desk take no dictionary and refuse kind 9 with 4.
  *
  * Lists of services. gx_catalogue and gx_hierarchy take 1 to 64 descriptions laid end to end: the first block and each later one numbered 1
  * begins a service. Only the stored number counts for this, and it is looked at before any check: a block whose number is damaged
@@ -287,6 +287,20 @@ uint64_t gx_hierarchy(const uint8_t *pairs, size_t pairs_len, const uint8_t *lis
  * Later bytes of out stay. Where refused, out is unchanged.
  */
 uint64_t gx_earning(const uint8_t *pairs, size_t pairs_len, const uint8_t *c, size_t c_len, const uint8_t *d, size_t d_len, uint8_t *out,
+                    size_t out_len);
+
+/* The bytes that gx_failing writes at most: one for each entry of a description. */
+#define GX_FAILING_BYTES 1008
+
+/*
+ * Which entries of the description d, input 2, fail for the description c, input 1, under a list of pairs, each by itself: all of them,
+ * where gx_compare_with names the first. It writes a byte of out for each entry of d, from the start: 1 where c is not contained in
+ * that entry with its owners alone, else 0; for an 'every' 0. The lowest 1 is the entry of gx_compare_with. Contained, and then all
+ * bytes are 0, or not contained; first and second are 0. Or refused, by the first that applies: 11 for the pairs; input 1; input 2; 7
+ * where out has fewer bytes than d has entries, contained or not. It takes no dictionary, so kind 9 is 4. Later bytes of out stay.
+ * Where refused, out is unchanged.
+ */
+uint64_t gx_failing(const uint8_t *pairs, size_t pairs_len, const uint8_t *c, size_t c_len, const uint8_t *d, size_t d_len, uint8_t *out,
                     size_t out_len);
 
 /* The bytes of a desk: ten words of two bytes, and five areas of 1,008 entries of 8 bytes; docs/FORMAT.md says what stands where. */

@@ -13,6 +13,7 @@
 ghost use Rattle.std.specs.Prelude.{◌≡◌, ℕ, Bool, List, [], Ok};
 ghost use Rattle.answers.specs.Calls.{CountsPlainly, DecidedPlainly, FirstLine, FitsPlainly, NormalisesPlainly, NothingWritten, ReadExactly, RefusedExactly, Unfolds};
 ghost use Rattle.answers.specs.Earning.{AskedRefused, Earns};
+ghost use Rattle.answers.specs.Failing.{Fails};
 ghost use Rattle.answers.specs.Items.{ItemsRefused, MarksItems};
 ghost use Rattle.answers.specs.Promise.{ComparableNamed, DecidedNamed, Fills, FitsNamedExactly, JudgeableNamed, NormalisesNamed};
 ghost use Rattle.answers.specs.Ranking.{HierarchyRefused, Ranks};
@@ -27,6 +28,7 @@ ghost use Rattle.drafts.specs.Listed.{AllLeave};
 ghost use Rattle.drafts.specs.Promise.{DeskRefused, Drafts, WriteRefused, WritesOut, Zeros};
 ghost use Rattle.drafts.specs.declared.Call.{Call};
 ghost use Rattle.earning.specs.Answer.{earned_of, earning_of};
+ghost use Rattle.failings.specs.Answer.{failed_of, failing_of};
 ghost use Rattle.fit.specs.Promise.{Judgeable};
 ghost use Rattle.hierarchy.specs.Answer.{hierarchy_of, ranked_of};
 ghost use Rattle.items.specs.Answer.{items_of, marked_of};
@@ -218,6 +220,18 @@ pub extern "C" fn gx_earning(pairs: &[u8], c: &[u8], d: &[u8], out: &mut [u8]) -
     ensures means { (yes : Bool) → earning_of pairs.now c.now d.now out.old ≡ Ok yes → Earns pairs.now c.now d.now out.old yes }
 {
     pack_fit(earning::earning(pairs, c, d, out))
+}
+
+// Marks the entries of the description d, input 2, that fail for c, input 1, each by itself: writes a byte for each entry of d, 1 where c is not
+// contained in that entry with its owners alone, else 0. Contained, with all bytes 0; not contained; or the refusal.
+#[unsafe(no_mangle)]
+pub extern "C" fn gx_failing(pairs: &[u8], c: &[u8], d: &[u8], out: &mut [u8]) -> u64
+    ensures answer { (result ≡ pack_fit (failing_of pairs.now c.now d.now out.old)) × (out.new ≡ failed_of pairs.now c.now d.now out.old) }
+    ensures refuses { RefusedExactly (failing_of pairs.now c.now d.now out.old) (AskedRefused pairs.now c.now d.now d.now out.old) }
+    ensures keeps { NothingWritten (failing_of pairs.now c.now d.now out.old) (failed_of pairs.now c.now d.now out.old) out.old }
+    ensures means { (yes : Bool) → failing_of pairs.now c.now d.now out.old ≡ Ok yes → Fails pairs.now c.now d.now out.old yes }
+{
+    pack_fit(failings::failing(pairs, c, d, out))
 }
 
 // ---- a drafting desk [O1] in one buffer; what is promised of it is proved in `drafts`

@@ -5,6 +5,7 @@
 mod delivered;
 mod desks;
 mod earned;
+mod failings;
 mod listed;
 mod named;
 mod ranked;
@@ -74,6 +75,7 @@ fn main() {
         Some("stored") => return stores::rows(),
         Some("desk") => return desks::rows(),
         Some("earning") => return earned::rows(),
+        Some("failing") => return failings::rows(),
         _ => {}
     }
     model_rows();
@@ -84,6 +86,7 @@ fn main() {
     desks::rows();
     stores::rows();
     sheets::rows();
+    failings::rows();
     delivered::rows();
     earned::rows();
     turns::rows();

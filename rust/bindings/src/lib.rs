@@ -14,7 +14,7 @@
 //! about records that keep the list as well. It also has the dictionary whose descriptions may be named by others, and [`unfold()`]
 //! puts them in where they are named. [`fit()`], [`normal_form`] and [`compare`] are the calls with no list and no dictionary.
 //! [`Under::catalogue`] compares one description with a list of up to 64, and [`hierarchy()`] ranks such a list from special to general.
-//! [`earning()`] marks the entries of a description that earn a yes.
+//! [`earning()`] marks the entries of a description that earn a yes, and [`failing()`] all those of a service that fail.
 //! [`Desk`] is a description that is drafted entry by entry, with stands to return to.
 //! [`Under::fit_all`] judges the items of a delivered record, which may be shared, by links that may go round.
 //!
@@ -49,6 +49,7 @@
 mod catalogue;
 mod desk;
 mod earning;
+mod failing;
 #[allow(unsafe_code)]
 mod ffi;
 mod hierarchy;
@@ -64,6 +65,7 @@ pub const VERSION: &str = env!("CARGO_PKG_VERSION");
 
 pub use desk::{Desk, DESK_BYTES};
 pub use earning::earning;
+pub use failing::failing;
 pub use hierarchy::{hierarchy, hierarchy_bytes, Hierarchy};
 pub use items::MOST_ITEMS;
 pub use refusal::{Reason, Refusal};

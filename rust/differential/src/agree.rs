@@ -9,6 +9,7 @@
 mod catalogue;
 mod desk;
 mod earning;
+mod failing;
 mod hierarchy;
 mod items;
 mod sheets;
@@ -28,6 +29,7 @@ use crate::{length_of, BLOCK, MOST_DESCRIPTION};
 pub use catalogue::catalogue;
 pub use desk::{bytes_of, desk_bytes, entry_of, is_given, Drafting};
 pub use earning::earning;
+pub use failing::failing;
 pub use hierarchy::hierarchy;
 pub use items::fit_all;
 pub use sheets::read_sheet;

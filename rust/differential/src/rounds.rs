@@ -3,6 +3,7 @@
 mod catalogue;
 mod desk;
 mod earning;
+mod failing;
 mod hierarchy;
 mod items;
 mod sheets;
@@ -162,7 +163,7 @@ impl Rounds {
     ///
     /// The difference.
     pub fn any(&mut self) -> Found {
-        match self.chance.below(86) {
+        match self.chance.below(89) {
             0..=13 => self.pair(),
             14..=17 => self.doubles(),
             18..=24 => self.normal(),
@@ -189,7 +190,9 @@ impl Rounds {
             80..=81 => self.deliveries(),
             82 => self.wrong_deliveries(),
             83..=84 => self.earnings(),
-            _ => self.wrong_earnings(),
+            85 => self.wrong_earnings(),
+            86..=87 => self.failings(),
+            _ => self.wrong_failings(),
         }
     }
 

@@ -5,6 +5,7 @@
 mod catalogue;
 mod desk;
 mod earning;
+mod failing;
 mod hierarchy;
 mod named;
 mod sheets;

@@ -5,6 +5,7 @@ mod desk;
 mod doubles;
 mod earning;
 mod excluding;
+mod failing;
 mod hierarchy;
 mod items;
 mod naming;
