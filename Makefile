@@ -99,6 +99,9 @@ outside: lib gx $(PROGRAM)
 	$(CC) $(CFLAGS) examples/sheet.c target/staticlib/libcapi.a -o target/c/sheet
 	test "$$(cd examples && ../target/c/sheet supplier.blocks pair.blocks | paste -s -d,)" = \
 		"supplier.blocks: field sheet of 3 entries,pair.blocks: refused 3 place 1"
+	$(CC) $(CFLAGS) examples/missing.c target/staticlib/libcapi.a -o target/c/missing
+	test "$$(cd examples && ../target/c/missing supplier.blocks services/*.blocks | paste -s -d,)" = \
+		"services/few-cores.blocks: nothing to add,services/sealed.blocks: to be added 5,0,1,0 1,1,7,0,services/with-core.blocks: nothing to add"
 	cargo test --quiet --manifest-path rust/bindings/Cargo.toml
 	cargo test --release --quiet --manifest-path rust/differential/Cargo.toml
 	cargo test --release --quiet --manifest-path rust/bench/Cargo.toml

@@ -16,7 +16,7 @@
 enum { STACK = 1 << 18, PATTERN = 0xa5, BLOCKS = 16, ENTRIES = 63 * BLOCKS, CHAIN = 33, SINGLE = 32768, PAIRS = 64, NAMES = 64 };
 
 static uint8_t stack[STACK], wide[512 * BLOCKS], chain[512], places[1024], groups[1024 * BLOCKS], record[1024 * BLOCKS], out[1024 * BLOCKS];
-static uint8_t desk[GX_DESK_BYTES];
+static uint8_t desk[GX_DESK_BYTES], halves[2][256 * BLOCKS];
 static uint8_t pairs[4 * PAIRS], list[sizeof chain + sizeof wide];
 static uint8_t dictionary[sizeof wide + sizeof chain + sizeof places], named[3][512];
 static uint8_t nested[512 * NAMES], last[512];
@@ -80,6 +80,12 @@ static void make_inputs(void) {
     close_blocks(places, 2 * CHAIN);
     close_blocks(groups, 2 * ENTRIES);
     close_blocks(record, 2 * ENTRIES);
+    for (unsigned n = 1; n <= ENTRIES / 2; n++) {
+        put_entry(halves[0], n, 3, 0, n * 397 % 1009, 1);
+        put_entry(halves[1], n, 3, 0, (ENTRIES / 2 + n) * 397 % 1009, 1);
+    }
+    close_blocks(halves[0], ENTRIES / 2);
+    close_blocks(halves[1], ENTRIES / 2);
     memcpy(list, chain, sizeof chain);
     memcpy(list + sizeof chain, wide, sizeof wide);
     memcpy(dictionary, wide, sizeof wide);
@@ -130,6 +136,9 @@ static void earning(void) {
 }
 static void failing(void) {
     answer = gx_failing(pairs, sizeof pairs, wide, sizeof wide, wide, sizeof wide, out, sizeof out);
+}
+static void missing(void) {
+    answer = gx_missing(pairs, sizeof pairs, halves[0], sizeof halves[0], halves[1], sizeof halves[1], out, sizeof out);
 }
 static void hierarchy(void) { answer = gx_hierarchy(pairs, sizeof pairs, list, sizeof list, out, sizeof out); }
 static void fit_all(void) {
@@ -213,6 +222,7 @@ int main(void) {
     show("gx_hierarchy", hierarchy);
     show("gx_earning", earning);
     show("gx_failing", failing);
+    show("gx_missing", missing);
     show("gx_desk_add", desk_add);
     show("gx_desk_take_off", desk_take_off);
     show("gx_desk_name", desk_name);

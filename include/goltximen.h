@@ -39,7 +39,7 @@
  * All answers and written bytes, numbers of entries included, are those for the unfolded descriptions, and an output is measured
  * by them too; one of them has at most GX_BYTES(1008) bytes. The limit of 16 blocks is about a description as it is sent. gx_fit,
  * gx_fit_counted, gx_normal and gx_compare have a dictionary of length 0, so they refuse every name with 13; the three readers,
- * gx_hierarchy, gx_earning, gx_failing, gx_to_stored, gx_from_stored and a desk take no dictionary and refuse kind 9 with 4.
+ * gx_hierarchy, gx_earning, gx_failing, gx_missing, gx_to_stored, gx_from_stored and a desk take no dictionary and refuse kind 9 with 4.
  *
  * Lists of services. gx_catalogue and gx_hierarchy take 1 to 64 descriptions laid end to end: the first block and each later one numbered 1
  * begins a service. Only the stored number counts for this, and it is looked at before any check: a block whose number is damaged
@@ -58,6 +58,9 @@
  *     yes; contained  1            0                   0                     0
  *     no              2            0                   0                     0
  *     not contained   2            0                   entry that fails      entries of the specimen
+ *     nothing missing 1            0                   0                     0
+ *     to be added     2            0                   0                     0
+ *     none fits both  3            0                   0                     0
  *     a count         1            0                   0                     the count
  *     yes, counted    1            0                   additions: the walk   additions: the table
  *     no, counted     2            0                   additions: the walk   additions: the table
@@ -71,7 +74,8 @@
  *     number   when                                                                              place
  *     1        an input's length is 0, no multiple of 512, or over the limit; of a dictionary
  *              only: it is no multiple of 512; of a list of services: it is 0 or no such
- *              multiple                                                                          0
+ *              multiple; of gx_missing's two inputs, each of them accepted: they have more
+ *              than 16 blocks together                                                           0
  *     2        a block's first check (bytes 510-511) or second (bytes 508-509) is wrong          block
  *     3        a block's number or used count is wrong, or a byte of its unused entries is
  *              not zero                                                                          block
@@ -158,6 +162,11 @@ extern "C" {
 #define GX_REFUSED 0
 #define GX_YES 1
 #define GX_NO 2
+
+/* The cases of gx_missing's answer. */
+#define GX_NOTHING_MISSING 1
+#define GX_TO_BE_ADDED 2
+#define GX_NONE_FITS_BOTH 3
 
 /*
  * The bytes that k entries take as blocks: 512 times the blocks, of which there are k / 63, rounded up, and at least one.
@@ -301,6 +310,24 @@ uint64_t gx_earning(const uint8_t *pairs, size_t pairs_len, const uint8_t *c, si
  * Where refused, out is unchanged.
  */
 uint64_t gx_failing(const uint8_t *pairs, size_t pairs_len, const uint8_t *c, size_t c_len, const uint8_t *d, size_t d_len, uint8_t *out,
+                     size_t out_len);
+
+/* The bytes that gx_missing writes at most: one for each entry of a description. */
+#define GX_MISSING_BYTES 1008
+
+/*
+ * What the description c, input 1, lacks to be contained in d, input 2, under a list of pairs. It writes a byte of out for each entry of
+ * d, from the start: 1 for each entry of a kind other than 5 that is left when leaving out is tried from the last entry to the first,
+ * each time it is c with the entries that are left of d, without this one, that is contained in d, and for its owners at any depth;
+ * else 0. The addition is d cut down to the marked entries, numbered anew: an item that fits c and the addition fits d, and without any
+ * one marked entry that is no 'every' that ends. c and the addition in one description, the owners of the addition counting on, are
+ * contained in d by gx_compare_with.
+ * Nothing missing: c is contained in d, and all bytes are 0. To be added: what is marked. None fits both: no item of any record fits both
+ * c and d, so that nothing can be added, and what is marked contradicts c. First and second are 0. Or refused, by the first that applies: 11
+ * for the pairs; input 1; input 2; 1 of input 2 where both have more than 16 blocks together; 7 where out has fewer bytes than d has
+ * entries, whatever is missing. It takes no dictionary, so kind 9 is 4. Later bytes of out stay. Where refused, out is unchanged.
+ */
+uint64_t gx_missing(const uint8_t *pairs, size_t pairs_len, const uint8_t *c, size_t c_len, const uint8_t *d, size_t d_len, uint8_t *out,
                     size_t out_len);
 
 /* The bytes of a desk: ten words of two bytes, and five areas of 1,008 entries of 8 bytes; docs/FORMAT.md says what stands where. */

@@ -1,4 +1,4 @@
-// The library's calls for C and Rust [K4]: twenty-three functions under their plain names, each slice a pointer and a
+// The library's calls for C and Rust [K4]: twenty-four functions under their plain names, each slice a pointer and a
 // length. Each is total [K1] and has, for its result and each byte that it may write, the equation of the call that
 // it wraps [K2], with the answer as one number of 64 bits [K5]; include/goltximen.h states the terms for a C program.
 //
@@ -15,6 +15,7 @@ ghost use Rattle.answers.specs.Calls.{CountsPlainly, DecidedPlainly, FirstLine, 
 ghost use Rattle.answers.specs.Earning.{AskedRefused, Earns};
 ghost use Rattle.answers.specs.Failing.{Fails};
 ghost use Rattle.answers.specs.Items.{ItemsRefused, MarksItems};
+ghost use Rattle.answers.specs.Missing.{Lacks, MissingRefused};
 ghost use Rattle.answers.specs.Promise.{ComparableNamed, DecidedNamed, Fills, FitsNamedExactly, JudgeableNamed, NormalisesNamed};
 ghost use Rattle.answers.specs.Ranking.{HierarchyRefused, Ranks};
 ghost use Rattle.answers.specs.Refusals.{CatalogueRefused, ComparisonRefused, FitRefused, NormalRefused, UnfoldRefused};
@@ -32,8 +33,10 @@ ghost use Rattle.failings.specs.Answer.{failed_of, failing_of};
 ghost use Rattle.fit.specs.Promise.{Judgeable};
 ghost use Rattle.hierarchy.specs.Answer.{hierarchy_of, ranked_of};
 ghost use Rattle.items.specs.Answer.{items_of, marked_of};
+ghost use Rattle.missing.specs.Answer.{lacked_of, missing_of};
+ghost use Rattle.missing.specs.declared.Lack.{Lack};
 ghost use Rattle.named.specs.Answer.{compare_named, counted_named, fit_named, normalise_named, normalised_named, output_named};
-ghost use Rattle.packing.specs.Packing.{pack_comparison, pack_counted, pack_fit, pack_reading};
+ghost use Rattle.packing.specs.Packing.{pack_comparison, pack_counted, pack_fit, pack_lack, pack_reading};
 ghost use Rattle.pairs.specs.Promise.{ListRead};
 ghost use Rattle.sheets.specs.Promise.{SheetRead};
 ghost use Rattle.sheets.specs.Sheet.{sheet_faults, sheet_reading};
@@ -42,7 +45,7 @@ ghost use Rattle.stored.specs.Promise.{BothForms, RestoreRefused, Restores, Stor
 ghost use Rattle.unfolding.specs.Answer.{unfold_at, unfolded_at};
 
 use drafts::Call;
-use packing::{pack_comparison, pack_counted, pack_fit, pack_reading};
+use packing::{pack_comparison, pack_counted, pack_fit, pack_lack, pack_reading};
 
 // Reads a description as input 1: its number of entries, or the refusal.
 #[unsafe(no_mangle)]
@@ -232,6 +235,18 @@ pub extern "C" fn gx_failing(pairs: &[u8], c: &[u8], d: &[u8], out: &mut [u8]) -
     ensures means { (yes : Bool) → failing_of pairs.now c.now d.now out.old ≡ Ok yes → Fails pairs.now c.now d.now out.old yes }
 {
     pack_fit(failings::failing(pairs, c, d, out))
+}
+
+// Tells what the description c, input 1, lacks for d, input 2: writes a byte for each entry of d, 1 for those that are left when leaving out is tried
+// from the last to the first, and for their owners, else 0. Nothing, with all bytes 0; what is to be added; that no item fits both; or the refusal.
+#[unsafe(no_mangle)]
+pub extern "C" fn gx_missing(pairs: &[u8], c: &[u8], d: &[u8], out: &mut [u8]) -> u64
+    ensures answer { (result ≡ pack_lack (missing_of pairs.now c.now d.now out.old)) × (out.new ≡ lacked_of pairs.now c.now d.now out.old) }
+    ensures refuses { RefusedExactly (missing_of pairs.now c.now d.now out.old) (MissingRefused pairs.now c.now d.now out.old) }
+    ensures keeps { NothingWritten (missing_of pairs.now c.now d.now out.old) (lacked_of pairs.now c.now d.now out.old) out.old }
+    ensures means { (a : Lack) → missing_of pairs.now c.now d.now out.old ≡ Ok a → Lacks pairs.now c.now d.now out.old a }
+{
+    pack_lack(missing::missing(pairs, c, d, out))
 }
 
 // ---- a drafting desk [O1] in one buffer; what is promised of it is proved in `drafts`

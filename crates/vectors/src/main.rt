@@ -2,16 +2,17 @@
 // number, the call, the answer, and for a call with an output a digest of all the output's bytes [K8]. The vectors,
 // and the lines to be printed, are made by the version of other hands (rust/reference), which `make vectors` runs.
 //
-// A vector is a header of eight words, low byte first, and then the bytes of its list of pairs, its dictionary and its two inputs. The words:
-// the call (1 read a description, 2 read a specimen, 3 fit, 4 normal form, 5 compare, 6 unfold, 7 catalogue, 8 hierarchy, 9 read a field sheet,
-// 10 the items of a delivered record, 11 to the stored form, 12 from it, 13 what earns a yes, 14 calls on an empty desk), the lengths of these
-// four, the length of the output, and the number of items in two words, 0 for the other calls. No dictionary and no second input is longer than
-// 33,792 bytes, 66 blocks, and nothing else than 17,408, 34 blocks. Each byte of the output is 165 before the call.
+// A vector is a header of eight words, low byte first, and then the bytes of its list of pairs, its dictionary and its two inputs. The words: the
+// call (1 read a description, 2 read a specimen, 3 fit, 4 normal form, 5 compare, 6 unfold, 7 catalogue, 8 hierarchy, 9 read a field sheet, 10 the
+// items of a delivered record, 11 to the stored form, 12 from it, 13 what earns a yes, 14 calls on an empty desk, 16 what is missing), the lengths
+// of these four, the length of the output, and the number of items in two words, 0 for the other calls. No dictionary and no second input is longer
+// than 33,792 bytes, 66 blocks, and nothing else than 17,408, 34 blocks. Each byte of the output is 165 before the call.
 #![tactic(auto)]
 
 use blocks::{Entry, Refusal, byte, word};
 use compare::NotContained;
 use drafts::Call;
+use missing::Lack;
 use std::io;
 
 // The call of a vector, as the header's own number, and what it is given.
@@ -81,6 +82,17 @@ fn print_comparison(
             shown.entry, shown.entries
         )?,
         Err(refusal) => print!(rt; " compare {refusal}")?,
+    }
+    print_digest(rt, out)
+}
+
+// Prints what is missing, and the digest of the output.
+fn print_lack(rt: &impl Print, answer: Result<Lack, Refusal>, out: &[u8]) -> io::Result<()> {
+    match answer {
+        Ok(Lack::Nothing) => print!(rt; " missing nothing")?,
+        Ok(Lack::Addable) => print!(rt; " missing addable")?,
+        Ok(Lack::Against) => print!(rt; " missing against")?,
+        Err(refusal) => print!(rt; " missing {refusal}")?,
     }
     print_digest(rt, out)
 }
@@ -172,6 +184,10 @@ fn run_call(rt: &impl Print, v: &Vector, out: &mut [u8]) -> io::Result<()> {
                 earning::earning(v.pairs, v.first, v.second, out),
             )?;
             print_digest(rt, out)
+        }
+        16 => {
+            let answer = missing::missing(v.pairs, v.first, v.second, out);
+            print_lack(rt, answer, out)
         }
         _ => print_desk(rt, v.first, out),
     }

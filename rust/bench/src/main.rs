@@ -6,6 +6,7 @@ mod delivered;
 mod desks;
 mod earned;
 mod failings;
+mod lacking;
 mod listed;
 mod named;
 mod ranked;
@@ -76,6 +77,7 @@ fn main() {
         Some("desk") => return desks::rows(),
         Some("earning") => return earned::rows(),
         Some("failing") => return failings::rows(),
+        Some("missing") => return lacking::rows(),
         _ => {}
     }
     model_rows();
@@ -89,6 +91,7 @@ fn main() {
     failings::rows();
     delivered::rows();
     earned::rows();
+    lacking::rows();
     turns::rows();
 }
 

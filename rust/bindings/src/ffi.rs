@@ -99,6 +99,16 @@ extern "C" {
         out: *mut u8,
         out_len: usize,
     ) -> u64;
+    fn gx_missing(
+        pairs: *const u8,
+        pairs_len: usize,
+        c: *const u8,
+        c_len: usize,
+        d: *const u8,
+        d_len: usize,
+        out: *mut u8,
+        out_len: usize,
+    ) -> u64;
     fn gx_desk_add(desk: *mut u8, desk_len: usize, entry: u64) -> u64;
     fn gx_desk_take_off(desk: *mut u8, desk_len: usize) -> u64;
     fn gx_desk_name(desk: *mut u8, desk_len: usize, stand: u16) -> u64;
@@ -320,6 +330,22 @@ pub(crate) fn failing(pairs: &[u8], c: &[u8], d: &[u8], out: &mut [u8]) -> u64 {
     }
 }
 
+pub(crate) fn missing(pairs: &[u8], c: &[u8], d: &[u8], out: &mut [u8]) -> u64 {
+    // SAFETY: the pointers and lengths are those of four slices, and the last is ours alone.
+    unsafe {
+        gx_missing(
+            pairs.as_ptr(),
+            pairs.len(),
+            c.as_ptr(),
+            c.len(),
+            d.as_ptr(),
+            d.len(),
+            out.as_mut_ptr(),
+            out.len(),
+        )
+    }
+}
+
 pub(crate) fn desk_add(desk: &mut [u8], entry: u64) -> u64 {
     // SAFETY: the pointer and the length are those of a slice that is ours alone.
     unsafe { gx_desk_add(desk.as_mut_ptr(), desk.len(), entry) }
@@ -396,6 +422,7 @@ mod tests {
             assert_eq!(gx_catalogue(no, 0, no, 0, no, 0, no, 0, none, 0), EMPTY);
             assert_eq!(gx_earning(no, 0, no, 0, no, 0, none, 0), EMPTY);
             assert_eq!(gx_failing(no, 0, no, 0, no, 0, none, 0), EMPTY);
+            assert_eq!(gx_missing(no, 0, no, 0, no, 0, none, 0), EMPTY);
             // Refusal 1 of input 2.
             assert_eq!(gx_hierarchy(no, 0, no, 0, none, 0), 256 + 2 * 65_536);
         }

@@ -15,6 +15,7 @@
 //! puts them in where they are named. [`fit()`], [`normal_form`] and [`compare`] are the calls with no list and no dictionary.
 //! [`Under::catalogue`] compares one description with a list of up to 64, and [`hierarchy()`] ranks such a list from special to general.
 //! [`earning()`] marks the entries of a description that earn a yes, and [`failing()`] all those of a service that fail.
+//! [`missing()`] marks the entries of a service that a description lacks for one.
 //! [`Desk`] is a description that is drafted entry by entry, with stands to return to.
 //! [`Under::fit_all`] judges the items of a delivered record, which may be shared, by links that may go round.
 //!
@@ -54,6 +55,7 @@ mod failing;
 mod ffi;
 mod hierarchy;
 mod items;
+mod missing;
 mod packed;
 mod refusal;
 mod stored;
@@ -68,6 +70,7 @@ pub use earning::earning;
 pub use failing::failing;
 pub use hierarchy::{hierarchy, hierarchy_bytes, Hierarchy};
 pub use items::MOST_ITEMS;
+pub use missing::{missing, Lack};
 pub use refusal::{Reason, Refusal};
 pub use stored::{from_stored, stored_bytes, to_stored};
 pub use under::Under;

@@ -1,12 +1,12 @@
 //! The number of 64 bits that the library answers, taken apart: answer + 256 · number + 65,536 · first + 4,294,967,296 · second.
 
 use crate::refusal::{Reason, Refusal};
-use crate::{Comparison, Fit};
+use crate::{Comparison, Fit, Lack};
 
 /// The fields of an answer that is no refusal.
 #[derive(Clone, Copy, Debug, PartialEq, Eq)]
 pub(crate) struct Fields {
-    /// 1 for yes, contained and a count; 2 for no and not contained.
+    /// 1 for yes, contained, nothing missing and a count; 2 for no, not contained and to be added; 3 where no item fits both.
     pub(crate) answer: u8,
     pub(crate) first: u16,
     pub(crate) second: u16,
@@ -42,6 +42,15 @@ pub(crate) fn fit(packed: u64) -> Result<Fit, Refusal> {
     Ok(match fields(packed)?.answer {
         1 => Fit::Yes,
         _ => Fit::No,
+    })
+}
+
+/// What is missing, or the refusal.
+pub(crate) fn lack(packed: u64) -> Result<Lack, Refusal> {
+    Ok(match fields(packed)?.answer {
+        1 => Lack::Nothing,
+        2 => Lack::Addable,
+        _ => Lack::Against,
     })
 }
 

@@ -12,6 +12,7 @@ mod earning;
 mod failing;
 mod hierarchy;
 mod items;
+mod missing;
 mod sheets;
 mod stored;
 
@@ -32,6 +33,7 @@ pub use earning::earning;
 pub use failing::failing;
 pub use hierarchy::hierarchy;
 pub use items::fit_all;
+pub use missing::missing;
 pub use sheets::read_sheet;
 pub use stored::{from_stored, to_stored};
 

@@ -6,6 +6,7 @@ mod earning;
 mod failing;
 mod hierarchy;
 mod items;
+mod missing;
 mod sheets;
 mod stored;
 
@@ -163,7 +164,7 @@ impl Rounds {
     ///
     /// The difference.
     pub fn any(&mut self) -> Found {
-        match self.chance.below(89) {
+        match self.chance.below(92) {
             0..=13 => self.pair(),
             14..=17 => self.doubles(),
             18..=24 => self.normal(),
@@ -192,7 +193,9 @@ impl Rounds {
             83..=84 => self.earnings(),
             85 => self.wrong_earnings(),
             86..=87 => self.failings(),
-            _ => self.wrong_failings(),
+            88 => self.wrong_failings(),
+            89..=90 => self.lacks(),
+            _ => self.wrong_lacks(),
         }
     }
 

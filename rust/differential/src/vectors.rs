@@ -12,11 +12,11 @@
 //! | 10-11 | the length of the output, 0 for a call without one |
 //! | 12-15 | the number of items of a delivered record, low byte first; 0 for the other calls |
 //!
-//! After byte 15 come the list, the dictionary, input 1 and input 2, with nothing between them and nothing before the next header.
-//! The fit answer, the normal form, the comparison, the catalogue and the call on delivered items are always made with the list and
-//! the dictionary, which may be empty; the unfolding is made with the dictionary, and its list has length 0; the hierarchy and what
-//! earns a yes are made with the list, and their dictionary has length 0, as has the hierarchy's input 1; the three readers, the
-//! stored form's two calls and the desk take neither. A call without pairs is one with a list of length 0, and one without a
+//! After byte 15 come the list, the dictionary, input 1 and input 2, with nothing between them and nothing before the next header. The
+//! fit answer, the normal form, the comparison, the catalogue and the call on delivered items are always made with the list and the
+//! dictionary, which may be empty; the unfolding is made with the dictionary, and its list has length 0; the hierarchy and what earns a
+//! yes or lacks for one are made with the list, and their dictionary has length 0, as has the hierarchy's input 1; the three readers,
+//! the stored form's two calls and the desk take neither. A call without pairs is one with a list of length 0, and one without a
 //! dictionary one with a dictionary of length 0. No length of a dictionary is above [`MOST_DICTIONARY`], none of a list of services
 //! above [`MOST_LIST`], and no other above [`MOST_LENGTH`]. Each byte of the output is [`FILL`] before the call.
 //!
@@ -25,7 +25,7 @@
 
 use std::fmt;
 
-use reference::{Comparison, Refusal};
+use reference::{Comparison, Missing, Refusal};
 
 use crate::agree::{bytes_of, entry_of};
 use crate::excluding::Given;
@@ -75,6 +75,8 @@ pub enum Call {
     Earning = 13,
     /// The calls in input 1, on an empty desk.
     Desk = 14,
+    /// What input 1 lacks for input 2, under the list.
+    Missing = 16,
 }
 
 impl Call {
@@ -104,6 +106,7 @@ impl fmt::Display for Call {
             Call::FromStored => "from stored",
             Call::Earning => "earning",
             Call::Desk => "desk",
+            Call::Missing => "missing",
         })
     }
 }
@@ -119,6 +122,8 @@ pub enum Answer {
     Wrote(usize),
     /// The answer of the comparison.
     Compared(Comparison),
+    /// What is missing.
+    Lacks(Missing),
     /// A refusal.
     Refused(Refusal),
     /// What each call of a desk answers: entries, or a refusal.
@@ -151,6 +156,9 @@ impl fmt::Display for Answer {
             Answer::Compared(Comparison::NotContained { entry, entries }) => {
                 write!(f, " not contained {entry} entries {entries}")
             }
+            Answer::Lacks(Missing::NothingToAdd) => f.write_str(" nothing"),
+            Answer::Lacks(Missing::ToBeAdded) => f.write_str(" addable"),
+            Answer::Lacks(Missing::NothingFitsBoth) => f.write_str(" against"),
             Answer::Refused(Refusal {
                 number,
                 input,
@@ -250,6 +258,11 @@ impl Vector {
         Vector::of(Call::Earning, c, d, output)
     }
 
+    /// What is missing, with an output of this length.
+    pub fn missing(c: Vec<u8>, d: Vec<u8>, output: usize) -> Vector {
+        Vector::of(Call::Missing, c, d, output)
+    }
+
     /// Calls on an empty desk, with an output of this length.
     pub fn desk(calls: &[reference::Call], output: usize) -> Vector {
         Vector::of(Call::Desk, rows_of(calls), Vec::new(), output)
@@ -327,6 +340,7 @@ impl Vector {
             Call::ToStored => reference::to_stored(first, &mut out).map(Answer::Wrote),
             Call::FromStored => reference::from_stored(first, &mut out).map(Answer::Wrote),
             Call::Earning => reference::earning(pairs, first, second, &mut out).map(Answer::Fits),
+            Call::Missing => reference::missing(pairs, first, second, &mut out).map(Answer::Lacks),
             Call::Desk => Ok(Answer::Drafted(drafted(first, &mut out))),
         };
         (answer.unwrap_or_else(Answer::Refused), out)
@@ -416,6 +430,7 @@ pub fn all() -> Vec<Vector> {
         named::items::all(),
         named::stored::all(),
         named::earning::all(),
+        named::missing::all(),
         named::drafting::all(),
         named::doubles::all(),
         named::desk(),

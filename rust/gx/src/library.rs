@@ -1,7 +1,7 @@
 //! The calls of the proved library. Every answer that is printed comes from here. The calls under a list of properties that
 //! exclude each other and a dictionary take these first; without pairs and descriptions they are the plain calls.
 
-pub use goltximen::{Comparison, Desk, Fit, Reason, Refusal, Under};
+pub use goltximen::{Comparison, Desk, Fit, Lack, Reason, Refusal, Under};
 
 use crate::blocks::{decode, encode, entry_bytes, BLOCK, BLOCK_ENTRIES};
 use crate::entry::{Entry, Sort};
@@ -109,6 +109,21 @@ pub fn earning(
     let mut out = vec![0; supplier.len()];
     let contained = goltximen::earning(pairs, &encode(supplier), &encode(service), &mut out)?;
     Ok(contained.then(|| marks(&out)))
+}
+
+/// What a supplier's plain description lacks to be contained in a service's, and which entries of the service's that is.
+///
+/// # Errors
+///
+/// The library's refusal: 1 where both have more than 16 blocks together.
+pub fn missing(
+    pairs: &[u8],
+    supplier: &[Entry],
+    service: &[Entry],
+) -> Result<(Lack, Vec<bool>), Refusal> {
+    let mut out = vec![0; service.len()];
+    let lack = goltximen::missing(pairs, &encode(supplier), &encode(service), &mut out)?;
+    Ok((lack, marks(&out)))
 }
 
 /// A byte for each entry as a mark.

@@ -63,6 +63,19 @@ pub fn cut_down(entries: &[Entry], marks: &[bool]) -> Vec<Entry> {
     kept
 }
 
+/// The entries of one description, and behind them those of another, whose owners count on.
+pub fn joined(first: &[Entry], second: &[Entry]) -> Vec<Entry> {
+    let before = first.len() as u16;
+    let behind = second.iter().map(|e| match e.owner {
+        0 => *e,
+        owner => Entry {
+            owner: owner + before,
+            ..*e
+        },
+    });
+    first.iter().copied().chain(behind).collect()
+}
+
 /// An entry with its owners, and nothing else: the description that an item fits exactly if it meets the entry.
 pub fn alone(entries: &[Entry], entry: usize) -> Vec<Entry> {
     let chain = owners(entries, entry).into_iter().chain([entry]);

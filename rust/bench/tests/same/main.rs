@@ -6,6 +6,7 @@ mod earning;
 mod excluding;
 mod hierarchy;
 mod items;
+mod missing;
 mod naming;
 mod sheets;
 mod stored;

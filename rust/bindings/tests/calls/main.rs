@@ -7,6 +7,7 @@ mod desk;
 mod earning;
 mod failing;
 mod hierarchy;
+mod missing;
 mod named;
 mod sheets;
 mod under;

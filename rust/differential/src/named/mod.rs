@@ -7,6 +7,7 @@ pub mod earning;
 pub mod excluding;
 pub mod hierarchy;
 pub mod items;
+pub mod missing;
 pub mod naming;
 pub mod sheets;
 pub mod stored;

@@ -8,6 +8,7 @@ mod earning;
 mod excluding;
 mod hierarchy;
 mod items;
+mod missing;
 mod naming;
 mod sheets;
 mod stored;
@@ -156,6 +157,7 @@ fn as_many_and_as_long_as_allowed() {
                 | Call::Hierarchy
                 | Call::Items
                 | Call::Earning
+                | Call::Missing
         );
         assert!(vector.total == 0 || vector.call == Call::Items);
         assert!(vector.second.is_empty() || !one_input);
@@ -164,7 +166,8 @@ fn as_many_and_as_long_as_allowed() {
         assert!(pairs == 0 || vector.call != Call::Unfold);
         // The hierarchy takes a list of services alone.
         assert!(dictionary + first == 0 || vector.call != Call::Hierarchy);
-        assert!(dictionary == 0 || vector.call != Call::Earning);
+        let listed = [Call::Earning, Call::Missing].contains(&vector.call);
+        assert!(dictionary == 0 || !listed);
         // The stored form and the desk take input 1 alone.
         let alone = [Call::ToStored, Call::FromStored, Call::Desk].contains(&vector.call);
         assert!(pairs + dictionary == 0 || !alone);
@@ -344,6 +347,9 @@ fn the_library_agrees() {
             Call::Desk => drafts(first),
             // The binding has no such call; the program of the vectors makes it.
             Call::Earning => continue,
+            Call::Missing => {
+                agree::missing(&mut chance, under.pairs, first, second, vector.output)
+            }
         };
         if let Err(difference) = agreed {
             panic!("vector {number}: {difference}");

@@ -28,6 +28,8 @@ pub enum Command {
     Compare,
     /// The entries that earn a yes.
     Keep,
+    /// The entries that are missing for one.
+    Missing,
     /// One description compared with many.
     Catalogue,
     /// Many services from general to special.
@@ -48,7 +50,7 @@ pub enum Command {
 
 impl Command {
     /// All commands, in the order of the help.
-    pub const ALL: [Command; 15] = [
+    pub const ALL: [Command; 16] = [
         Command::Show,
         Command::Write,
         Command::Check,
@@ -56,6 +58,7 @@ impl Command {
         Command::Fit,
         Command::Compare,
         Command::Keep,
+        Command::Missing,
         Command::Catalogue,
         Command::Hierarchy,
         Command::Delivered,
@@ -76,6 +79,7 @@ impl Command {
             Command::Fit => "fit",
             Command::Compare => "compare",
             Command::Keep => "keep",
+            Command::Missing => "missing",
             Command::Catalogue => "catalogue",
             Command::Hierarchy => "hierarchy",
             Command::Delivered => "delivered",
@@ -105,7 +109,12 @@ impl Command {
     pub fn takes_pair(self) -> bool {
         matches!(
             self,
-            Command::Fit | Command::Compare | Command::Keep | Command::Delivered | Command::Owl
+            Command::Fit
+                | Command::Compare
+                | Command::Keep
+                | Command::Missing
+                | Command::Delivered
+                | Command::Owl
         )
     }
 
@@ -117,6 +126,7 @@ impl Command {
                 | Command::Fit
                 | Command::Compare
                 | Command::Keep
+                | Command::Missing
                 | Command::Catalogue
                 | Command::Hierarchy
                 | Command::Delivered

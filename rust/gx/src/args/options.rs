@@ -3,7 +3,7 @@
 
 use super::Command::{
     self, Catalogue, Check, Compare, Delivered, Desk, Doubles, Fit, FromOwl, Hierarchy, Keep,
-    Normal, Owl, Show, Unfold, Write,
+    Missing, Normal, Owl, Show, Unfold, Write,
 };
 
 /// An option.
@@ -37,18 +37,18 @@ impl Opt {
 
 const ALL: &[Command] = &Command::ALL;
 const UNDER: &[Command] = &[
-    Check, Normal, Fit, Compare, Keep, Catalogue, Hierarchy, Delivered, Desk, Doubles, Owl,
+    Check, Normal, Fit, Compare, Keep, Missing, Catalogue, Hierarchy, Delivered, Desk, Doubles, Owl,
 ];
 const NAMING: &[Command] = &[
-    Show, Write, Check, Normal, Fit, Compare, Keep, Catalogue, Hierarchy, Delivered, Desk, Doubles,
-    Unfold, Owl,
+    Show, Write, Check, Normal, Fit, Compare, Keep, Missing, Catalogue, Hierarchy, Delivered, Desk,
+    Doubles, Unfold, Owl,
 ];
 const READING: &[Command] = &[
-    Show, Write, Check, Normal, Fit, Compare, Keep, Catalogue, Hierarchy, Delivered, Desk, Doubles,
-    Unfold, Owl,
+    Show, Write, Check, Normal, Fit, Compare, Keep, Missing, Catalogue, Hierarchy, Delivered, Desk,
+    Doubles, Unfold, Owl,
 ];
-const TO: &[Command] = &[Show, Write, Normal, Keep, Desk, Unfold, FromOwl];
-const TEXTS: &[Command] = &[Show, Normal, Keep, Unfold, FromOwl];
+const TO: &[Command] = &[Show, Write, Normal, Keep, Missing, Desk, Unfold, FromOwl];
+const TEXTS: &[Command] = &[Show, Normal, Keep, Missing, Unfold, FromOwl];
 
 const fn flag(name: &'static str, about: &'static str, of: &'static [Command]) -> Opt {
     Opt {
@@ -114,7 +114,9 @@ pub const OPTIONS: &[Opt] = &[
         ..file(
             "--out",
             "write into this file; for folders, into this folder",
-            &[Show, Write, Normal, Keep, Hierarchy, Desk, Doubles, Unfold, Owl, FromOwl],
+            &[
+                Show, Write, Normal, Keep, Missing, Hierarchy, Desk, Doubles, Unfold, Owl, FromOwl,
+            ],
         )
     },
     file(
@@ -138,7 +140,7 @@ pub const OPTIONS: &[Opt] = &[
     flag(
         "--sheet",
         "the description has to be a field sheet, else it is refused (19); of a comparison the supplier's",
-        &[Show, Check, Normal, Fit, Compare, Keep, Delivered],
+        &[Show, Check, Normal, Fit, Compare, Keep, Missing, Delivered],
     ),
     file(
         "--against",

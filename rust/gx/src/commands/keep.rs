@@ -18,7 +18,7 @@ use crate::words;
 /// Of more entries than this only the marked ones are shown.
 const MOST_SHOWN: usize = 60;
 
-const ONE_SET: &str =
+pub(super) const ONE_SET: &str =
     "One such set, of which none can be left out; leaving out was tried from the last.";
 
 /// The numbers of the entries that are marked.
@@ -26,7 +26,7 @@ pub(super) fn numbers(marks: &[bool]) -> Json {
     Json::List(marked(marks).into_iter().map(Json::number).collect())
 }
 
-fn marked(marks: &[bool]) -> Vec<usize> {
+pub(super) fn marked(marks: &[bool]) -> Vec<usize> {
     let numbered = (1..).zip(marks).filter(|(_, &is)| is);
     numbered.map(|(number, _)| number).collect()
 }
@@ -133,7 +133,7 @@ fn still_contained(
 }
 
 /// What is written into a file of its own.
-fn written(
+pub(super) fn written(
     context: &Context,
     answer: &mut Answer,
     (entries, of): (&[Entry], &Input),
@@ -152,7 +152,7 @@ fn written(
 }
 
 /// The entries as a tree of lines, the marked ones with a sign; of many the marked ones alone.
-fn lines(input: &Input, marks: &[bool], names: &Names) -> String {
+pub(super) fn lines(input: &Input, marks: &[bool], names: &Names) -> String {
     let tree = Tree::new(&input.entries);
     let width = input.entries.len().to_string().len();
     let many = input.entries.len() > MOST_SHOWN;

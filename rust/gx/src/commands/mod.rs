@@ -11,6 +11,7 @@ mod held;
 mod hierarchy;
 mod keep;
 mod list;
+mod missing;
 mod normal;
 mod owl;
 mod services;
@@ -147,6 +148,7 @@ impl Context {
             (Command::Fit, &[specimen, description]) => fit::fit(self, specimen, description),
             (Command::Compare, &[c, d]) => compare::compare(self, c, d),
             (Command::Keep, &[c, d]) => keep::keep(self, c, d),
+            (Command::Missing, &[c, d]) => missing::missing(self, c, d),
             (Command::Delivered, &[record, d]) => delivered::delivered(self, record, d),
             (Command::Owl, [c, services @ ..]) => owl::owl(self, c, services),
             _ => Err(Trouble::File {

@@ -50,6 +50,7 @@ pub fn of(command: Command) -> String {
         Command::Fit => "0 yes, 1 no",
         Command::Delivered => "0 each item fits, 1 not",
         Command::Compare | Command::Keep => "0 contained, 1 not contained",
+        Command::Missing => "0 nothing to add, or to be added, 1 no item fits both",
         Command::Catalogue => "0 contained in each (with --any, in one), 1 not",
         _ => "0 done",
     };
@@ -132,7 +133,7 @@ fn lines(text: &str, width: usize) -> Vec<String> {
 fn inputs(command: Command) -> &'static str {
     match command {
         Command::Fit => "SPECIMEN DESCRIPTION",
-        Command::Compare | Command::Keep => "SUPPLIER SERVICE",
+        Command::Compare | Command::Keep | Command::Missing => "SUPPLIER SERVICE",
         Command::Owl => "SUPPLIER SERVICE...",
         Command::Catalogue => "SUPPLIER SERVICES...",
         Command::Hierarchy => "SERVICES...",
@@ -167,6 +168,10 @@ pub fn about(command: Command) -> (&'static str, &'static str) {
         Command::Keep => (
             "keep SUPPLIER SERVICE",
             "which entries of the first earn a yes",
+        ),
+        Command::Missing => (
+            "missing SUPPLIER SERVICE",
+            "which entries of the second to add to the first for a yes",
         ),
         Command::Catalogue => (
             "catalogue SUPPLIER SERVICES",

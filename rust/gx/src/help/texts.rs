@@ -11,6 +11,7 @@ pub(super) fn detail(command: Command) -> &'static str {
         Command::Fit => FIT,
         Command::Compare => COMPARE,
         Command::Keep => KEEP,
+        Command::Missing => MISSING,
         Command::Catalogue => CATALOGUE,
         Command::Hierarchy => HIERARCHY,
         Command::Delivered => DELIVERED,
@@ -71,6 +72,13 @@ const KEEP: &str = "\
 Marks the entries of the supplier's description that earn its being contained in the service's: cut down to them it is still contained,
 and without any one of them, 'every' entries apart, it is not. It is one such set: leaving out was tried from the last entry to the
 first. --out writes the description cut down, in the form that --to says. --html writes a page with both.
+";
+
+const MISSING: &str = "\
+Marks the entries of the service that the supplier's description lacks for a yes: with them it is contained, and without any one of
+them, 'every' entries apart, it is not. It is one such set: leaving out was tried from the last entry to the first. --out writes them
+as a description, in the form that --to says. Where no item fits both, nothing can be added: the entries that are marked contradict
+the supplier's, and nothing is written. Both together have at most 16 blocks.
 ";
 
 const CATALOGUE: &str = "\

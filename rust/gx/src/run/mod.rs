@@ -125,7 +125,7 @@ impl Run {
 
     /// Whether what --out is for is not the answer itself.
     fn writes_beside(&self) -> bool {
-        self.command == Command::Keep
+        matches!(self.command, Command::Keep | Command::Missing)
     }
 
     fn to_terminal(&self) -> bool {

@@ -18,6 +18,7 @@ mod hierarchy;
 mod hierarchy_forms;
 mod keep;
 mod lost;
+mod missing;
 mod mistakes;
 mod owl;
 mod pairs;

@@ -170,6 +170,8 @@ fn each_answer_for_programs_is_one_of_the_schema() {
         &["compare", "none", "f"],
         &["keep", "d", "d"],
         &["keep", "c", "d"],
+        &["missing", "c", "d"],
+        &["missing", "d", "d"],
         &["delivered", "record", "d"],
         &["check", "record"],
         &["desk", "desk", "add", "1,7", "--against", "services"],
