@@ -113,13 +113,13 @@ module _ (P D a b out : List ℕ) (R : Answered P D a b out) where
       let means-b = plain-means D b B in
       let means-e = plain-means D e E in (
         λ f. let g = least.0 (named-within P D (encode N) e N es means-n means-e f) in (
-              within-named P D a e (entries_of (plain_of D a)) es means-a means-e g.0,
-              within-named P D b e (entries_of (plain_of D b)) es means-b means-e g.1,
-            ),
+          within-named P D a e (entries_of (plain_of D a)) es means-a means-e g.0,
+          within-named P D b e (entries_of (plain_of D b)) es means-b means-e g.1,
+        ),
         λ f. within-named P D (encode N) e N es means-n means-e (least.1 (
-              named-within P D a e (entries_of (plain_of D a)) es means-a means-e f.0,
-              named-within P D b e (entries_of (plain_of D b)) es means-b means-e f.1,
-            )),
+          named-within P D a e (entries_of (plain_of D a)) es means-a means-e f.0,
+          named-within P D b e (entries_of (plain_of D b)) es means-b means-e f.1,
+        )),
       )
 
   again-n : (out' : List ℕ) → size ≤ length out'

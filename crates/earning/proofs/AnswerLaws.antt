@@ -88,6 +88,6 @@ module _ (P c d out : List ℕ) where
       bool_cases (ltb (length out) (length (entries_of c)))
       (λ z. rw (p, r, q, z) (refl, refl))
       (λ z. (
-      rw (p, r, q, z) (ok-same (together-alone P c d)),
-      rw (p, r, q, z) (ap (λ (M : ℕ → Bool). marked_bytes M (length (entries_of c)) out) (stays-alone P c d)),
+        rw (p, r, q, z) (ok-same (together-alone P c d)),
+        rw (p, r, q, z) (ap (λ (M : ℕ → Bool). marked_bytes M (length (entries_of c)) out) (stays-alone P c d)),
       ))

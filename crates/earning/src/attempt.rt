@@ -97,7 +97,7 @@ fn mark(attempt: Attempt<'_>, out: &mut [u8]) -> bool
     requires { attempt.tried.total ≤ length out.old }
     ensures { (result ≡ together attempt.entry.service.pairs.now attempt.entry.stays.bytes.now attempt.entry.tried.bytes.now attempt.entry.service.d.now)
         × (out.new ≡ marked_bytes (stays_in attempt.entry.service.pairs.now attempt.entry.stays.bytes.now attempt.entry.tried.bytes.now attempt.entry.service.d.now)
-            (length (entries_of attempt.entry.tried.bytes.now)) out.old) }
+        (length (entries_of attempt.entry.tried.bytes.now)) out.old) }
 {
     let mut entries = [0u64; 1008];
     attempt.load(&mut entries);

@@ -14,7 +14,16 @@ fn drawn_failings() {
 #[test]
 fn refused_failings() {
     let run = made(300, Rounds::wrong_failings);
-    for (number, input) in [(1, 1), (2, 1), (3, 1), (4, 1), (2, 2), (3, 2), (4, 2), (11, 0)] {
+    for (number, input) in [
+        (1, 1),
+        (2, 1),
+        (3, 1),
+        (4, 1),
+        (2, 2),
+        (3, 2),
+        (4, 2),
+        (11, 0),
+    ] {
         let answer = format!("refused {number} input {input}");
         assert!(run.tally.count("failing", &answer) > 5, "{answer}");
     }
@@ -23,7 +32,13 @@ fn refused_failings() {
 /// What both answer, with an output of this length.
 fn failing(c: &[Entry], d: &[Entry], length: usize) -> Answer {
     let mut chance = Chance::from_seed(3);
-    agreed(agree::failing(&mut chance, &[], &encode(c), &encode(d), length))
+    agreed(agree::failing(
+        &mut chance,
+        &[],
+        &encode(c),
+        &encode(d),
+        length,
+    ))
 }
 
 #[test]

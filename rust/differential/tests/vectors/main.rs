@@ -347,9 +347,7 @@ fn the_library_agrees() {
             Call::Desk => drafts(first),
             // The binding has no such call; the program of the vectors makes it.
             Call::Earning => continue,
-            Call::Missing => {
-                agree::missing(&mut chance, under.pairs, first, second, vector.output)
-            }
+            Call::Missing => agree::missing(&mut chance, under.pairs, first, second, vector.output),
         };
         if let Err(difference) = agreed {
             panic!("vector {number}: {difference}");

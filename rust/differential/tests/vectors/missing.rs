@@ -5,40 +5,22 @@ use differential::named::missing;
 
 /// Nothing is lacking of so many entries.
 fn nothing(entries: usize) -> Expected {
-    Expected {
-        answer: "missing nothing",
-        written: vec![0; entries],
-    }
+    filled("missing nothing", &vec![0; entries])
 }
 
 /// To be added, with a mark for each entry.
 fn add(marks: &[u8]) -> Expected {
-    Expected {
-        answer: "missing addable",
-        written: marks.to_vec(),
-    }
+    filled("missing addable", marks)
 }
 
 /// No item fits both, with a mark for each entry.
 fn against(marks: &[u8]) -> Expected {
-    Expected {
-        answer: "missing against",
-        written: marks.to_vec(),
-    }
+    filled("missing against", marks)
 }
 
 /// Refused with this number, input and place.
-macro_rules! refused {
-    ($number:literal, $input:literal, $place:literal) => {
-        said(concat!(
-            "missing refused ",
-            $number,
-            " input ",
-            $input,
-            " place ",
-            $place
-        ))
-    };
+fn refused(number: u8, input: u16, place: u32) -> Expected {
+    super::refused("missing", number, input, place)
 }
 
 #[test]
@@ -145,13 +127,13 @@ fn sixteen_blocks_together() {
         &missing::limits(),
         &[
             add(&[1; 504]),
-            refused!(7, 0, 0),
-            refused!(1, 2, 0),
-            refused!(1, 2, 0),
-            refused!(1, 2, 0),
-            refused!(1, 2, 0),
+            refused(7, 0, 0),
+            refused(1, 2, 0),
+            refused(1, 2, 0),
+            refused(1, 2, 0),
+            refused(1, 2, 0),
             nothing(63),
-            refused!(4, 2, 1),
+            refused(4, 2, 1),
         ],
     );
 }
@@ -162,25 +144,25 @@ fn outputs_and_refusals() {
         &missing::outputs(),
         &[
             add(&[0, 1]),
-            refused!(7, 0, 0),
-            refused!(7, 0, 0),
-            refused!(7, 0, 0),
+            refused(7, 0, 0),
+            refused(7, 0, 0),
+            refused(7, 0, 0),
             nothing(0),
-            refused!(7, 0, 0),
+            refused(7, 0, 0),
             nothing(0),
         ],
     );
     check(
         &missing::order(),
         &[
-            refused!(11, 0, 0),
-            refused!(11, 0, 2),
-            refused!(4, 1, 1),
-            refused!(4, 2, 2),
-            refused!(1, 1, 0),
-            refused!(1, 2, 0),
-            refused!(5, 2, 1),
-            refused!(4, 2, 1),
+            refused(11, 0, 0),
+            refused(11, 0, 2),
+            refused(4, 1, 1),
+            refused(4, 2, 2),
+            refused(1, 1, 0),
+            refused(1, 2, 0),
+            refused(5, 2, 1),
+            refused(4, 2, 1),
         ],
     );
 }

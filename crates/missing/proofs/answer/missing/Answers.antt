@@ -79,5 +79,5 @@ returns c =
     let few : length a.c.now + length a.d.now ≤ 8192 = omega (arith, c.if-c-d-gt8192.false) in
     let room : length (entries_of a.d.now) ≤ length a.out.now = omega (arith, c.if-out-total.false, c.from-total.ensures, (none-of-accepted Description 2 a.d.now q).1) in
     let l = missing-given a.pairs.now a.c.now a.d.now a.out.now
-        (both-answers a.pairs.now a.c.now a.d.now a.out.now _ (sym c.read_pairs.ensures ∙ c.in_ok-read_pairs.was) (sym c.read.ensures ∙ c.in_ok-first.was) q few room) in
+    (both-answers a.pairs.now a.c.now a.d.now a.out.now _ (sym c.read_pairs.ensures ∙ c.in_ok-read_pairs.was) (sym c.read.ensures ∙ c.in_ok-first.was) q few room) in
     (c.mark_lacking.ensures.0 ∙ l.0, c.mark_lacking.ensures.1 ∙ l.1)
