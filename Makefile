@@ -81,6 +81,8 @@ outside: lib gx $(PROGRAM)
 	test "$$(target/c/excluding)" = "without the list: not contained; under it: contained"
 	$(CC) $(CFLAGS) examples/named.c target/staticlib/libcapi.a -o target/c/named
 	test "$$(target/c/named)" = "6 entries once unfolded: 5,0,1,0 1,1,7,0 2,1,8,0 5,0,2,0 1,4,7,0 2,4,8,0; contained"
+	$(CC) $(CFLAGS) examples/narrowest.c target/staticlib/libcapi.a -o target/c/narrowest
+	test "$$(target/c/narrowest)" = "narrowest of 4 entries: 3,0,1,1 4,0,1,9 5,0,1,0 1,3,7,0"
 	$(CC) $(CFLAGS) examples/catalogue.c target/staticlib/libcapi.a -o target/c/catalogue
 	test "$$(cd examples && ../target/c/catalogue supplier.blocks services/*.blocks service.txt | paste -s -d,)" = \
 		"service.txt: refused 1 place 0,services/few-cores.blocks: contained,services/sealed.blocks: not contained,services/with-core.blocks: contained"

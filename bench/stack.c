@@ -20,6 +20,8 @@ static uint8_t desk[GX_DESK_BYTES], halves[2][256 * BLOCKS];
 static uint8_t pairs[4 * PAIRS], list[sizeof chain + sizeof wide];
 static uint8_t dictionary[sizeof wide + sizeof chain + sizeof places], named[3][512];
 static uint8_t nested[512 * NAMES], last[512];
+/* Two descriptions of 8 blocks each: as a dictionary they are its two. */
+static uint8_t looser[512 * BLOCKS];
 static ucontext_t here, there;
 static uint64_t answer;
 
@@ -83,9 +85,13 @@ static void make_inputs(void) {
     for (unsigned n = 1; n <= ENTRIES / 2; n++) {
         put_entry(halves[0], n, 3, 0, n * 397 % 1009, 1);
         put_entry(halves[1], n, 3, 0, (ENTRIES / 2 + n) * 397 % 1009, 1);
+        put_entry(looser, n, 3, 0, n * 397 % 1009, 1);
+        put_entry(looser + sizeof looser / 2, n, 3, 0, n * 397 % 1009, 2);
     }
     close_blocks(halves[0], ENTRIES / 2);
     close_blocks(halves[1], ENTRIES / 2);
+    close_blocks(looser, ENTRIES / 2);
+    close_blocks(looser + sizeof looser / 2, ENTRIES / 2);
     memcpy(list, chain, sizeof chain);
     memcpy(list + sizeof chain, wide, sizeof wide);
     memcpy(dictionary, wide, sizeof wide);
@@ -128,6 +134,10 @@ static void normal_with(void) { answer = gx_normal_with(pairs, sizeof pairs, NUL
 static void compare_with(void) {
     answer = gx_compare_with(pairs, sizeof pairs, NULL, 0, wide, sizeof wide, chain, sizeof chain, out, sizeof out);
 }
+static void narrowest(void) {
+    size_t half = sizeof looser / 2;
+    answer = gx_narrowest(pairs, sizeof pairs, NULL, 0, looser, half, looser + half, half, out, sizeof out);
+}
 static void catalogue(void) {
     answer = gx_catalogue(pairs, sizeof pairs, NULL, 0, wide, sizeof wide, list, sizeof list, out, sizeof out);
 }
@@ -160,6 +170,9 @@ static void normal_named(void) {
 static void compare_named(void) {
     answer = gx_compare_with(pairs, sizeof pairs, dictionary, sizeof dictionary, named[0], 512, named[1], 512, out, sizeof out);
 }
+static void narrowest_named(void) {
+    answer = gx_narrowest(pairs, sizeof pairs, looser, sizeof looser, named[0], 512, named[1], 512, out, sizeof out);
+}
 static void catalogue_named(void) {
     answer = gx_catalogue(pairs, sizeof pairs, dictionary, sizeof dictionary, named[0], 512, named[1], 1024, out, sizeof out);
 }
@@ -178,6 +191,9 @@ static void normal_nested(void) {
 }
 static void compare_nested(void) {
     answer = gx_compare_with(pairs, sizeof pairs, nested, sizeof nested, last, 512, last, 512, out, sizeof out);
+}
+static void narrowest_nested(void) {
+    answer = gx_narrowest(pairs, sizeof pairs, nested, sizeof nested, last, 512, last, 512, out, sizeof out);
 }
 static void catalogue_nested(void) {
     answer = gx_catalogue(pairs, sizeof pairs, nested, sizeof nested, last, 512, last, 512, out, sizeof out);
@@ -218,6 +234,7 @@ int main(void) {
     show("gx_fit_with", fit_with);
     show("gx_normal_with", normal_with);
     show("gx_compare_with", compare_with);
+    show("gx_narrowest", narrowest);
     show("gx_catalogue", catalogue);
     show("gx_hierarchy", hierarchy);
     show("gx_earning", earning);
@@ -236,11 +253,13 @@ int main(void) {
     show("gx_fit_with, named", fit_named);
     show("gx_normal_with, named", normal_named);
     show("gx_compare_with, named", compare_named);
+    show("gx_narrowest, named", narrowest_named);
     show("gx_catalogue, named", catalogue_named);
     show("gx_unfold, nested", unfold_nested);
     show("gx_fit_with, nested", fit_nested);
     show("gx_normal_with, nested", normal_nested);
     show("gx_compare_with, nested", compare_nested);
+    show("gx_narrowest, nested", narrowest_nested);
     show("gx_catalogue, nested", catalogue_nested);
     show("gx_fit_all, named", fit_all_named);
     return 0;

@@ -24,8 +24,8 @@
  * Links from 32,768 up lead to one item only: a finite record keeps the rule that no item has two items by one of them. What a
  * yes, a no and a normal form promise is about such records.
  *
- * Properties that exclude each other. gx_fit_with, gx_normal_with, gx_compare_with, gx_catalogue, gx_hierarchy and gx_fit_all take a
- * list of pairs of properties, such as clay and sand, that never hold of one item: 0 to 64 pairs of four bytes, in each pair two
+ * Properties that exclude each other. gx_fit_with, gx_normal_with, gx_compare_with, gx_narrowest, gx_catalogue, gx_hierarchy and
+ * gx_fit_all take a list of pairs of properties, such as clay and sand, that never hold of one item: 0 to 64 pairs of four bytes, in each pair two
  * properties of two bytes, low byte first. Which of the two stands first says nothing; a pair may stand there twice, and a property in
  * several pairs. The list says which records are spoken of: what these calls promise is about every finite record that keeps
  * the list and the rule on links from 32,768 up. So a place of a description with both properties of a pair is impossible, and
@@ -74,7 +74,7 @@
  *     number   when                                                                              place
  *     1        an input's length is 0, no multiple of 512, or over the limit; of a dictionary
  *              only: it is no multiple of 512; of a list of services: it is 0 or no such
- *              multiple; of gx_missing's two inputs, each of them accepted: they have more
+ *              multiple; of gx_narrowest and gx_missing at input 2: both inputs, each accepted, have more
  *              than 16 blocks together                                                           0
  *     2        a block's first check (bytes 510-511) or second (bytes 508-509) is wrong          block
  *     3        a block's number or used count is wrong, or a byte of its unused entries is
@@ -84,7 +84,8 @@
  *     5        an entry's owner is neither 0, the top, which always passes, nor an earlier
  *              entry of kind 5 (description) or 7 (specimen)                                     entry
  *     6        an entry's depth is over 32                                                       entry
- *     7        the output is too short                                                           0
+ *     7        the output is too short; of gx_narrowest also: the result has more than 1,008
+ *              entries                                                                           0
  *     8        a dictionary has more than 64 descriptions, or a list more than 64 services       0
  *     9        a specimen's group brings its owner a second item by a link from 32,768 up;
  *              a delivered record links an item by one to another than an earlier entry did      entry
@@ -250,6 +251,20 @@ uint64_t gx_normal_with(const uint8_t *pairs, size_t pairs_len, const uint8_t *d
  */
 uint64_t gx_compare_with(const uint8_t *pairs, size_t pairs_len, const uint8_t *dict, size_t dict_len, const uint8_t *c,
                          size_t c_len, const uint8_t *d, size_t d_len, uint8_t *out, size_t out_len);
+
+/*
+ * The narrowest description that contains both a, input 1, and b, input 2, under a list of pairs and with a dictionary (their least
+ * common subsumer): it contains both as gx_compare_with says, and an accepted description contains it exactly if it contains both.
+ * It is written in normal form in blocks from the start of out: a count, the number of entries written; or refused. Either order of
+ * a and b gives the same bytes. It has the properties that both have, lacks what both lack, the smaller at least, the larger at most,
+ * and below a link that both have an 'every' of, the same of the two places below; where one has at most 0 of a link, the place of the
+ * other; where one is impossible, it is the other. Refused by the first that applies: 11; the dictionary; a in full; b in full; 1 at
+ * input 2, place 0, where both together, once unfolded, have more than 16 blocks; 7 where out is shorter than both together, once
+ * unfolded, or the result has more than 1,008 entries, or out is shorter than the result. With no pairs an out as long as both is
+ * always long enough; GX_BYTES(1008) bytes are always. Later bytes of out stay. Where refused, out is unchanged.
+ */
+uint64_t gx_narrowest(const uint8_t *pairs, size_t pairs_len, const uint8_t *dict, size_t dict_len, const uint8_t *a, size_t a_len,
+                      const uint8_t *b, size_t b_len, uint8_t *out, size_t out_len);
 
 /*
  * Compares the description c, input 1, with each service of a list, input 2, and fills a byte of out for each, from the start:

@@ -16,6 +16,7 @@ ghost use Rattle.answers.specs.Earning.{AskedRefused, Earns};
 ghost use Rattle.answers.specs.Failing.{Fails};
 ghost use Rattle.answers.specs.Items.{ItemsRefused, MarksItems};
 ghost use Rattle.answers.specs.Missing.{Lacks, MissingRefused};
+ghost use Rattle.answers.specs.Narrowest.{NarrowestRefused, Narrows};
 ghost use Rattle.answers.specs.Promise.{ComparableNamed, DecidedNamed, Fills, FitsNamedExactly, JudgeableNamed, NormalisesNamed};
 ghost use Rattle.answers.specs.Ranking.{HierarchyRefused, Ranks};
 ghost use Rattle.answers.specs.Refusals.{CatalogueRefused, ComparisonRefused, FitRefused, NormalRefused, UnfoldRefused};
@@ -35,7 +36,7 @@ ghost use Rattle.hierarchy.specs.Answer.{hierarchy_of, ranked_of};
 ghost use Rattle.items.specs.Answer.{items_of, marked_of};
 ghost use Rattle.missing.specs.Answer.{lacked_of, missing_of};
 ghost use Rattle.missing.specs.declared.Lack.{Lack};
-ghost use Rattle.named.specs.Answer.{compare_named, counted_named, fit_named, normalise_named, normalised_named, output_named};
+ghost use Rattle.named.specs.Answer.{compare_named, counted_named, fit_named, narrowed_named, narrowest_named, normalise_named, normalised_named, output_named};
 ghost use Rattle.packing.specs.Packing.{pack_comparison, pack_counted, pack_fit, pack_lack, pack_reading};
 ghost use Rattle.pairs.specs.Promise.{ListRead};
 ghost use Rattle.sheets.specs.Promise.{SheetRead};
@@ -173,6 +174,25 @@ pub extern "C" fn gx_compare_with(
     ensures means { ListRead pairs.now → ComparableNamed dict.now c.now d.now out.old → DecidedNamed pairs.now dict.now c.now d.now out.old }
 {
     pack_comparison(named::compare(pairs, dict, c, d, out))
+}
+
+// Writes the narrowest description that contains two, a, input 1, and b, input 2, from the start of the output: its number of entries, or the
+// refusal.
+#[unsafe(no_mangle)]
+pub extern "C" fn gx_narrowest(
+    pairs: &[u8],
+    dict: &[u8],
+    a: &[u8],
+    b: &[u8],
+    out: &mut [u8],
+) -> u64
+    ensures answer { (result ≡ pack_reading (narrowest_named pairs.now dict.now a.now b.now out.old))
+        × (out.new ≡ narrowed_named pairs.now dict.now a.now b.now out.old) }
+    ensures refuses { RefusedExactly (narrowest_named pairs.now dict.now a.now b.now out.old) (NarrowestRefused pairs.now dict.now a.now b.now out.old) }
+    ensures keeps { NothingWritten (narrowest_named pairs.now dict.now a.now b.now out.old) (narrowed_named pairs.now dict.now a.now b.now out.old) out.old }
+    ensures means { (k : ℕ) → narrowest_named pairs.now dict.now a.now b.now out.old ≡ Ok k → Narrows pairs.now dict.now a.now b.now out.old k }
+{
+    pack_reading(named::narrowest(pairs, dict, a, b, out))
 }
 
 // Compares the supplier's description with each of a list of services laid end to end, and fills a byte for each: 1 contained, 0 not. The

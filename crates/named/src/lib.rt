@@ -12,9 +12,11 @@
 
 mod comparing;
 mod fitting;
+mod narrowing;
 mod normalising;
 mod sent;
 
 pub use comparing::{compare, compare_sent};
 pub use fitting::{fit, fit_counted, fit_sent};
+pub use narrowing::narrowest;
 pub use normalising::{normalise, normalise_sent};

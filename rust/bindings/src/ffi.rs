@@ -51,6 +51,18 @@ extern "C" {
         out: *mut u8,
         out_len: usize,
     ) -> u64;
+    fn gx_narrowest(
+        pairs: *const u8,
+        pairs_len: usize,
+        dict: *const u8,
+        dict_len: usize,
+        a: *const u8,
+        a_len: usize,
+        b: *const u8,
+        b_len: usize,
+        out: *mut u8,
+        out_len: usize,
+    ) -> u64;
     fn gx_unfold(
         dict: *const u8,
         dict_len: usize,
@@ -220,6 +232,24 @@ pub(crate) fn compare_with(pairs: &[u8], dict: &[u8], c: &[u8], d: &[u8], out: &
             c.len(),
             d.as_ptr(),
             d.len(),
+            out.as_mut_ptr(),
+            out.len(),
+        )
+    }
+}
+
+pub(crate) fn narrowest(pairs: &[u8], dict: &[u8], a: &[u8], b: &[u8], out: &mut [u8]) -> u64 {
+    // SAFETY: the pointers and lengths are those of five slices, and the last is ours alone.
+    unsafe {
+        gx_narrowest(
+            pairs.as_ptr(),
+            pairs.len(),
+            dict.as_ptr(),
+            dict.len(),
+            a.as_ptr(),
+            a.len(),
+            b.as_ptr(),
+            b.len(),
             out.as_mut_ptr(),
             out.len(),
         )
@@ -418,6 +448,7 @@ mod tests {
             assert_eq!(gx_fit_with(no, 0, no, 0, no, 0, no, 0), EMPTY);
             assert_eq!(gx_normal_with(no, 0, no, 0, no, 0, none, 0), EMPTY);
             assert_eq!(gx_compare_with(no, 0, no, 0, no, 0, no, 0, none, 0), EMPTY);
+            assert_eq!(gx_narrowest(no, 0, no, 0, no, 0, no, 0, none, 0), EMPTY);
             assert_eq!(gx_unfold(no, 0, no, 0, none, 0), EMPTY);
             assert_eq!(gx_catalogue(no, 0, no, 0, no, 0, no, 0, none, 0), EMPTY);
             assert_eq!(gx_earning(no, 0, no, 0, no, 0, none, 0), EMPTY);

@@ -140,4 +140,42 @@ impl Under<'_> {
     pub fn compare(&self, c: &[u8], d: &[u8], out: &mut [u8]) -> Result<Comparison, Refusal> {
         packed::comparison(ffi::compare_with(self.pairs, self.dictionary, c, d, out))
     }
+
+    /// Writes the narrowest description that contains both `a`, input 1, and `b`, input 2, in blocks from the start of the output, and
+    /// returns its number of entries. Later bytes of the output stay.
+    ///
+    /// It contains both, as [`Under::compare`] says, and an accepted description contains it exactly if it contains both. It is in
+    /// normal form, and either order of the two gives the same bytes. Both together have at most 16 blocks once unfolded.
+    ///
+    /// ```
+    /// use goltximen::{Comparison, Under};
+    ///
+    /// // "has property 7, has property 8", and "has property 7".
+    /// let mut a = [0u8; 512];
+    /// (a[0], a[2], a[4], a[8], a[12], a[16]) = (1, 2, 1, 7, 1, 8);
+    /// (a[508], a[510]) = (122, 142);
+    /// let mut b = [0u8; 512];
+    /// (b[0], b[2], b[4], b[8]) = (1, 1, 1, 7);
+    /// (b[508], b[510]) = (41, 51);
+    ///
+    /// // Both have property 7, and nothing else.
+    /// let mut out = [9u8; 1024];
+    /// let under = Under::default();
+    /// assert_eq!(under.narrowest(&a, &b, &mut out), Ok(1));
+    /// assert_eq!((&out[..512], out[512]), (&b[..], 9));
+    ///
+    /// let narrowest = out[..512].to_vec();
+    /// assert_eq!(under.compare(&a, &narrowest, &mut out), Ok(Comparison::Contained));
+    /// ```
+    ///
+    /// # Errors
+    ///
+    /// The refusal of the list, of the dictionary, of `a`, and of `b`, the first that applies; then
+    /// [`Reason::Length`](crate::Reason::Length) of input 2, at place 0, where both together have more than 16 blocks once unfolded; then
+    /// [`Reason::Output`](crate::Reason::Output) where the output is shorter than both together, once unfolded, or than the result, or the
+    /// result has more than 1,008 entries. Without a list an output as long as both is always long enough; one of 8,192 bytes always is. The
+    /// output is then unchanged.
+    pub fn narrowest(&self, a: &[u8], b: &[u8], out: &mut [u8]) -> Result<u16, Refusal> {
+        packed::count(ffi::narrowest(self.pairs, self.dictionary, a, b, out))
+    }
 }

@@ -9,6 +9,7 @@ mod failing;
 mod hierarchy;
 mod missing;
 mod named;
+mod narrowest;
 mod sheets;
 mod under;
 

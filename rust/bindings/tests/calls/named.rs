@@ -54,6 +54,10 @@ fn dictionary_refused(dictionary: &[u8], reason: Reason, input: u16, place: u16)
             with.compare(input_1, &bad, &mut out[..1]),
             refusal(reason, input, place)
         );
+        assert_eq!(
+            with.narrowest(input_1, &bad, &mut out[..1]),
+            refusal(reason, input, place)
+        );
         assert_eq!(out, [FILL; 1024]);
     }
 }
