@@ -128,6 +128,7 @@
  *     gx_fit_with            59,608 bytes
  *     gx_normal_with         68,024 bytes
  *     gx_compare_with        81,768 bytes
+ *     gx_narrowest          100,616 bytes
  *     gx_catalogue           78,736 bytes
  *     gx_hierarchy           34,552 bytes
  *     gx_earning             55,160 bytes
