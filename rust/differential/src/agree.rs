@@ -13,6 +13,7 @@ mod failing;
 mod hierarchy;
 mod items;
 mod missing;
+mod narrowest;
 mod sheets;
 mod stored;
 
@@ -34,6 +35,7 @@ pub use failing::failing;
 pub use hierarchy::hierarchy;
 pub use items::fit_all;
 pub use missing::missing;
+pub use narrowest::narrowest;
 pub use sheets::read_sheet;
 pub use stored::{from_stored, to_stored};
 

@@ -8,7 +8,8 @@
 //! other which a call is given. A call with a dictionary has to give what the call without one gives for the unfolded
 //! descriptions, the catalogue and the hierarchy what single comparisons give, and a field sheet what its profile says of
 //! a description. A drafting desk has to hold what the reference's desk holds after the same calls. The entries that earn a yes have
-//! to be those that single comparisons leave, one after the other.
+//! to be those that single comparisons leave, one after the other. The narrowest description of two has to contain both, in normal form
+//! and in either order, and to be contained in all that contain both.
 //!
 //! | Module | Subject |
 //! |---|---|

@@ -7,6 +7,7 @@ mod failing;
 mod hierarchy;
 mod items;
 mod missing;
+mod narrowest;
 mod sheets;
 mod stored;
 
@@ -164,7 +165,7 @@ impl Rounds {
     ///
     /// The difference.
     pub fn any(&mut self) -> Found {
-        match self.chance.below(92) {
+        match self.chance.below(96) {
             0..=13 => self.pair(),
             14..=17 => self.doubles(),
             18..=24 => self.normal(),
@@ -195,7 +196,9 @@ impl Rounds {
             86..=87 => self.failings(),
             88 => self.wrong_failings(),
             89..=90 => self.lacks(),
-            _ => self.wrong_lacks(),
+            91 => self.wrong_lacks(),
+            92..=94 => self.narrowings(),
+            _ => self.wrong_narrowings(),
         }
     }
 

@@ -9,6 +9,7 @@ mod failing;
 mod hierarchy;
 mod items;
 mod naming;
+mod narrowest;
 mod sheets;
 mod stored;
 mod sweeps;
