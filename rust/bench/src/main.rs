@@ -9,6 +9,7 @@ mod failings;
 mod lacking;
 mod listed;
 mod named;
+mod narrowed;
 mod ranked;
 mod services;
 mod sheets;
@@ -78,6 +79,7 @@ fn main() {
         Some("earning") => return earned::rows(),
         Some("failing") => return failings::rows(),
         Some("missing") => return lacking::rows(),
+        Some("narrowest") => return narrowed::rows(),
         _ => {}
     }
     model_rows();
@@ -92,6 +94,7 @@ fn main() {
     delivered::rows();
     earned::rows();
     lacking::rows();
+    narrowed::rows();
     turns::rows();
 }
 

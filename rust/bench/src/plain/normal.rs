@@ -57,7 +57,7 @@ fn sized<const N: usize>(
 }
 
 /// Writes place by place, in the order in which the 'every' entries stand.
-fn write<const N: usize>(slots: &Slots<N>, out: &mut [u8]) -> usize {
+pub fn write<const N: usize>(slots: &Slots<N>, out: &mut [u8]) -> usize {
     let mut rows = Rows::<N>::new();
     if slots.is_broken() {
         rows.push(NOTHING, 0, 0, 0);

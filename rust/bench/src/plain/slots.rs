@@ -35,6 +35,12 @@ impl Key {
         Key::of_kind(place, AT_LEAST, name)
     }
 
+    /// The same class and name at another place.
+    #[inline]
+    pub fn at(self, place: usize) -> Key {
+        Key((place as u32) << 17 | self.class_and_name())
+    }
+
     #[inline]
     pub fn place(self) -> usize {
         (self.0 >> 17) as usize
@@ -142,6 +148,13 @@ impl<const N: usize> Slots<N> {
         self.cells.as_flattened_mut()[cell] = self.used as u16;
         self.slots[self.used] = Slot::silent(key);
         self.used
+    }
+
+    /// Adds a slot that is not looked for by its key.
+    #[inline]
+    pub fn push(&mut self, key: Key, least: u32, most: u32) {
+        self.used += 1;
+        self.slots[self.used] = Slot { key, least, most };
     }
 
     /// Takes in an entry.

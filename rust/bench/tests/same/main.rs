@@ -8,6 +8,7 @@ mod hierarchy;
 mod items;
 mod missing;
 mod naming;
+mod narrowest;
 mod sheets;
 mod stored;
 
