@@ -1,4 +1,4 @@
-// The library's calls for C and Rust [K4]: twenty-four functions under their plain names, each slice a pointer and a
+// The library's calls for C and Rust [K4]: twenty-six functions under their plain names, each slice a pointer and a
 // length. Each is total [K1] and has, for its result and each byte that it may write, the equation of the call that
 // it wraps [K2], with the answer as one number of 64 bits [K5]; include/goltximen.h states the terms for a C program.
 //

@@ -126,6 +126,18 @@ pub fn missing(
     Ok((lack, marks(&out)))
 }
 
+/// The blocks of the narrowest description that contains two.
+///
+/// # Errors
+///
+/// The library's refusal.
+pub fn narrowest(under: Under<'_>, a: &[u8], b: &[u8]) -> Result<Vec<u8>, Refusal> {
+    let mut out = vec![0; 2 * MOST_BYTES];
+    let entries = under.narrowest(a, b, &mut out)?;
+    out.truncate(length_of(entries.into()));
+    Ok(out)
+}
+
 /// A byte for each entry as a mark.
 fn marks(bytes: &[u8]) -> Vec<bool> {
     bytes.iter().map(|&byte| byte == 1).collect()

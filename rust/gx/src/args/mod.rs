@@ -30,6 +30,8 @@ pub enum Command {
     Keep,
     /// The entries that are missing for one.
     Missing,
+    /// The narrowest description that contains two.
+    Narrowest,
     /// One description compared with many.
     Catalogue,
     /// Many services from general to special.
@@ -50,7 +52,7 @@ pub enum Command {
 
 impl Command {
     /// All commands, in the order of the help.
-    pub const ALL: [Command; 16] = [
+    pub const ALL: [Command; 17] = [
         Command::Show,
         Command::Write,
         Command::Check,
@@ -59,6 +61,7 @@ impl Command {
         Command::Compare,
         Command::Keep,
         Command::Missing,
+        Command::Narrowest,
         Command::Catalogue,
         Command::Hierarchy,
         Command::Delivered,
@@ -80,6 +83,7 @@ impl Command {
             Command::Compare => "compare",
             Command::Keep => "keep",
             Command::Missing => "missing",
+            Command::Narrowest => "narrowest",
             Command::Catalogue => "catalogue",
             Command::Hierarchy => "hierarchy",
             Command::Delivered => "delivered",
@@ -113,6 +117,7 @@ impl Command {
                 | Command::Compare
                 | Command::Keep
                 | Command::Missing
+                | Command::Narrowest
                 | Command::Delivered
                 | Command::Owl
         )

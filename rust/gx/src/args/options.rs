@@ -3,7 +3,7 @@
 
 use super::Command::{
     self, Catalogue, Check, Compare, Delivered, Desk, Doubles, Fit, FromOwl, Hierarchy, Keep,
-    Missing, Normal, Owl, Show, Unfold, Write,
+    Missing, Narrowest, Normal, Owl, Show, Unfold, Write,
 };
 
 /// An option.
@@ -37,18 +37,21 @@ impl Opt {
 
 const ALL: &[Command] = &Command::ALL;
 const UNDER: &[Command] = &[
-    Check, Normal, Fit, Compare, Keep, Missing, Catalogue, Hierarchy, Delivered, Desk, Doubles, Owl,
+    Check, Normal, Fit, Compare, Keep, Missing, Narrowest, Catalogue, Hierarchy, Delivered, Desk,
+    Doubles, Owl,
 ];
 const NAMING: &[Command] = &[
-    Show, Write, Check, Normal, Fit, Compare, Keep, Missing, Catalogue, Hierarchy, Delivered, Desk,
-    Doubles, Unfold, Owl,
+    Show, Write, Check, Normal, Fit, Compare, Keep, Missing, Narrowest, Catalogue, Hierarchy,
+    Delivered, Desk, Doubles, Unfold, Owl,
 ];
 const READING: &[Command] = &[
-    Show, Write, Check, Normal, Fit, Compare, Keep, Missing, Catalogue, Hierarchy, Delivered, Desk,
-    Doubles, Unfold, Owl,
+    Show, Write, Check, Normal, Fit, Compare, Keep, Missing, Narrowest, Catalogue, Hierarchy,
+    Delivered, Desk, Doubles, Unfold, Owl,
 ];
-const TO: &[Command] = &[Show, Write, Normal, Keep, Missing, Desk, Unfold, FromOwl];
-const TEXTS: &[Command] = &[Show, Normal, Keep, Missing, Unfold, FromOwl];
+const TO: &[Command] = &[
+    Show, Write, Normal, Keep, Missing, Narrowest, Desk, Unfold, FromOwl,
+];
+const TEXTS: &[Command] = &[Show, Normal, Keep, Missing, Narrowest, Unfold, FromOwl];
 
 const fn flag(name: &'static str, about: &'static str, of: &'static [Command]) -> Opt {
     Opt {
@@ -115,7 +118,8 @@ pub const OPTIONS: &[Opt] = &[
             "--out",
             "write into this file; for folders, into this folder",
             &[
-                Show, Write, Normal, Keep, Missing, Hierarchy, Desk, Doubles, Unfold, Owl, FromOwl,
+                Show, Write, Normal, Keep, Missing, Narrowest, Hierarchy, Desk, Doubles, Unfold, Owl,
+                FromOwl,
             ],
         )
     },
@@ -128,7 +132,7 @@ pub const OPTIONS: &[Opt] = &[
         "--html",
         "write a page with the answer, of a field sheet that is shown a form for paper; for folders, and of a catalogue, into this folder, with an index",
         &[
-            Show, Fit, Compare, Keep, Catalogue, Hierarchy, Delivered, Doubles,
+            Show, Fit, Compare, Keep, Narrowest, Catalogue, Hierarchy, Delivered, Doubles,
         ],
     ),
     file(
@@ -139,8 +143,8 @@ pub const OPTIONS: &[Opt] = &[
     flag("--whole", "draw each group of a large specimen", &[Compare]),
     flag(
         "--sheet",
-        "the description has to be a field sheet, else it is refused (19); of a comparison the supplier's",
-        &[Show, Check, Normal, Fit, Compare, Keep, Missing, Delivered],
+        "the description has to be a field sheet, else it is refused (19); of a comparison the supplier's, of the narrowest both",
+        &[Show, Check, Normal, Fit, Compare, Keep, Missing, Narrowest, Delivered],
     ),
     file(
         "--against",

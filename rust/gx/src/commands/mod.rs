@@ -12,6 +12,7 @@ mod hierarchy;
 mod keep;
 mod list;
 mod missing;
+mod narrowest;
 mod normal;
 mod owl;
 mod services;
@@ -149,6 +150,7 @@ impl Context {
             (Command::Compare, &[c, d]) => compare::compare(self, c, d),
             (Command::Keep, &[c, d]) => keep::keep(self, c, d),
             (Command::Missing, &[c, d]) => missing::missing(self, c, d),
+            (Command::Narrowest, &[a, b]) => narrowest::narrowest(self, a, b),
             (Command::Delivered, &[record, d]) => delivered::delivered(self, record, d),
             (Command::Owl, [c, services @ ..]) => owl::owl(self, c, services),
             _ => Err(Trouble::File {

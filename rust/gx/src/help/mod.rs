@@ -134,6 +134,7 @@ fn inputs(command: Command) -> &'static str {
     match command {
         Command::Fit => "SPECIMEN DESCRIPTION",
         Command::Compare | Command::Keep | Command::Missing => "SUPPLIER SERVICE",
+        Command::Narrowest => "DESCRIPTION DESCRIPTION",
         Command::Owl => "SUPPLIER SERVICE...",
         Command::Catalogue => "SUPPLIER SERVICES...",
         Command::Hierarchy => "SERVICES...",
@@ -172,6 +173,10 @@ pub fn about(command: Command) -> (&'static str, &'static str) {
         Command::Missing => (
             "missing SUPPLIER SERVICE",
             "which entries of the second to add to the first for a yes",
+        ),
+        Command::Narrowest => (
+            "narrowest ONE OTHER",
+            "the narrowest description that contains both",
         ),
         Command::Catalogue => (
             "catalogue SUPPLIER SERVICES",

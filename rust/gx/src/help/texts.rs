@@ -12,6 +12,7 @@ pub(super) fn detail(command: Command) -> &'static str {
         Command::Compare => COMPARE,
         Command::Keep => KEEP,
         Command::Missing => MISSING,
+        Command::Narrowest => NARROWEST,
         Command::Catalogue => CATALOGUE,
         Command::Hierarchy => HIERARCHY,
         Command::Delivered => DELIVERED,
@@ -79,6 +80,14 @@ Marks the entries of the service that the supplier's description lacks for a yes
 them, 'every' entries apart, it is not. It is one such set: leaving out was tried from the last entry to the first. --out writes them
 as a description, in the form that --to says. Where no item fits both, nothing can be added: the entries that are marked contradict
 the supplier's, and nothing is written. Both together have at most 16 blocks.
+";
+
+const NARROWEST: &str = "\
+Writes the narrowest description that contains both, in normal form: whatever fits one of them fits it, and every description of which
+that is so contains it. It says what both say: common properties and lacks, the smaller at least, the larger at most, and of common
+'every' the same below. Where nothing fits one of the two it is the normal form of the other, and the first line tells it. Both together
+have at most 16 blocks (1), the result at most 1,008 entries (7). --out writes it into a file, --html a page with the two and it side by
+side: each entry leads to what it comes from, and what is given up is grey, with its reason. With --sheet both have to be field sheets.
 ";
 
 const CATALOGUE: &str = "\

@@ -10,6 +10,7 @@ mod folds;
 mod hierarchy;
 mod index;
 mod kept;
+mod narrowest;
 mod readback;
 mod shown;
 mod specimen;
@@ -36,6 +37,7 @@ pub use fitting::{fitting, Fitting};
 pub use hierarchy::hierarchy;
 pub use index::{index, Row};
 pub use kept::{kept, Kept};
+pub use narrowest::{narrowest, Joined, Lead};
 pub use shown::{shown, text as shown_text, Shown};
 
 /// What a page of a comparison is made of.

@@ -20,6 +20,7 @@ mod keep;
 mod lost;
 mod missing;
 mod mistakes;
+mod narrowest;
 mod owl;
 mod pairs;
 mod readback;
