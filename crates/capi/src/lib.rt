@@ -179,13 +179,7 @@ pub extern "C" fn gx_compare_with(
 // Writes the narrowest description that contains two, a, input 1, and b, input 2, from the start of the output: its number of entries, or the
 // refusal.
 #[unsafe(no_mangle)]
-pub extern "C" fn gx_narrowest(
-    pairs: &[u8],
-    dict: &[u8],
-    a: &[u8],
-    b: &[u8],
-    out: &mut [u8],
-) -> u64
+pub extern "C" fn gx_narrowest(pairs: &[u8], dict: &[u8], a: &[u8], b: &[u8], out: &mut [u8]) -> u64
     ensures answer { (result ≡ pack_reading (narrowest_named pairs.now dict.now a.now b.now out.old))
         × (out.new ≡ narrowed_named pairs.now dict.now a.now b.now out.old) }
     ensures refuses { RefusedExactly (narrowest_named pairs.now dict.now a.now b.now out.old) (NarrowestRefused pairs.now dict.now a.now b.now out.old) }
