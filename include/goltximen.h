@@ -117,25 +117,27 @@
  *
  * Stack. The most that each call took of the caller's stack, on the inputs that lead furthest down (`make stack` measures it):
  *
- *     gx_read_description     2,232 bytes
- *     gx_read_specimen       26,568 bytes
- *     gx_read_sheet           1,176 bytes
- *     gx_fit                 50,248 bytes
- *     gx_fit_counted         50,200 bytes
- *     gx_normal              58,712 bytes
- *     gx_compare             64,184 bytes
- *     gx_unfold              33,360 bytes
- *     gx_fit_with            59,608 bytes
- *     gx_normal_with         68,024 bytes
- *     gx_compare_with        81,768 bytes
- *     gx_narrowest          100,616 bytes
- *     gx_catalogue           78,736 bytes
- *     gx_hierarchy           34,552 bytes
- *     gx_earning             55,160 bytes
- *     gx_fit_all             58,568 bytes
- *     gx_to_stored           14,488 bytes
- *     gx_from_stored          8,264 bytes
- *     gx_desk_write           9,280 bytes
+ *     gx_read_description      2,232 bytes
+ *     gx_read_specimen        26,568 bytes
+ *     gx_read_sheet            1,176 bytes
+ *     gx_fit                  59,544 bytes
+ *     gx_fit_counted          50,200 bytes
+ *     gx_normal               74,904 bytes
+ *     gx_compare              80,392 bytes
+ *     gx_unfold               33,360 bytes
+ *     gx_fit_with             68,904 bytes
+ *     gx_normal_with          84,216 bytes
+ *     gx_compare_with         97,976 bytes
+ *     gx_narrowest           100,616 bytes
+ *     gx_catalogue            95,232 bytes
+ *     gx_hierarchy            50,840 bytes
+ *     gx_earning              71,576 bytes
+ *     gx_failing              46,680 bytes
+ *     gx_missing             104,728 bytes
+ *     gx_fit_all              66,712 bytes
+ *     gx_to_stored            22,600 bytes
+ *     gx_from_stored           8,264 bytes
+ *     gx_desk_write            9,280 bytes
  *     other desk calls        1,296 bytes
  *
  * The library calls memset, memcpy and memmove; a program that binds them at their first call took up to 1,072 bytes more there. A
