@@ -10,6 +10,8 @@ pub mod IndexLaws
 pub mod Partners
 -- Pairs as bits: how they gather along a chain, and what they say of properties.
 pub mod SidesLaws
+-- Whether a property has a partner that is held: one number of its chain, and a walk up to the first that has.
+pub mod BesideLaws
 -- The background of a list: lawful, which records keep it, and that of the empty list.
 pub mod Under
 -- Lists of pairs by examples.

@@ -31,14 +31,14 @@ module _ (P : List ℕ) where
     unfolding named_at other_of
     second-named = let e : 2 * (2 * i - 1) ≡ 4 * (i - 1) + 2 = omega arith in ap (word_at P) e
 
-    first-beside : beside_at P (2 * i - 1) ≡ other_of P i
+    pub first-beside : beside_at P (2 * i - 1) ≡ other_of P i
     unfolding beside_at
     first-beside =
         let odd : (2 * i - 1) % 2 ≡ 1 = omega arith in
         let e : 2 * i - 1 + 1 ≡ 2 * i = omega arith in
         rw (eq-eqb odd, e) second-named
 
-    second-beside : beside_at P (2 * i) ≡ one_of P i
+    pub second-beside : beside_at P (2 * i) ≡ one_of P i
     unfolding beside_at
     second-beside =
         let even : 2 * i % 2 ≡ 0 = omega arith in

@@ -1,11 +1,11 @@
 // The properties that exclude each other, by an index of the list of pairs: those beside a property in the list are found by walking along
 // the chain of its bucket, so that a property that no pair has costs one look.
-ghost use Rattle.std.specs.Prelude.{◌≡◌, ◌+◌, ◌*◌, ◌<◌, ◌≤◌, length, take, eqb, get_or, true, [], List, ◌≢◌, replicate, unwrap_or, IfSome};
+ghost use Rattle.std.specs.Prelude.{◌≡◌, Bool, ℕ, ◌+◌, ◌*◌, ◌<◌, ◌≤◌, length, take, eqb, get_or, true, [], List, ◌≢◌, replicate, unwrap_or, IfSome};
 ghost use Rattle.std.proofs.Props.{props};
 ghost use Rattle.base.specs.Chain.{OnChain};
 ghost use Rattle.pairs.specs.Pairs.{pair_count};
 ghost use Rattle.pairs.specs.code.Sides.{Marks};
-ghost use Rattle.pairs.specs.code.Index.{PairsIndexed, beside_at, bucket_of, indexed_to, named_at, named_count, partners};
+ghost use Rattle.pairs.specs.code.Index.{PairsIndexed, beside_at, bucket_of, indexed_to, named_at, named_count, partnered, partners};
 ghost use Rattle.std.specs.Iterator.{YieldsFirstBy, item_count};
 
 use crate::index::{INDEX_BYTES, bucket, index_pairs, number_beside};
@@ -92,6 +92,22 @@ impl<'a> Exclusions<'a> {
             next = self.link(256 + usize::from(k));
         }
         sides
+    }
+
+    /// Whether a pair has a property on one side, and on the other one of those whose pairs these are: it goes along the chain of the
+    /// property's bucket, at most 128 numbers, up to the first such pair.
+    pub fn excluded_beside(self, held: Sides, p: Property) -> bool
+        ensures { (has : ℕ → Bool) → Marks self.entry.pairs.now has held → result ≡ partnered self.entry.pairs.now has p.0 (named_count self.entry.pairs.now) }
+    {
+        let mut next = self.link(bucket(p));
+        // It follows links, and counts nothing.
+        while let Some(k) = next {
+            if named_at(self.pairs, usize::from(k)) == p && held.has_beside(k) {
+                return true;
+            }
+            next = self.link(256 + usize::from(k));
+        }
+        false
     }
 
     // The property beside that of number k, with which it makes a pair.

@@ -1,9 +1,10 @@
 // Pairs as bits: of some properties, the pairs whose first is one of them, and those whose second is. A pair that a list repeats is one
 // bit more and no further look, and whether one of them excludes a property is told by two words.
-ghost use Rattle.std.specs.Prelude.{◌≡◌, ◌+◌, ◌*◌, ◌≤◌, ℕ, eqb};
+ghost use Rattle.std.specs.Prelude.{◌≡◌, ◌+◌, ◌*◌, ◌≤◌, Bool, List, ℕ, eqb};
 ghost use Rattle.std.specs.Int.{bit_at};
 ghost use Rattle.base.specs.Range.{bit};
-ghost use Rattle.pairs.specs.code.Sides.{excluding, joined, no_sides};
+ghost use Rattle.pairs.specs.code.Index.{beside_at, named_count};
+ghost use Rattle.pairs.specs.code.Sides.{Marks, excluding, joined, no_sides};
 
 /// Of at most 64 pairs, those whose first property is one of some, and those whose second is: bit i − 1 of each word for pair i.
 #[derive(Clone, Copy)]
@@ -39,6 +40,15 @@ impl Sides {
         ensures { result ≡ excluding self other }
     {
         (self.first & other.second) | (self.second & other.first) != 0
+    }
+
+    // Whether a pair has the property of number k on one side, and on the other one of these. The first of a pair is the odd one.
+    pub(crate) fn has_beside(self, k: u8) -> bool
+        requires { (1 ≤ k) × (k ≤ 128) }
+        ensures { (P : List ℕ) → (has : ℕ → Bool) → Marks P has self → k ≤ named_count P → result ≡ has (beside_at P k) }
+    {
+        let side = if k % 2 == 1 { self.second } else { self.first };
+        (side >> ((k - 1) / 2)) % 2 == 1
     }
 
     // The property of number k alone. The first of a pair is the odd one.

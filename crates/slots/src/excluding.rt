@@ -34,9 +34,6 @@ impl Marked<'_> {
     pub(crate) fn excluded(self, place: u64, p: Property) -> bool
         ensures { (ss : List Slot) → MarkedIn ss self.entry → result ≡ excluded_at (under self.entry.exclusions.pairs.now) ss place p.0 }
     {
-        if self.exclusions.none_with(p) {
-            return false;
-        }
-        self.at(place).excludes(self.exclusions.sides(p))
+        self.exclusions.excluded_beside(self.at(place), p)
     }
 }
