@@ -4,6 +4,8 @@
 pub mod KeepLaws
 -- Leaving out one by one: each number is kept exactly if, at its turn, what is left without it does not pass.
 pub mod Turns
+-- Where each question is answered by a number of the set: what is left is found in one walk.
+pub mod Answered
 -- What any set may lose may be lost before leaving out begins.
 pub mod OnlySet
 -- A description with entries that say nothing in place of some.

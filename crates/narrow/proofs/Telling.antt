@@ -9,6 +9,8 @@ pub mod Peaceful
 pub mod EntriesTold
 -- A description of which no two entries clash, with entries that say nothing in place of some.
 pub mod ThinnedTold
+-- Where no two entries of C clash, what earns the yes is found in one walk, by the first tellers of the entries of D.
+pub mod EarnedTold
 -- Where no two entries of C and D clash, what is marked is found entry by entry.
 pub mod MissingTold
 -- Slots of which no place is inconsistent: no two atoms whose bounds they keep to clash.

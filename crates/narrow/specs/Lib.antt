@@ -17,6 +17,8 @@ pub mod Missing
 pub mod Heard
 -- What one entry says by itself, at a path.
 pub mod Told
+-- Which entries of a first description say one of a second, and a set that says all, made in one walk.
+pub mod Tellers
 -- The bounds that slots give a key.
 pub mod Bounds
 -- Mirrors of the code: the contracts of its functions cite these, and no promise does.

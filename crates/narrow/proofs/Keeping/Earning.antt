@@ -119,7 +119,7 @@ module _ {b : Background} (law : LawfulBackground b) (c d : List Entry) (C : Leg
       (suffices-subsumed M).1 (λ r kept x i g. (suffices-subsumed K).0 e r kept x i (thinner-subsumed {b = b} K M c C h r kept x i g))
 
   -- C itself
-  all-sayers : failing b c d ≡ 0 → P (sayers c) ≡ true
+  pub all-sayers : failing b c d ≡ 0 → P (sayers c) ≡ true
   all-sayers e =
       (suffices-subsumed (sayers c)).1
       (λ r kept x i h. (contained-all law c d D).0 e r kept x i
