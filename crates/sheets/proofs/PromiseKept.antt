@@ -1,17 +1,19 @@
 -- What is promised of reading a sheet: refused exactly by the first line that applies; accepted exactly where it is as a description and each entry is in the profile;
 -- any refusal but 19 is that of the description; and 19 exactly at the lowest entry outside the profile.
 -- Assumes nothing.
-use Rattle.std.proofs.Common.{◌≡◌, ◌≢◌, ◌↔◌, ℕ, List, length, Ok, sym, refl, ◌∙◌, arith}
+use Rattle.std.proofs.Common.{◌≡◌, ◌≢◌, ◌↔◌, ◌-◌, ◌≤◌, ℕ, suc, List, length, Ok, subst, sym, refl, ◌∙◌, arith}
 use Rattle.base.proofs.Missing.{not-true}
 use Rattle.base.proofs.Tests.{bool_cases, both_ways}
 use Rattle.blocks.proofs.Refusing.FirstFault.{clean-none, first-append, first_found, found_first, none-clean}
 use Rattle.blocks.proofs.Refusing.Readings.{accepted-finding, refused-finding}
+use Rattle.blocks.proofs.Refusing.RowLaws.{none-split}
+use Rattle.blocks.proofs.RoundTrip.Accepting.{none-of-accepted}
 use Rattle.blocks.proofs.RoundTrip.RefusalNumbers.{description-number}
 use Rattle.blocks.specs.Entries.{entries_of, form_ok, nth}
-use Rattle.blocks.specs.Faults.{Clean, Fault, Faulty, entry_faults, entry_rows, faults, first}
-use Rattle.blocks.specs.Frame.{plain, total_in}
+use Rattle.blocks.specs.Faults.{Clean, Fault, Faulty, block_faults, entry_faults, entry_rows, faults, first, rows_from}
+use Rattle.blocks.specs.Frame.{blocks_in, plain, total_in}
 use Rattle.blocks.specs.Owners.{depth_ok, owner_ok}
-use Rattle.blocks.specs.Promise.{FirstOf}
+use Rattle.blocks.specs.Promise.{FirstOf, NoneApplies}
 use Rattle.blocks.specs.Reading.{reading_of}
 use Rattle.blocks.specs.Refusals.{refused}
 use Rattle.blocks.specs.declared.Cause.{Cause}
@@ -19,7 +21,7 @@ use Rattle.blocks.specs.declared.Cause.TheVariants.{Depth, Form, Owner, Profile}
 use Rattle.blocks.specs.declared.Entry.{Entry}
 use Rattle.blocks.specs.declared.Schema.TheVariants.{Description}
 use Rattle.narrow.proofs.Sheets.FurtherRow.{Further, found-outside, nothing-exactly, others-same, outside-found, with_all, without}
-use Rattle.narrow.specs.Profile.{Sheet}
+use Rattle.narrow.specs.Profile.{InProfile, Sheet}
 use Rattle.reading.proofs.BlocksRead.{plain_faults}
 use Rattle.sheets.proofs.Profiles.{profile-test, test-profile}
 use Rattle.sheets.specs.Promise.{LowestOutside, SheetRead}
@@ -128,3 +130,26 @@ module _ (s : List ℕ) where
 
   pub sheet-read : SheetRead s
   sheet-read = record { first = first-line; accepted = sheet-exactly; others = other-than-nineteen; outside = nineteen-found }
+
+  -- what is accepted as a description, and whose first entry is in no sheet, is refused by that entry
+  pub outside-first : {n : ℕ} → reading_of Description 1 s ≡ Ok n → 1 ≤ length es → (InProfile es 1 → ⊥)
+      → sheet_reading s ≡ refused Profile 1 1
+  unfolding NoneApplies faults entry_faults rows_from
+  outside-first e some out =
+      let h = (none-of-accepted Description 1 s e).0 in
+      let r = none-split (block_faults plain s (blocks_in s) 0 (blocks_in s)) (entry_faults Description es 1 (length es)) h.1 in
+      let m : length es ≡ suc (length es - 1) = omega arith in
+      let rows = subst (λ (k : ℕ). NoneApplies (rows_from R 1 k)) m r.1 in
+      (nineteen-found 1 1).1 (
+        refl,
+        record {
+          low = omega arith;
+          high = some;
+          outside = out;
+          before = λ j a b. absurd (omega arith);
+          blocks = (h.0, r.0);
+          entries = λ j a b.
+              let i : j ≡ 1 = omega arith in
+              rw i (none-split (R 1) (rows_from R 2 (length es - 1)) rows).0;
+        },
+      )
