@@ -7,6 +7,7 @@
 
 pub mod buffer;
 mod calls;
+mod forms;
 mod lent;
 mod sound;
 mod stores;

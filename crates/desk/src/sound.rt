@@ -1,16 +1,17 @@
 // Whether counters and memory are a desk's, and a table of levels that then serves adding.
-ghost use Rattle.std.specs.Prelude.{◌≡◌, ◌+◌, ◌*◌, ◌≤◌, ◌<◌, length, map, true, get_or};
+ghost use Rattle.std.specs.Prelude.{◌≡◌, ◌+◌, ◌*◌, ◌≤◌, ◌<◌, [], length, map, true, get_or};
 ghost use Rattle.base.specs.Range.{all};
-ghost use Rattle.blocks.specs.Entries.{entry_from};
+ghost use Rattle.blocks.specs.Entries.{entry_from, form_ok};
 ghost use Rattle.blocks.specs.code.ReadingSteps.{Levels};
 ghost use Rattle.blocks.specs.declared.Schema.{Schema};
 ghost use Rattle.drafts.specs.Memory.{area, entries_at};
 ghost use Rattle.drafts.specs.Sound.{areas_ok, counters_ok, drafted, is_new, sound, stand_ok};
 
+use crate::forms::forms_ok;
 use blocks::sizes::ENTRY;
 use blocks::{Entry, Schema};
 use drafts::Desk;
-use reading::{entry_refusal, level_under, owner_level};
+use reading::{level_under, owner_level};
 
 // The most entries that a desk holds, the bytes of an area, and those of all five.
 pub(crate) const MOST: u16 = 1008;
@@ -63,9 +64,9 @@ fn counters_ok(desk: Desk) -> bool
     desk.count <= MOST && (desk.stands <= 4 && stands_ok(desk))
 }
 
-// Whether entries break none of 4, 5 and 6; if so, the table then has the level of each. Each is decoded once.
-fn rows_drafted(rows: &[[u8; 8]], level: &mut [u8; 1009]) -> bool
-    requires { length rows.now ≤ 1008 }
+// Whether entries of right forms break neither 5 nor 6; if so, the table then has the level of each.
+fn owners_ok(rows: &[[u8; 8]], level: &mut [u8; 1009]) -> bool
+    requires { (length rows.now ≤ 1008) × (all (λ k. form_ok Schema.Description (entry_from (get_or rows.now k []) 0)) 0 (length rows.now) ≡ true) }
     ensures tells { result ≡ drafted (map (λ b. entry_from b 0) rows.now) }
     ensures levels { result ≡ true → Levels Schema.Description (map (λ b. entry_from b 0) rows.now) level.new (length rows.now + 1) }
 {
@@ -73,12 +74,28 @@ fn rows_drafted(rows: &[[u8; 8]], level: &mut [u8; 1009]) -> bool
     for (before, bytes) in rows.iter().enumerate() {
         let e = Entry::from(bytes);
         let l = owner_level(&level[..before + 1], e.owner);
-        if entry_refusal(Schema::Description, e, l).is_some() {
+        if l == 0 {
+            return false;
+        }
+        if 33 < l {
             return false;
         }
         level[before + 1] = level_under(Schema::Description, e.kind, l);
     }
     true
+}
+
+// Whether entries break none of 4, 5 and 6; if so, the table then has the level of each. Forms are looked at apart from owners, since they are told
+// of several entries at a step, and owners of one after the other: both passes together take less than half of what one pass by entries took.
+fn rows_drafted(rows: &[[u8; 8]], level: &mut [u8; 1009]) -> bool
+    requires { length rows.now ≤ 1008 }
+    ensures tells { result ≡ drafted (map (λ b. entry_from b 0) rows.now) }
+    ensures levels { result ≡ true → Levels Schema.Description (map (λ b. entry_from b 0) rows.now) level.new (length rows.now + 1) }
+{
+    if !forms_ok(rows) {
+        return false;
+    }
+    owners_ok(rows, level)
 }
 
 // The same of so many entries that stand in memory from a byte on.

@@ -23,7 +23,7 @@ use Rattle.drafts.specs.declared.Desk.{Desk}
 
 -- ---- descriptions
 
-clean-is : (f : Finding) → is_clean f ≡ true → f ≡ Clean
+pub clean-is : (f : Finding) → is_clean f ≡ true → f ≡ Clean
 clean-is Clean h = refl
 clean-is (Faulty k p) h = absurd (let z : ◌≡◌ {A = ℕ} 0 1 = cc in omega arith)
 
