@@ -30,11 +30,11 @@ fn placed(e: Entry, depth: u8) -> StoredEntry
 
 // Stores the rows of the place that entry `o` owns, whose entries have this depth, from index `at` on: where they end.
 // It calls itself for what an 'every' owns, which stands after it.
-fn store_place(places: Places, o: usize, depth: u8, rows: &mut [u64], at: usize) -> usize
-    requires { (o ≤ length (entries_of places.bytes.now)) × DeepAt (entries_of places.bytes.now) o depth
-        × (at + length (packed_walk (entries_of places.bytes.now) o depth) ≤ length rows.old) }
-    ensures { (result ≡ at + length (packed_walk (entries_of places.entry.bytes.now) o depth))
-        × (rows.new ≡ stored rows.old at (packed_walk (entries_of places.entry.bytes.now) o depth)) }
+fn store_place(places: &Places, o: usize, depth: u8, rows: &mut [u64], at: usize) -> usize
+    requires { (o ≤ length (entries_of places.now.bytes.now)) × DeepAt (entries_of places.now.bytes.now) o depth
+        × (at + length (packed_walk (entries_of places.now.bytes.now) o depth) ≤ length rows.old) }
+    ensures { (result ≡ at + length (packed_walk (entries_of places.now.bytes.now) o depth))
+        × (rows.new ≡ stored rows.old at (packed_walk (entries_of places.now.bytes.now) o depth)) }
 {
     let mut end = at;
     let mut next = places.begin(o);
@@ -58,7 +58,7 @@ fn store_in<const N: usize>(d: &[u8], out: &mut [u8]) -> Result<u16, Refusal>
     let mut tables = PlaceTables::<N>::new();
     let places = Places::read(d, 1, &mut tables)?;
     let mut rows = [0u64; N];
-    let total = store_place(places, 0, 0, &mut rows, 0);
+    let total = store_place(&places, 0, 0, &mut rows, 0);
     if write_stored(out, &rows, total) == 0 {
         return Err(Refusal {
             cause: Cause::Room,

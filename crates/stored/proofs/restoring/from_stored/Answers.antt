@@ -1,11 +1,7 @@
--- `from_stored` meets its contract: refused by the blocks or by an entry, too short, or written.
-use Rattle.std.proofs.Common.{◌∙◌, ℕ, arith}
-use lib.ListN.{length-map, length-replicate}
+-- `from_stored` meets its contract: refused by the blocks, or restored with a table that has room.
+use Rattle.std.proofs.Common.{◌∙◌, sym, arith}
 use Rattle.std.proofs.lemmas.Result.{err_from_is_err_and}
-use Rattle.blocks.specs.Entries.{packed}
-use Rattle.stored.proofs.AnswerLaws.{blocks-refused, blocks-there, entry-refuses, from-refused, from-short, from-written, length-restored, none-refuses, taken-stored}
-use Rattle.stored.specs.Stored.{stored_entries}
-use Rattle.stored.specs.Walking.{restored}
+use Rattle.stored.proofs.AnswerLaws.{blocks-refused, blocks-there, from-refused}
 use Rattle.stored.proofs.restoring.from_stored.Goals as goal
 
 pub returns-in_err-count : goal.returns-in_err-count
@@ -13,38 +9,13 @@ returns-in_err-count c =
     let p = err_from_is_err_and c.from_residual.result c.from_residual.ensures.1 in
     rw (p.1, p.2) (from-refused c.args.s.now c.args.out.now (blocks-refused c.args.s.now c.read_stored_blocks.ensures c.in_err-count.was))
 
-pub restore-requires : goal.restore-requires
-restore-requires c = rw c.from-total.ensures (blocks-there c.args.s.now c.read_stored_blocks.ensures c.in_ok-count.was)
+pub restore_in-requires : goal.restore_in-requires
+restore_in-requires c = (omega arith, omega (arith, c.if-count-le84.true), sym c.read_stored_blocks.ensures ∙ c.in_ok-count.was)
 
-pub returns-in_err-restore : goal.returns-in_err-restore
-returns-in_err-restore c =
-    let s = c.args.s.now in
-    let p = err_from_is_err_and c.from_residual-in_err-restore.result c.from_residual-in_err-restore.ensures.1 in
-    let t = c.from-total.ensures ∙ (blocks-there s c.read_stored_blocks.ensures c.in_ok-count.was).0 in
-    rw (p.1, p.2)
-    (from-refused s c.args.out.now (entry-refuses s c.read_stored_blocks.ensures c.in_ok-count.was (rw t at c.restore.ensures.refused) c.in_err-restore.was))
+pub restore_in-requires-then-count-le336 : goal.restore_in-requires-then-count-le336
+restore_in-requires-then-count-le336 c = (omega arith, omega (arith, c.if-count-le336.true), sym c.read_stored_blocks.ensures ∙ c.in_ok-count.was)
 
-pub returns-then-write_entries-eq0 : goal.returns-then-write_entries-eq0
-returns-then-write_entries-eq0 c =
-    let s = c.args.s.now in
-    let B = blocks-there s c.read_stored_blocks.ensures c.in_ok-count.was in
-    let t = c.from-total.ensures ∙ B.0 in
-    let r = none-refuses s c.read_stored_blocks.ensures c.in_ok-count.was (rw t at c.restore.ensures.refused) c.in_ok-restore.was in
-    let X = restored (stored_entries s) in
-    let long = length-replicate {A = ℕ} 1008 0 in
-    let T = taken-stored _ _ c.from-total.result c.in_ok-restore.ensures.given (omega (arith, t, length-map X packed, length-restored (stored_entries s))) (omega (arith, long, B.1, B.0, length-map X packed, length-restored (stored_entries s))) in
-    from-short s c.args.out.now c.restore.new.rows c.from-total.result _ r t (omega (arith, c.from-total.ensures, B.1)) (omega (arith, c.from-total.ensures, B.1, T.1, long)) c.write_entries.ensures.0 c.write_entries.ensures.1
-    c.if-write_entries-eq0.true
-
-pub returns : goal.returns
-returns c =
-    let s = c.args.s.now in
-    let B = blocks-there s c.read_stored_blocks.ensures c.in_ok-count.was in
-    let t = c.from-total.ensures ∙ B.0 in
-    let r = none-refuses s c.read_stored_blocks.ensures c.in_ok-count.was (rw t at c.restore.ensures.refused) c.in_ok-restore.was in
-    let X = restored (stored_entries s) in
-    let long = length-replicate {A = ℕ} 1008 0 in
-    let T = taken-stored _ _ c.from-total.result c.in_ok-restore.ensures.given (omega (arith, t, length-map X packed, length-restored (stored_entries s))) (omega (arith, long, B.1, B.0, length-map X packed, length-restored (stored_entries s))) in
-    let w = from-written s c.args.out.now c.restore.new.rows c.from-total.result _ r t (omega (arith, c.from-total.ensures, B.1)) (omega (arith, c.from-total.ensures, B.1, T.1, long)) c.write_entries.ensures.0 c.write_entries.ensures.1
-    (record { small = λ k. omega (arith, c.type_inv.s k) }) T.0 c.if-write_entries-eq0.false in
-    rw c.from-total.ensures at w
+pub restore_in-requires-2 : goal.restore_in-requires-2
+restore_in-requires-2 c =
+    let B = blocks-there c.args.s.now c.read_stored_blocks.ensures c.in_ok-count.was in
+    (omega arith, omega (arith, B.1, B.0), sym c.read_stored_blocks.ensures ∙ c.in_ok-count.was)

@@ -18,51 +18,51 @@ use Rattle.stored.proofs.storing.+store_place.Goals as goal
 
 pub loop-next-init : goal.loop-next-init
 loop-next-init t c =
-    let es = entries_of c.args.places.bytes.now in
+    let es = entries_of c.args.places.now.bytes.now in
     let f = first-left es c.args.o c.begin-next.ensures in
     record { own = f.1; room = rw (← f.0) c.requires.2; ends = rw (← f.0) refl; rows = rw (← f.0) refl }
 
 pub bounds-rows-end : goal.bounds-rows-end
 bounds-rows-end t c =
-    let es = entries_of c.args.places.bytes.now in
+    let es = entries_of c.args.places.now.bytes.now in
     let i = c.loop-next.invariant in
     let N = subst (Next es c.args.o) c.in-Some.is i.own in
     let room = subst (λ (r : Option ℕ). c.loop-next.end + length (packed_left c.args.depth (left_from es c.args.o r)) ≤ length c.loop-next.rows) c.in-Some.is i.room in
-    let some = some-left es c.args.places.legal c.args.o c.args.depth c.in-Some.n N.0 N.1 N.2 {r = unless_zero (next_of es c.in-Some.n)} refl refl in
+    let some = some-left es c.args.places.now.legal c.args.o c.args.depth c.in-Some.n N.0 N.1 N.2 {r = unless_zero (next_of es c.in-Some.n)} refl refl in
     omega (arith, room, some)
 
 pub overflow_add-depth : goal.overflow_add-depth
 overflow_add-depth t c =
-    let es = entries_of c.args.places.bytes.now in
+    let es = entries_of c.args.places.now.bytes.now in
     let N = subst (Next es c.args.o) c.in-Some.is c.loop-next.invariant.own in
-    omega (arith, (deep-under es c.args.places.legal c.args.o c.args.depth c.in-Some.n c.requires.1 N.0 N.1 N.2).0)
+    omega (arith, (deep-under es c.args.places.now.legal c.args.o c.args.depth c.in-Some.n c.requires.1 N.0 N.1 N.2).0)
 
 pub store_place-end-requires : goal.store_place-end-requires
 store_place-end-requires t c =
-    let es = entries_of c.args.places.bytes.now in
+    let es = entries_of c.args.places.now.bytes.now in
     let i = c.loop-next.invariant in
     let n = c.in-Some.n in
     let N = subst (Next es c.args.o) c.in-Some.is i.own in
     let room = subst (λ (r : Option ℕ). c.loop-next.end + length (packed_left c.args.depth (left_from es c.args.o r)) ≤ length c.loop-next.rows) c.in-Some.is i.room in
-    let D = deep-under es c.args.places.legal c.args.o c.args.depth n c.requires.1 N.0 N.1 N.2 in
+    let D = deep-under es c.args.places.now.legal c.args.o c.args.depth n c.requires.1 N.0 N.1 N.2 in
     let k : (nth es n).kind ≡ 5 = sym (ap (λ (e : Entry). e.kind) c.entry-e.ensures) ∙ c.if-e-eq-EVERY.true in
-    let l = node-length es c.args.places.legal c.args.o c.args.depth n N.0 N.1 N.2 {r = unless_zero (next_of es n)} refl refl c.args.rows.now c.loop-next.end k in
-    (omega (arith, c.decreases, owner-earlier c.args.places.legal n N.0 N.1, N.2, N.1), (N.1, D.1, omega (arith, room, l, length-set c.loop-next.rows c.loop-next.end c.pack_stored.result)))
+    let l = node-length es c.args.places.now.legal c.args.o c.args.depth n N.0 N.1 N.2 {r = unless_zero (next_of es n)} refl refl c.args.rows.now c.loop-next.end k in
+    (omega (arith, c.decreases, owner-earlier c.args.places.now.legal n N.0 N.1, N.2, N.1), (N.1, D.1, omega (arith, room, l, length-set c.loop-next.rows c.loop-next.end c.pack_stored.result)))
 
 pub loop-next-smaller : goal.loop-next-smaller
 loop-next-smaller t c =
-    let es = entries_of c.args.places.bytes.now in
+    let es = entries_of c.args.places.now.bytes.now in
     let n = c.in-Some.n in
     let N = subst (Next es c.args.o) c.in-Some.is c.loop-next.invariant.own in
     subst (λ (r : Option ℕ). nodes (left_from es c.args.o c.after-next.result) < nodes (left_from es c.args.o r)) (sym c.in-Some.is)
     (eq-cases (nth es n).kind 5
-    (λ k. node-fewer es c.args.places.legal c.args.o c.args.depth n N.0 N.1 N.2 c.after-next.ensures refl k)
-    (λ k. leaf-fewer es c.args.places.legal c.args.o c.args.depth n N.0 N.1 N.2 c.after-next.ensures refl k))
+    (λ k. node-fewer es c.args.places.now.legal c.args.o c.args.depth n N.0 N.1 N.2 c.after-next.ensures refl k)
+    (λ k. leaf-fewer es c.args.places.now.legal c.args.o c.args.depth n N.0 N.1 N.2 c.after-next.ensures refl k))
 
 pub loop-next-preserved : goal.loop-next-preserved
 loop-next-preserved t c =
-    let es = entries_of c.args.places.bytes.now in
-    let L = c.args.places.legal in
+    let es = entries_of c.args.places.now.bytes.now in
+    let L = c.args.places.now.legal in
     let o = c.args.o in
     let d = c.args.depth in
     let i = c.loop-next.invariant in
@@ -101,7 +101,7 @@ loop-next-preserved t c =
 pub returns : goal.returns
 unfolding walked
 returns t c =
-    let es = entries_of c.args.places.bytes.now in
+    let es = entries_of c.args.places.now.bytes.now in
     let i = c.loop-next.invariant in
     let ends = ap (λ (r : Option ℕ). c.loop-next.end + length (packed_left c.args.depth (left_from es c.args.o r))) (sym c.in_default.is) ∙ i.ends in
     let rows = ap (λ (r : Option ℕ). stored c.loop-next.rows c.loop-next.end (packed_left c.args.depth (left_from es c.args.o r))) (sym c.in_default.is) ∙ i.rows in

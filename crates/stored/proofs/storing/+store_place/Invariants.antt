@@ -10,7 +10,7 @@ use Rattle.stored.specs.code.Steps.{packed_walk}
 use Rattle.stored.proofs.storing.+store_place.Given as goal
 
 abbrev pub decreases-store_place : goal.decreases-store_place
-decreases-store_place l = length (entries_of l.places.bytes.now) - l.o
+decreases-store_place l = length (entries_of l.places.now.bytes.now) - l.o
 
 abbrev pub invariant-loop-next : goal.invariant-loop-next
 invariant-loop-next l =
