@@ -1,10 +1,10 @@
 -- The form of an entry by its words, and what forms say of a whole draft.
-use Rattle.std.proofs.Common.{◌≡◌, ◌≢◌, ℕ, ◌+◌, ◌*◌, ◌/◌, ◌<◌, ◌≤◌, Bool, true, false, not, cond, ◌&&◌, ◌||◌, eqb, leb, ltb, List, [], get_or, length, take, drop, drop-drop, below_more, Some, None, refl, sym, ◌∙◌, ap, ap₂, arith}
+use Rattle.std.proofs.Common.{◌≡◌, ◌≢◌, ℕ, ◌+◌, ◌*◌, ◌/◌, ◌<◌, ◌≤◌, Bool, true, false, not, cond, ◌&&◌, ◌||◌, eqb, leb, ltb, List, [], get_or, length, take, drop, below_more, Some, None, refl, sym, ◌∙◌, ap, ◌%◌, arith}
 use Rattle.std.proofs.lemmas.List.{get_or-drop, get_or-take}
 use Rattle.std.specs.Simd.{first_chunks}
 use lib.ListN.{length-map}
 use Rattle.base.proofs.RangeLaws.{all-at, all_of}
-use Rattle.base.proofs.Tests.{and_zero, bool_cases, both_ways, eq-cases, eq-eqb, false_of_not, ge-ltb, gt-leb, lt-cases, lt-ltb, ne_eqb, neither_left, neither_right, or_cases, true_of_not}
+use Rattle.base.proofs.Tests.{and_zero, bool_cases, both_ways, eq-cases, eq-eqb, false_of_not, ge-ltb, gt-leb, iff-eq, lt-cases, lt-ltb, ne_eqb, neither_left, neither_right, or_cases, tests, true_of_not}
 use Rattle.base.specs.Range.{all}
 use Rattle.blocks.proofs.Refusing.FirstFault.{clean-none}
 use Rattle.blocks.proofs.Refusing.Legal.{none-legal}
@@ -66,34 +66,60 @@ module _ (e : Entry) where
       (λ z. let k : sort ≡ e.kind = omega (arith, s, z) in rw k (low-form z))
       (λ z. high-form sort (omega (arith, s, z)) z)
 
--- ---- the words of 8 bytes
+-- ---- the halves of 8 bytes
 
-word-drop : (xs : List ℕ) (n : ℕ) → word_at (take 2 (drop n xs)) 0 ≡ word_at xs n
-unfolding word_at
-word-drop xs n =
-    let at_xs = λ (a b : ℕ) (e : a ≡ b). ap (λ (i : ℕ). get_or xs i 0) e in
-    let low = get_or-take 2 (drop n xs) 0 0 (omega arith) ∙ get_or-drop n xs 0 0 ∙ at_xs (n + 0) n (omega arith) in
-    let high = get_or-take 2 (drop n xs) 1 0 (omega arith) ∙ get_or-drop n xs 1 0 in
-    ap₂ (λ (a b : ℕ). a + 256 * b) low high
+-- the same test of words that are moved above 16 zero bits, as the code has it
+abbrev pub halves_ok : ℕ → ℕ → ℕ → Bool
+halves_ok sort name tail =
+    (ltb 0 sort && leb sort 393216)
+    && (((not (eqb sort 393216) || eqb name 0) && (eqb sort 393216 || not (eqb name 0))) && (eqb sort 196608 || (eqb sort 262144 || ltb tail 65536)))
 
-drop-four : (xs : List ℕ) → drop 2 (drop 2 xs) ≡ drop 4 xs
-drop-four xs = drop-drop 2 2 xs
+halves-by : {sort name tail : ℕ} (s n m : ℕ) → sort ≡ 65536 * s → name ≡ 65536 * n → tail ≡ n + 65536 * m → n < 65536
+    → halves_ok sort name tail ≡ words_ok s n m
+halves-by {sort} {name} {tail} s n m e f g h =
+    let some : ltb 0 sort ≡ ltb 0 s = iff-eq (λ q. omega (tests, e, q)) (λ q. omega (tests, e, q)) in
+    let few : leb sort 393216 ≡ leb s 6 = iff-eq (λ q. omega (tests, e, q)) (λ q. omega (tests, e, q)) in
+    let six : eqb sort 393216 ≡ eqb s 6 = iff-eq (λ q. omega (tests, e, q)) (λ q. omega (tests, e, q)) in
+    let three : eqb sort 196608 ≡ eqb s 3 = iff-eq (λ q. omega (tests, e, q)) (λ q. omega (tests, e, q)) in
+    let four : eqb sort 262144 ≡ eqb s 4 = iff-eq (λ q. omega (tests, e, q)) (λ q. omega (tests, e, q)) in
+    let none : eqb name 0 ≡ eqb n 0 = iff-eq (λ q. omega (tests, f, q)) (λ q. omega (tests, f, q)) in
+    let zero : ltb tail 65536 ≡ eqb m 0 = iff-eq (λ q. omega (tests, g, h, q)) (λ q. omega (tests, g, h, q)) in
+    rw (some, few, six, three, four, none, zero)
 
-drop-six : (xs : List ℕ) → drop 2 (drop 2 (drop 2 xs)) ≡ drop 6 xs
-drop-six xs = drop-four (drop 2 xs) ∙ drop-drop 4 2 xs
+byte-in : (xs : List ℕ) (n i : ℕ) → i < 4 → get_or (take 4 (drop n xs)) i 0 ≡ get_or xs (n + i) 0
+byte-in xs n i h = get_or-take 4 (drop n xs) i 0 h ∙ get_or-drop n xs i 0
 
-module _ (xs : List ℕ) (eight : length xs ≡ 8) {ws : List (List ℕ)} (w : ws ≡ first_chunks 2 (length xs / 2) xs) where
-  four : ws ≡ first_chunks 2 4 xs
-  four = let h : length xs / 2 ≡ 4 = omega (arith, eight) in w ∙ ap (λ (n : ℕ). first_chunks 2 n xs) h
+-- four bytes as a number, low byte first
+abbrev pub half_of : List ℕ → ℕ
+half_of b = get_or b 0 0 + 256 * get_or b 1 0 + 65536 * get_or b 2 0 + 16777216 * get_or b 3 0
 
-  pub form-by-words : {sort name number : ℕ} → get_or xs 0 0 < 256 → sort ≡ word_at (get_or ws 0 []) 0 → name ≡ word_at (get_or ws 2 []) 0
-      → number ≡ word_at (get_or ws 3 []) 0 → words_ok sort name number ≡ form_ok Description (entry_from xs 0)
+module _ (xs : List ℕ) (eight : length xs ≡ 8) (small : (i : ℕ) → get_or xs i 0 < 256) {hs : List (List ℕ)} (w : hs ≡ first_chunks 4 (length xs / 4) xs) where
+  two : hs ≡ first_chunks 4 2 xs
+  two = let h : length xs / 4 ≡ 2 = omega (arith, eight) in w ∙ ap (λ (n : ℕ). first_chunks 4 n xs) h
+
+  head-is : half_of (get_or hs 0 []) ≡ get_or xs 0 0 + 256 * get_or xs 1 0 + 65536 * get_or xs 2 0 + 16777216 * get_or xs 3 0
+  head-is = rw two (rw (byte-in xs 0 0 (omega arith), byte-in xs 0 1 (omega arith), byte-in xs 0 2 (omega arith), byte-in xs 0 3 (omega arith)))
+
+  tail-is : half_of (get_or hs 1 []) ≡ get_or xs 4 0 + 256 * get_or xs 5 0 + 65536 * get_or xs 6 0 + 16777216 * get_or xs 7 0
+  tail-is = rw two (rw (byte-in xs 4 0 (omega arith), byte-in xs 4 1 (omega arith), byte-in xs 4 2 (omega arith), byte-in xs 4 3 (omega arith)))
+
+  pub form-by-halves : {head tail sort name : ℕ} → head ≡ half_of (get_or hs 0 []) → tail ≡ half_of (get_or hs 1 [])
+      → sort ≡ head * 65536 % 4294967296 → name ≡ tail * 65536 % 4294967296 → halves_ok sort name tail ≡ form_ok Description (entry_from xs 0)
   unfolding entry_from word_at
-  form-by-words {sort} {name} {number} small s n m =
-      let s' : sort ≡ word_at xs 0 = s ∙ ap (λ (y : List (List ℕ)). word_at (get_or y 0 []) 0) four ∙ word-drop xs 0 in
-      let n' : name ≡ word_at xs 4 = n ∙ ap (λ (y : List (List ℕ)). word_at (get_or y 2 []) 0) four ∙ ap (λ (y : List ℕ). word_at (take 2 y) 0) (drop-four xs) ∙ word-drop xs 4 in
-      let m' : number ≡ word_at xs 6 = m ∙ ap (λ (y : List (List ℕ)). word_at (get_or y 3 []) 0) four ∙ ap (λ (y : List ℕ). word_at (take 2 y) 0) (drop-six xs) ∙ word-drop xs 6 in
-      ap₂ (words_ok sort) n' m' ∙ form-by (entry_from xs 0) sort small s'
+  form-by-halves {head} {tail} {sort} {name} h t s n =
+      let kind : ℕ = get_or xs 0 0 + 256 * get_or xs 1 0 in
+      let named : ℕ = get_or xs 4 0 + 256 * get_or xs 5 0 in
+      let number : ℕ = get_or xs 6 0 + 256 * get_or xs 7 0 in
+      let b0 = small 0 in
+      let b1 = small 1 in
+      let b4 = small 4 in
+      let b5 = small 5 in
+      let h' = h ∙ head-is in
+      let t' = t ∙ tail-is in
+      let p : sort ≡ 65536 * (get_or xs 0 0 + 256 * get_or xs 1 0) = omega (arith, s, h', b0, b1) in
+      let q : name ≡ 65536 * (get_or xs 4 0 + 256 * get_or xs 5 0) = omega (arith, n, t', b4, b5) in
+      let r : tail ≡ get_or xs 4 0 + 256 * get_or xs 5 0 + 65536 * (get_or xs 6 0 + 256 * get_or xs 7 0) = omega (arith, t') in
+      halves-by kind named number p q r (omega (arith, b4, b5)) ∙ form-by (entry_from xs 0) kind b0 refl
 
 -- ---- all forms
 

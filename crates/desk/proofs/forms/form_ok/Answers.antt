@@ -1,14 +1,11 @@
 -- `form_ok` meets its contract.
-use Rattle.std.proofs.Common.{◌≡◌, [], get_or, arith}
-use Rattle.blocks.specs.Words.{word_at}
-use Rattle.desk.proofs.forms.FormLaws.{form-by-words}
+use Rattle.std.proofs.Common.{◌≡◌, [], get_or, refl, arith}
+use Rattle.desk.proofs.forms.FormLaws.{form-by-halves, half_of}
 use Rattle.desk.proofs.forms.form_ok.Goals as goal
 
 pub returns : goal.returns
-unfolding word_at
 returns c =
-    let ws = c.as_chunks.result.0.now in
-    let s : c.from_le_bytes-sort.result ≡ word_at (get_or ws 0 []) 0 = omega (arith, c.from_le_bytes-sort.ensures) in
-    let n : c.from_le_bytes-name.result ≡ word_at (get_or ws 2 []) 0 = omega (arith, c.from_le_bytes-name.ensures) in
-    let m : c.from_le_bytes-number.result ≡ word_at (get_or ws 3 []) 0 = omega (arith, c.from_le_bytes-number.ensures) in
-    form-by-words c.args.bytes.now c.told-bytes c.as_chunks.ensures.front (c.fits-bytes 0) s n m
+    let hs = c.as_chunks.result.0.now in
+    let h : c.from_le_bytes-head.result ≡ half_of (get_or hs 0 []) = omega (arith, c.from_le_bytes-head.ensures) in
+    let t : c.from_le_bytes-tail.result ≡ half_of (get_or hs 1 []) = omega (arith, c.from_le_bytes-tail.ensures) in
+    form-by-halves c.args.bytes.now c.told-bytes c.fits-bytes c.as_chunks.ensures.front h t refl refl
