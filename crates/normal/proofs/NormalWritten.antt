@@ -121,16 +121,16 @@ module _ {b : Background} (law : LawfulBackground b) {d : List ℕ} {used : ℕ}
   abbrev front : List ℕ
   front = take (used + 1) t
 
-  rows_are : table_rows front bad full ≡ write (nf b (place_of (entries_of d) 0))
-  rows_are = rows-normal law (front-settled S.slots-settled) entries-few
+  rows_are : table_rows front bad ≡ write (nf b (place_of (entries_of d) 0))
+  rows_are = rows-normal law (front-settled S.slots-settled)
 
   -- its rows are no more than its entries
-  standing-rows : length (table_rows front bad full) ≤ length (entries_of d)
+  standing-rows : length (table_rows front bad) ≤ length (entries_of d)
   standing-rows = rw rows_are (rows_few law d)
 
   -- and there is room for them, as for the slots
   module _ {last before order rows below : List ℕ} (R : Roomy d t bad full last before order rows below) where
-    pub standing-few : length (table_rows front bad full) ≤ length rows
+    pub standing-few : length (table_rows front bad) ≤ length rows
     standing-few = omega (arith, standing-rows, (none-of-accepted Description 1 d S.read).1, R.entries S.total S.read)
 
     pub standing-full : length front ≤ length full
@@ -150,12 +150,12 @@ module _ {b : Background} (law : LawfulBackground b) {d : List ℕ} {used : ℕ}
           belows = l.belows;
         }
 
-  module _ {w : ℕ} {rows : List ℕ} {r : ℕ} (P : Pushed w [] 0 (table_rows front bad full) rows r) where
+  module _ {w : ℕ} {rows : List ℕ} {r : ℕ} (P : Pushed w [] 0 (table_rows front bad) rows r) where
     pub rows-most : r ≤ 1008
-    rows-most = omega (arith, pushed-total (table_rows front bad full) P, standing-rows, entries-few)
+    rows-most = omega (arith, pushed-total (table_rows front bad) P, standing-rows, entries-few)
 
     pub rows-held : {last before order rows₀ below : List ℕ} → Roomy d t bad full last before order rows₀ below → r ≤ length rows₀
-    rows-held R = omega (arith, pushed-total (table_rows front bad full) P, standing-few R)
+    rows-held R = omega (arith, pushed-total (table_rows front bad) P, standing-few R)
 
     -- they are those of the normal form
     pub rows-stand : {P : List ℕ} → b ≡ under P → ListRead P → r ≤ w → length rows ≡ w → FormRows P d r rows

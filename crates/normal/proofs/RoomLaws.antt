@@ -19,7 +19,6 @@ use Rattle.normal.specs.code.Formed.{form_reading, form_under}
 use Rattle.pairs.specs.Pairs.{pairs_reading, under}
 use Rattle.normal.specs.code.Emitted.{Roomy}
 use Rattle.slots.proofs.FailingLaws.{accepted-few}
-use Rattle.slots.proofs.PassLaws.{blank-zeros}
 use Rattle.slots.specs.code.Standing.{room_in, slotting_of, slotting_under}
 use Rattle.slots.specs.code.Tables.{slots_of}
 
@@ -31,7 +30,6 @@ roomy-zeros d n m l e f one few h =
     let slots = length-replicate {A = ℕ} m 0 in
     let lasts = length-replicate {A = ℕ} l 0 in
     let same : length {A = ℕ} (replicate m 0) ≡ length {A = ℕ} (replicate n 0) + 1 = omega (arith, rows, slots, e) in
-    let blank = blank-zeros (length {A = ℕ} (replicate n 0)) m (omega (arith, rows, e)) in
     record {
       entries = λ k a. omega (arith, rows, h k a);
       slots-room = same;
@@ -44,7 +42,7 @@ roomy-zeros d n m l e f one few h =
         orders = omega arith;
         some-row = omega (arith, rows, one);
         few-rows = omega (arith, rows, few);
-        belows = blank;
+        belows = rw (e, rows) refl;
       };
     }
 

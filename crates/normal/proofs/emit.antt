@@ -1,6 +1,6 @@
 -- Laws of the code in src/emit.rt.
 
--- The rows that a walk writes, as plain lists put one after the other.
+-- A place that is written from its cells is its leaves and then its nodes, and its rows are theirs.
 pub mod EmitLaws
 -- Rows pushed onto the table of packed entries: none, one, some and then some, and all of them at last.
 pub mod PushLaws

@@ -1,8 +1,8 @@
 // The last two passes over settled slots, in tables that are lent.
 ghost use Rattle.std.specs.Prelude.{◌≡◌, [], ◌<◌, ◌≤◌, length};
 ghost use Rattle.slots.specs.code.TablePlaces.{used_in};
-ghost use Rattle.normal.specs.code.ClassRuns.{Runnable, place_cells};
-ghost use Rattle.normal.specs.code.Emitted.{Lent, Pushed, all_rows, keep_in, table_rows};
+ghost use Rattle.normal.specs.code.ClassRuns.{Runnable};
+ghost use Rattle.normal.specs.code.Emitted.{Grown, Lent, Pushed, all_rows, table_rows};
 
 use crate::settled::{Slots, Workspace};
 use crate::walk::write_rows;
@@ -13,9 +13,9 @@ use blocks::kinds;
 fn chained_rows(table: &[u64], full: &[u8], work: &mut Workspace) -> usize
     requires { Runnable table.now × (length table.now ≤ length full.now)
         × Lent (used_in table.now) work.old.last.now work.old.before.now work.old.order.now work.old.rows.now work.old.below.now
-        × (length (all_rows (keep_in full.now) (place_cells table.now (used_in table.now))) ≤ length work.old.rows.now) }
-    ensures { Pushed (length work.old.rows.now) [] 0 (all_rows (keep_in full.now) (place_cells table.now (used_in table.now)))
-        work.new.rows.now result × (work.new.rows.ghost_name ≡ work.old.rows.ghost_name) }
+        × Grown table.now full.now × (length (all_rows table.now) ≤ length work.old.rows.now) }
+    ensures { Pushed (length work.old.rows.now) [] 0 (all_rows table.now) work.new.rows.now result
+        × (work.new.rows.ghost_name ≡ work.old.rows.ghost_name) }
 {
     let last = &mut *work.last;
     let before = &mut *work.before;
@@ -37,8 +37,8 @@ fn chained_rows(table: &[u64], full: &[u8], work: &mut Workspace) -> usize
 pub(crate) fn normal_rows(table: &[u64], bad: &[u8], full: &[u8], work: &mut Workspace) -> usize
     requires { Runnable table.now × (0 < length bad.now) × (length table.now ≤ length full.now)
         × Lent (used_in table.now) work.old.last.now work.old.before.now work.old.order.now work.old.rows.now work.old.below.now
-        × (length (table_rows table.now bad.now full.now) ≤ length work.old.rows.now) }
-    ensures { Pushed (length work.old.rows.now) [] 0 (table_rows table.now bad.now full.now) work.new.rows.now result
+        × Grown table.now full.now × (length (table_rows table.now bad.now) ≤ length work.old.rows.now) }
+    ensures { Pushed (length work.old.rows.now) [] 0 (table_rows table.now bad.now) work.new.rows.now result
         × (work.new.rows.ghost_name ≡ work.old.rows.ghost_name) }
 {
     if bad[0] != 0 {

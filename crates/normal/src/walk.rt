@@ -1,8 +1,7 @@
 // The fourth pass, place by place: the top first, then the place of each 'every' entry in the order in which the entries stand.
-ghost use Rattle.std.specs.Prelude.{◌≢◌, [], ◌+◌, ◌≤◌, ◌<◌, length, get_or};
+ghost use Rattle.std.specs.Prelude.{◌≡◌, ◌≢◌, [], ◌+◌, ◌≤◌, ◌<◌, length, get_or, replicate};
 ghost use Rattle.slots.specs.code.TablePlaces.{used_in};
-ghost use Rattle.slots.specs.code.Tables.{Blank};
-ghost use Rattle.normal.specs.code.Emitted.{Stepped, all_rows, cells_of, kept_by, place_rows, Pushed};
+ghost use Rattle.normal.specs.code.Emitted.{Grown, Pushed, Stepped, all_rows, cells_of, kept_by, place_rows};
 
 use crate::emit::push_place;
 use crate::settled::Slots;
@@ -36,9 +35,9 @@ pub(crate) fn write_rows(
     rows: &mut [u64],
     below: &mut [u16],
 ) -> usize
-    requires { (used_in slots.now.table.now ≤ length order.old) × (length rows.old ≤ 1008) × Blank (length rows.old) below.old
-        × (length (all_rows (kept_by slots.now) (cells_of slots.now)) ≤ length rows.old) }
-    ensures { Pushed (length rows.old) [] 0 (all_rows (kept_by slots.now) (cells_of slots.now)) rows.new result }
+    requires { (used_in slots.now.table.now ≤ length order.old) × (length rows.old ≤ 1008) × (below.old ≡ replicate (length rows.old + 1) 0)
+        × Grown slots.now.table.now slots.now.full.now × (length (all_rows slots.now.table.now) ≤ length rows.old) }
+    ensures { Pushed (length rows.old) [] 0 (all_rows slots.now.table.now) rows.new result }
 {
     let mut count = push_place(0, 0, slots, order, rows, below, 0);
     // `while` and no `for`: the rows that are walked over grow in number on the way.

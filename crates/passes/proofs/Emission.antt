@@ -6,5 +6,3 @@ pub mod Exact
 pub mod SlotExamples
 -- The tags of a place among those of all slots are its cells.
 pub mod TagParts
--- The walk over the cells writes the rows of the places, one after the other.
-pub mod WalkRows

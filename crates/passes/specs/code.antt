@@ -4,7 +4,7 @@
 pub mod Slots
 -- The slots of a description under a background: a pass between the first and the second.
 pub mod Restrict
--- The fast normal form: the rows that the passes over the slots write.
+-- The cells of each place, as the passes over the slots sort and tag them.
 pub mod Pipeline
 -- The key of a slot as one number, where names are below 65,536.
 pub mod Keys

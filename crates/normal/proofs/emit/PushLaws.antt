@@ -27,14 +27,8 @@ use Rattle.passes.specs.code.Slots.{Cell, cell, is_link, same_class}
 pub within : {n a b : ℕ} → b ≡ a → n ≤ a → n ≤ b
 within e h = omega (arith, e, h)
 
-pub most-now : {n a b : ℕ} → a ≡ b → b ≤ n → a ≤ n
-most-now e h = omega (arith, e, h)
-
 pub less-now : {a b c d : ℕ} → a ≡ c → b ≡ d → c < d → a < b
 less-now e f h = omega (arith, e, f, h)
-
-pub pushed-as : {w v : ℕ} {a b L : List ℕ} {i j : ℕ} → w ≡ v → Filled w a i L b j → Filled v a i L b j
-pushed-as e p = record { size = p.size ∙ e; total = p.total; held = p.held }
 
 -- ---- rows after rows
 
@@ -60,9 +54,6 @@ pub pushing-more : {w : ℕ} {a b c : List ℕ} {i j k : ℕ} {whole rest rest' 
     → Pushing w a i whole b j rest → rest ≡ M ++ rest' → Pushed (length b) b j M c k → Pushing w a i whole c k rest'
 pushing-more M p e q =
     record { front = p.front ++ M; pushed = pushed_more p.front M p.pushed q; parts = p.parts ∙ rw (e, append_assoc) }
-
-pub pushing-same : {w : ℕ} {a b : List ℕ} {i j : ℕ} {whole rest rest' : List (Row Atom ℕ)} → Pushing w a i whole b j rest → rest ≡ rest' → Pushing w a i whole b j rest'
-pushing-same p e = record { front = p.front; pushed = p.pushed; parts = p.parts ∙ rw e }
 
 pub pushing-done : {w : ℕ} {a b : List ℕ} {i j : ℕ} {whole rest : List (Row Atom ℕ)} → Pushing w a i whole b j rest → rest ≡ [] → Pushed w a i whole b j
 pushing-done p e = rw (p.parts, e, append-nil p.front) p.pushed

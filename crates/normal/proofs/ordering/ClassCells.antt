@@ -1,5 +1,4 @@
--- The cells of a place, from its two runs, are those that its slots give, in order: so the rows that are written from them are those of the
--- normal form.
+-- The cells of a place, from its two runs, are those that its slots give, in order.
 -- Assumes nothing.
 use Prim.Native.Nat.{◌%◌, ◌*◌, ◌+◌, ◌/◌, ◌<◌, ◌≤◌, ℕ}
 use lib.Dec.{eqb, leb}
@@ -16,15 +15,13 @@ use Rattle.base.specs.Ascending.{AllAfter, Sorted}
 use Rattle.base.specs.Range.{bit}
 use Rattle.logic.proofs.PlaceTrees.Order.{before-eq, before-lt}
 use Rattle.logic.specs.Background.{Background, LawfulBackground}
-use Rattle.logic.specs.Layout.{write}
-use Rattle.logic.specs.Normal.{nf}
 use Rattle.logic.specs.Place.{Atom}
-use Rattle.logic.specs.Tree.{Row, tree}
+use Rattle.logic.specs.Tree.{Row}
 use Rattle.normal.proofs.ordering.TagLaws.{plain_tags, slot_of, slot_cell, slot_tag, tag-there, tags-table}
 use Rattle.normal.specs.code.ClassRuns.{cell_at, place_cells, run_cells}
-use Rattle.passes.proofs.Emission.Exact.{normal-any}
+use Rattle.passes.proofs.Emission.Exact.{arranged}
 use Rattle.passes.proofs.Emission.TagParts.{part-tag, tag-part, tags-cells}
-use Rattle.passes.specs.code.Pipeline.{before_cell, enough_for, rows_from, tag, tags}
+use Rattle.passes.specs.code.Pipeline.{before_cell, sorted_cells, tag, tags}
 use Rattle.passes.specs.code.Restrict.{slots_under}
 use Rattle.passes.specs.code.Slots.{Cell, cells, settled}
 use Rattle.runs.proofs.TagsListed.{lower_name, names-rise, tag-from, tag-listed, tag-name-is, tag-slot-is}
@@ -122,9 +119,9 @@ module _ (t : List ℕ) (used : ℕ) (few : used ≤ 1008) (apart : (i j : ℕ) 
         (λ q. Memᴰ.append_right (run_cells t used v false) (Memᴰ.cast (sym is) (slot-cell j v true N.from hi (omega (tests, q, place)))))
         (λ q. Memᴰ.append_left (run_cells t used v true) (Memᴰ.cast (sym is) (slot-cell j v false N.from hi (omega (tests, q, place)))))
 
-    -- the rows that the runs of all places give are those of the normal form
-    pub runs-normal : (f : ℕ) → enough_for rs ≤ f → rows_from (slots_under back rs) (place_cells t used) f ≡ write (nf back (tree 1 rs 0))
+    -- so they are the sorted ones
+    pub runs-arranged : place_cells t used ≡ sorted_cells (slots_under back rs)
     unfolding place_cells
-    runs-normal f i =
-        normal-any law rs (place_cells t used) place-sorted cell-run
-        (λ v c m. ⊎_elim (run-cell v false c) (run-cell v true c) (Memᴰ.append_cases (run_cells t used v false) m)) f i
+    runs-arranged =
+        arranged law rs (place_cells t used) place-sorted cell-run
+        (λ v c m. ⊎_elim (run-cell v false c) (run-cell v true c) (Memᴰ.append_cases (run_cells t used v false) m))

@@ -7,7 +7,8 @@ use Rattle.blocks.specs.Entries.{packed}
 use Rattle.blocks.specs.Reading.{reading_of}
 use Rattle.blocks.specs.declared.Schema.TheVariants.{Description}
 use Rattle.logic.specs.Filling.{Filled, Joined}
-use Rattle.logic.specs.Layout.{done, job}
+use Rattle.logic.specs.Layout.{write}
+use Rattle.logic.specs.Laying.{Joint, joint}
 use Rattle.logic.specs.Normal.{at_most}
 use Rattle.logic.specs.Place.{Atom, Kind, atom, has, lacks, least, most, nothing}
 use Rattle.logic.specs.Tree.{Row, leaf_row, node_row}
@@ -16,10 +17,9 @@ use Rattle.normal.specs.code.ClassRuns.{kind_cell, place_cells}
 use Rattle.normal.specs.declared.emit.AtomKind.{AtomKind}
 use Rattle.normal.specs.declared.emit.AtomKind.TheVariants as kinds
 use Rattle.normal.specs.declared.settled.Slots.{Slots}
-use Rattle.passes.specs.code.Pipeline.{walk}
+use Rattle.passes.specs.code.Forms.{kept, written}
 use Rattle.passes.specs.code.Slots.{Cell, cell, is_link, same_class, value}
-use Rattle.slots.specs.code.TablePlaces.{used_in}
-use Rattle.slots.specs.code.Tables.{Blank}
+use Rattle.slots.specs.code.TablePlaces.{place_in, used_in}
 
 -- ---- rows as entries
 
@@ -58,6 +58,26 @@ property_rows o q = kind_rows has o q ++ kind_rows lacks o q
 
 unfoldable pub bound_rows : ℕ → List Cell → List (Row Atom ℕ)
 bound_rows o q = kind_rows least o q ++ kind_rows most o q
+
+-- ---- a place by its leaves and nodes
+
+-- those of kind a
+abbrev pub atoms_if : Kind → ℕ → Option ℕ → List Atom
+atoms_if a n none = []
+atoms_if a n (some m) = atom a n m ∷ []
+
+unfoldable pub kind_atoms : Kind → List Cell → List Atom
+kind_atoms a [] = []
+kind_atoms a (cell j b n lo hi ∷ q) = cond (same_class b (is_link a)) (atoms_if a n (value a lo hi)) [] ++ kind_atoms a q
+
+-- all of its leaves
+unfoldable pub cell_atoms : List Cell → List Atom
+cell_atoms q = kind_atoms has q ++ (kind_atoms lacks q ++ (kind_atoms least q ++ kind_atoms most q))
+
+-- its nodes, each with the number of its slot
+unfoldable pub cell_joints : (ℕ → Bool → Option ℕ → Bool) → List Cell → List (Joint ℕ)
+cell_joints keep [] = []
+cell_joints keep (cell j b n lo hi ∷ q) = cond (keep j b hi) (joint n j ∷ cell_joints keep q) (cell_joints keep q)
 
 -- ---- the tables of the walk
 
@@ -105,10 +125,14 @@ tag_rows t a o x = rows_if a o (cell_name (kind_cell t a x)) (cell_value a (kind
 unfoldable pub place_rows : (ℕ → Bool → Option ℕ → Bool) → ℕ → List Cell → List (Row Atom ℕ)
 place_rows keep o q = atom_rows o q ++ every_rows keep o q
 
--- The rows of all places, from the top on, where S gives the cells of each place. There are at most 1,008 entries, so that 2,018
--- places are enough.
-unfoldable pub all_rows : (ℕ → Bool → Option ℕ → Bool) → (ℕ → List Cell) → List (Row Atom ℕ)
-all_rows keep S = walk keep S 2018 1 (job 0 0 done)
+-- the rows of all places of a table of slots, from the top on
+unfoldable pub all_rows : List ℕ → List (Row Atom ℕ)
+all_rows t = write (place_in t 0)
+
+-- each place of a table of slots is written from its cells, and `full` has which of them say something
+pub record Grown (t full : List ℕ) : Type 0 where
+  pub cells : (v : ℕ) → place_in t v ≡ written (place_in t) (place_cells t (used_in t) v)
+  pub keeps : keep_in full ≡ kept (place_in t)
 
 -- the rows are pushed onto a table of so many packed entries, which has `from` of them, and then has r
 abbrev pub Pushed : ℕ → List ℕ → ℕ → List (Row Atom ℕ) → List ℕ → ℕ → Type 0
@@ -137,7 +161,7 @@ pub record Lent (used : ℕ) (last before order rows below : List ℕ) : Type 0 
   pub orders : used ≤ length order
   pub some-row : 1 ≤ length rows
   pub few-rows : length rows ≤ 1008
-  pub belows : Blank (length rows) below
+  pub belows : below ≡ replicate (length rows + 1) 0
 
 -- All tables have room for an input: where it is accepted, its entries are no more than there are rows.
 pub record Roomy (d t bad full last before order rows below : List ℕ) : Type 0 where
@@ -148,5 +172,5 @@ pub record Roomy (d t bad full last before order rows below : List ℕ) : Type 0
   pub lent : Lent (length rows) last before order rows below
 
 -- the rows by the tables of settled slots: one entry of kind 6 where the top is impossible, else the rows of all places
-abbrev pub table_rows : List ℕ → List ℕ → List ℕ → List (Row Atom ℕ)
-table_rows t bad full = cond (eqb (get_or bad 0 0) 0) (all_rows (keep_in full) (place_cells t (used_in t))) (leaf_row 0 (atom nothing 0 0) ∷ [])
+abbrev pub table_rows : List ℕ → List ℕ → List (Row Atom ℕ)
+table_rows t bad = cond (eqb (get_or bad 0 0) 0) (all_rows t) (leaf_row 0 (atom nothing 0 0) ∷ [])

@@ -3,11 +3,14 @@
 use Rattle.std.specs.Prelude.{suc, ℕ, eqb, Bool, ◌&&◌, cond, not, List, [], ◌∷◌}
 use Rattle.std.proofs.Math.Option.{Option, none, some}
 use Rattle.base.specs.Ascending.{sort}
+use Rattle.logic.specs.Background.{Background}
+use Rattle.logic.specs.Layout.{write}
 use Rattle.logic.specs.Normal.{at_most, is_end}
-use Rattle.logic.specs.Place.{Kind, Place, atom, has, lacks, least, most}
-use Rattle.logic.specs.Tree.{end, leaf, node}
+use Rattle.logic.specs.Place.{Atom, Kind, Place, atom, has, lacks, least, most, nothing}
+use Rattle.logic.specs.Tree.{Row, end, leaf, leaf_row, node}
 use Rattle.passes.specs.code.Pipeline.{before_cell, sorted_cells}
-use Rattle.passes.specs.code.Slots.{Cell, Slot, cell, cells, is_link, same_class, value}
+use Rattle.passes.specs.code.Restrict.{slots_under}
+use Rattle.passes.specs.code.Slots.{Cell, Slot, cell, cells, inconsistent, is_link, same_class, value}
 
 -- ---- one place, where T gives those below it
 
@@ -43,3 +46,7 @@ formed k (s ∷ ss) j = cond (eqb j k) (written (λ i. formed (suc k) ss i) (sor
 -- the place of number v: the top, or the place below slot v
 unfoldable pub form : List Slot → ℕ → Place
 form ss v = cond (eqb v 0) (written (λ i. formed 1 ss i) (sorted_cells ss 0)) (formed 1 ss v)
+
+-- the rows of the normal form of a description, for the records that keep a background
+unfoldable pub normal_rows : Background → List (Row Atom ℕ) → List (Row Atom ℕ)
+normal_rows b rs = cond (inconsistent 1 (slots_under b rs) 0) (leaf_row 0 (atom nothing 0 0) ∷ []) (write (form (slots_under b rs) 0))

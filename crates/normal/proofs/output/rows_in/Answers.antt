@@ -3,7 +3,7 @@ use mathlib.Core.Path.{refl, sym}
 use native.Mathlib.Omega.{arith}
 use Rattle.normal.proofs.NormalWritten.{form_counted, rows-held, rows-stand, standing-few, standing-full, standing-lent}
 use Rattle.normal.proofs.RoomLaws.{roomy-again, roomy-refused}
-use Rattle.normal.proofs.tables.PassRows.{front-runnable}
+use Rattle.normal.proofs.tables.PassRows.{front-runnable, front-settled, grown_lem}
 use Rattle.pairs.proofs.Under.{ruled-under}
 use Rattle.std.proofs.lemmas.Result.{err_from_is_err_and}
 use Rattle.normal.proofs.output.rows_in.Goals as goal
@@ -18,6 +18,7 @@ normal_rows-count-requires c =
       omega (arith, f.auto, c.requires.bad-room),
       standing-full law S (roomy-again c.requires (omega (arith, f.auto)) (omega (arith, f.auto)) (omega (arith, f.auto))),
       standing-lent law S (roomy-again c.requires (omega (arith, f.auto)) (omega (arith, f.auto)) (omega (arith, f.auto))),
+      grown_lem law (front-settled S.slots-settled),
       standing-few law S (roomy-again c.requires (omega (arith, f.auto)) (omega (arith, f.auto)) (omega (arith, f.auto))),
     )
 

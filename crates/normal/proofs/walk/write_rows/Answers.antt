@@ -1,59 +1,59 @@
-use lib.ListN.{get_or}
-use mathlib.Core.Path.{refl}
+use Prim.Native.Nat.{◌+◌, ◌≤◌, ℕ}
+use lib.ListN.{get_or, length, length-replicate}
+use mathlib.Core.Path.{ap, refl}
 use native.Mathlib.Omega.{arith}
 use Rattle.base.proofs.Tests.{eq-cases}
-use Rattle.normal.proofs.emit.PushLaws.{less-now, most-now, pushed-as, within}
-use Rattle.normal.proofs.walk.PlaceWalk.{cells-slotlike, top-room, walking-as, walking-done, walking-few, walking-next, walking-place, walking-room, walking_start}
-use Rattle.normal.specs.code.Emitted.{all_rows, cells_of, kept_by}
+use Rattle.normal.proofs.walk.PlaceWalk.{Walk, walk-done, walk-passed, walk-placed, walk-room, walk-small, walk_start, walk_top}
+use Rattle.normal.proofs.walk.write_rows.Goals.{At-loop-k, In-loop-k}
 use Rattle.normal.proofs.walk.write_rows.Goals as goal
 
 pub push_place-count-requires : goal.push_place-count-requires
 push_place-count-requires c =
-    let s = c.args.slots.now in
-    (omega (arith, s.runnable.some'), c.requires.0, c.requires.2.room, top-room (kept_by s) (cells_of s) c.requires.3)
+    let R = c.args.slots.now.runnable in
+    let long = ap length c.requires.2 in
+    (omega (arith, R.some'), c.requires.0, omega (arith, long, length-replicate {A = ℕ} (length c.args.rows.now + 1) 0), walk_top R c.requires.3 c.requires.4)
 
 pub loop-k-init : goal.loop-k-init
 loop-k-init c =
-    let s = c.args.slots.now in
-    let p = c.push_place-count.ensures in
-    (walking-as p.pushed.size (walking_start (kept_by s) (cells_of s) c.requires.2 (cells-slotlike (kept_by s) s.table.now 0 s.runnable) c.requires.3 p), refl, refl)
+    let e = c.push_place-count.ensures in
+    (rw e.pushed.size (walk_start c.args.slots.now.runnable c.requires.3 c.requires.4 c.requires.2 e), refl)
+
+-- the walk, in a table of that size
+walked : (l : At-loop-k) → Walk l.args.slots.now.table.now (length l.args.rows.now) l.loop-k.k l.loop-k.rows l.loop-k.count l.loop-k.below
+walked l = rw l.push_place-count.ensures.pushed.size at l.loop-k.invariant.0
 
 pub push_below-count-requires : goal.push_below-count-requires
 push_below-count-requires c =
-    let l = c.loop-k in
-    let w = l.invariant.0 in
-    let s = c.args.slots.now in
     let t = c.loop-k-test.true in
-    let p = c.push_place-count in
-    let few = within p.ensures.pushed.size c.requires.3 in
-    let most = most-now p.ensures.pushed.size c.requires.1 in
-    let h = walking-few w few in (
-      omega (arith, p.auto, l.invariant.2, c.requires.0),
-      less-now w.pushing.pushed.size refl w.size,
-      omega (arith, t, h, w.size),
-      omega (arith, t, h, most),
-      w.small l.k,
-      λ z. within w.pushing.pushed.size (walking-room (kept_by s) (cells_of s) (all_rows (kept_by s) (cells_of s)) w t z most few),
+    let s = c.args.slots.now in
+    let w = walked (goal.at.push_below-count-requires c).At-loop-k in (
+      omega (arith, c.requires.0, c.loop-k.invariant.1, c.push_place-count.auto),
+      omega (arith, w.size, w.width),
+      omega (arith, t, w.width, w.few),
+      omega (arith, t, w.few, c.requires.1),
+      walk-small s.runnable c.requires.3 c.requires.4 w,
+      λ z. rw w.size (walk-room s.runnable c.requires.3 c.requires.4 w t z),
     )
+
+walked' : (l : In-loop-k) → Walk l.args.slots.now.table.now (length l.args.rows.now) l.loop-k.k l.loop-k.rows l.loop-k.count l.loop-k.below
+walked' l = rw l.push_place-count.ensures.pushed.size at l.loop-k.invariant.0
+
+-- a row that is looked at is one of the table
+few : (c : In-loop-k) → c.loop-k.k ≤ 1008
+few c = omega (arith, c.loop-k-test.true, (walked' c).few, c.requires.1)
 
 pub loop-k-preserved : goal.loop-k-preserved
 loop-k-preserved c =
-    let l = c.loop-k in
-    let w = l.invariant.0 in
-    let p = c.push_below-count in
-    let e = p.ensures in
+    let w = walked (goal.at.loop-k-preserved c).At-loop-k in
     let s = c.args.slots.now in
     let t = c.loop-k-test.true in
-    let v = get_or l.below l.k 0 in
-    let same = c.push_place-count.ensures.pushed.size in
-    let few = within same c.requires.3 in
-    let most = most-now same c.requires.1 in (
-      eq-cases v 0
-          (λ z. rw ((e.passed z).0, (e.passed z).1, (e.passed z).2) (walking-next w t z))
-          (λ z. walking-place (kept_by s) (cells_of s) (all_rows (kept_by s) (cells_of s)) w t z most few (cells-slotlike (kept_by s) s.table.now v s.runnable) (e.placed z)),
-      omega (arith, p.auto, l.invariant.1),
-      omega (arith, p.auto, l.invariant.2),
+    let e = c.push_below-count.ensures in (
+      rw c.push_place-count.ensures.pushed.size
+          (eq-cases (get_or c.loop-k.below c.loop-k.k 0) 0
+          (λ z. rw ((e.passed z).0, (e.passed z).1, (e.passed z).2) (walk-passed s.runnable c.requires.3 c.requires.4 w t z))
+          (λ z. let p = e.placed z in walk-placed s.runnable c.requires.3 c.requires.4 w t z (rw w.size at p))),
+      omega (arith, c.push_below-count.auto, c.loop-k.invariant.1),
     )
 
 pub returns : goal.returns
-returns c = pushed-as c.push_place-count.ensures.pushed.size (walking-done c.loop-k.invariant.0 c.loop-k-test.false)
+returns c = walk-done c.args.slots.now.runnable c.requires.3 c.requires.4 (walked (goal.at.returns c).At-loop-k) c.loop-k-test.false
