@@ -31,7 +31,7 @@ use Rattle.narrow.proofs.Keeping.Thinned.{legal-thinned, thinner-subsumed}
 use Rattle.narrow.proofs.Missing.Additions.{with-exactly}
 use Rattle.narrow.proofs.Missing.BothEntries.{legal-joined}
 use Rattle.narrow.specs.Earned.{sayers}
-use Rattle.narrow.specs.Keeping.{keep_from, marked, neutral, thinned}
+use Rattle.narrow.specs.Keeping.{keep_from, marked, thinned}
 use Rattle.narrow.specs.Missing.{both, shifted}
 use Rattle.std.specs.Prelude.{Ok}
 

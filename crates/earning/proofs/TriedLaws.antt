@@ -2,8 +2,8 @@
 -- Assumes nothing.
 use Prim.Native.Nat.{◌%◌, ◌*◌, ◌+◌, ◌-◌, ◌/◌, ◌<◌, ◌≤◌, suc, zero, ℕ}
 use lib.Dec.{eqb}
-use lib.ListN.{get_or, get_or-append, length, length-append, length-map, set, take}
-use lib.Seq.{ext_get_or, get_or-append-add, get_or-set_other, get_or-set_same, get_or-take, length-take-le}
+use lib.ListN.{drop, get_or, get_or-append, length, length-append, length-drop, length-map, set, take}
+use lib.Seq.{ext_get_or, get_or-append-add, get_or-drop, get_or-set_other, get_or-set_same, get_or-take, length-take-le}
 use mathlib.Core.Bool.{Bool, ◌||◌, cond, false, true}
 use mathlib.Core.List.{List, [], ◌++◌, ◌∷◌, map}
 use mathlib.Core.Path.{◌∙◌, ◌≡◌, ap, refl, sym}
@@ -13,7 +13,7 @@ use Rattle.base.proofs.Tests.{eq-cases, lt-cases}
 use Rattle.blocks.proofs.Refusing.Bounds.{AllBounded}
 use Rattle.blocks.specs.Entries.{Bounded, nth, packed, zero_entry}
 use Rattle.blocks.specs.declared.Entry.{Entry}
-use Rattle.earning.specs.code.Tried.{Listed, Packed}
+use Rattle.earning.specs.code.Tried.{Listed, Packed, front_in, rest_in}
 use Rattle.narrow.proofs.Keeping.Thinned.{left_at, nth-thinned, size}
 use Rattle.narrow.specs.Keeping.{neutral, thinned}
 use Rattle.unfolding.proofs.RowLaws.{row-entry}
@@ -150,3 +150,22 @@ thin-more es K rows s i {x} within f e m h =
     eq-cases m i
     (λ z. rw z (get_or-set_same rows (s + i) x 0 within ∙ e))
     (λ z. get_or-set_other rows (s + i) (s + m) x 0 (λ y. z (omega arith)) ∙ f m (omega arith))
+
+-- ---- the entries that the numbers of a table stand for
+
+pub rows-back : (es : List Entry) → AllBounded es → {rows : List ℕ} → rows ≡ map packed es → map entry_of_row rows ≡ es
+unfolding nth
+rows-back es b e = rw e (back es (λ k h. b.each k h))
+  where
+    back : (es : List Entry) → ((k : ℕ) → k < length es → Bounded (get_or es k zero_entry)) → map entry_of_row (map packed es) ≡ es
+    back [] h = refl
+    back (x ∷ xs) h = rw (row-entry x (h 0 (omega arith)), back xs (λ k l. h (suc k) (omega arith))) refl
+
+-- a list in a table is that of its numbers
+pub listed-again : {pre es : List Entry} {t : List ℕ} {s n : ℕ} → s + n ≤ length t → Listed pre es t s n → Listed (front_in t s) (rest_in t s n) t s n
+listed-again {pre} {es} {t} {s} {n} h L =
+    let f : front_in t s ≡ pre = rows-back pre L.front.bounded (packed-taken pre t s L.front L.before (omega arith)) in
+    let long : length (drop s t) ≡ length t - s = length-drop s t in
+    let at : Packed es (drop s t) 0 = record { each = λ i l. let z : 0 + i ≡ i = omega arith in rw z (get_or-drop s t i 0 ∙ L.rest.each i l); bounded = L.rest.bounded } in
+    let r : rest_in t s n ≡ es = rows-back es L.rest.bounded (packed-taken es (drop s t) n at L.count (omega (arith, long))) in
+    rw (f, r) L

@@ -22,7 +22,7 @@ pub fn earning<'a>(
 {
     pairs::read_pairs(pairs)?;
     let total = reading::read(c, Schema::Description, 1)?;
-    reading::read(d, Schema::Description, 2)?;
+    let asked = reading::read(d, Schema::Description, 2)?;
     let stays = Part {
         bytes: &[],
         total: 0,
@@ -31,7 +31,11 @@ pub fn earning<'a>(
         bytes: c,
         total: usize::from(total),
     };
-    let service = Service { pairs, d };
+    let service = Service {
+        pairs,
+        d,
+        total: usize::from(asked),
+    };
     let attempt = Attempt {
         stays,
         tried,

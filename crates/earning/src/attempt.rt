@@ -14,6 +14,7 @@ use crate::marks::{mark_owners, put_marks};
 use crate::tried::Tried;
 use crate::trying::{Service, Trial};
 use blocks::{Cause, Entry, Refusal, nth_entry, pack};
+use pairs::INDEX_BYTES;
 
 /// A description that no rule refuses, and how many entries it has. Here an empty slice is one too, of none.
 #[derive(Clone, Copy)]
@@ -89,7 +90,9 @@ pub fn together(attempt: Attempt<'_>) -> bool
         before: attempt.stays.total,
         count: attempt.tried.total,
     };
-    Trial::new().passes(attempt.service, tried, &[true; 1009])
+    let mut index = [0u8; INDEX_BYTES];
+    let service = attempt.service.ask(&mut index);
+    Trial::new().passes(service, tried, &[true; 1009])
 }
 
 // The bytes of the part that is tried, of which those that are left are 1.
@@ -109,12 +112,14 @@ fn mark(attempt: Attempt<'_>, out: &mut [u8]) -> bool
     };
     let mut kept = [true; 1009];
     tried.put_back(&mut kept, 0, total);
+    let mut index = [0u8; INDEX_BYTES];
+    let service = attempt.service.ask(&mut index);
     let mut trial = Trial::new();
-    if !trial.passes(attempt.service, tried, &kept) {
+    if !trial.passes(service, tried, &kept) {
         put_marks(&[false; 1009], total, out);
         return false;
     }
-    trial.fold(attempt.service, tried, &mut kept);
+    trial.fold(service, tried, &mut kept);
     mark_owners(attempt.tried.bytes, total, &mut kept);
     put_marks(&kept, total, out);
     true

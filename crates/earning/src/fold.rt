@@ -8,7 +8,8 @@ ghost use Rattle.pairs.specs.Pairs.{under};
 ghost use Rattle.earning.specs.code.Tried.{Grows, Listed, Open, Turned, enough, set_of};
 
 use crate::tried::Tried;
-use crate::trying::{Service, Trial};
+use crate::trying::Trial;
+use slots::Asked;
 
 // Where leaving out stands: entries up to `to` are not decided, so many of them are tried next at once, and whether one that stays is being looked for
 // among those that were tried together.
@@ -60,7 +61,7 @@ impl Trial {
     // Leaves out a run of entries of which none is decided, if what is then left is still contained.
     fn leaves(
         &mut self,
-        service: Service<'_>,
+        service: Asked<'_>,
         tried: Tried<'_>,
         kept: &mut [bool; 1009],
         from: usize,
@@ -69,7 +70,7 @@ impl Trial {
         requires { (from ≤ to) × (to ≤ tried.count) }
         ensures { (pre es : List Entry) → Listed pre es tried.entry.entries.now tried.entry.before tried.entry.count
             → Open es to (set_of kept.old)
-            → (result ≡ enough (under service.entry.pairs.now) pre es (entries_of service.entry.d.now) (without_run from to (set_of kept.old)))
+            → (result ≡ enough (under service.entry.exclusions.pairs.now) pre es (entries_of service.entry.bytes.now) (without_run from to (set_of kept.old)))
             × ((k : ℕ) → set_of kept.new k ≡ cond result (without_run from to (set_of kept.old) k) (set_of kept.old k)) }
     {
         leave_out(kept, from, to);
@@ -83,7 +84,7 @@ impl Trial {
     // Tries a run of entries. An 'every', which says nothing by itself, is not tried alone.
     fn turn(
         &mut self,
-        service: Service<'_>,
+        service: Asked<'_>,
         tried: Tried<'_>,
         kept: &mut [bool; 1009],
         at: Turn,
@@ -91,8 +92,8 @@ impl Trial {
         requires { (1 ≤ at.to) × (at.to ≤ tried.count) × (1 ≤ at.run) × (at.run ≤ 2016) }
         ensures next { (1 ≤ result.run) × (result.run ≤ 2016) × (result.to ≤ at.to) × (4096 * result.to + result.run < 4096 * at.to + at.run) }
         ensures goes { (pre es : List Entry) → Listed pre es tried.entry.entries.now tried.entry.before tried.entry.count
-            → Grows (enough (under service.entry.pairs.now) pre es (entries_of service.entry.d.now)) → Open es at.to (set_of kept.old)
-            → Turned (enough (under service.entry.pairs.now) pre es (entries_of service.entry.d.now)) es at.to (set_of kept.old) result.to (set_of kept.new) }
+            → Grows (enough (under service.entry.exclusions.pairs.now) pre es (entries_of service.entry.bytes.now)) → Open es at.to (set_of kept.old)
+            → Turned (enough (under service.entry.exclusions.pairs.now) pre es (entries_of service.entry.bytes.now)) es at.to (set_of kept.old) result.to (set_of kept.new) }
     {
         let run = at.run.min(at.to);
         if run == 1 && !kept[at.to] {
@@ -107,10 +108,10 @@ impl Trial {
     }
 
     // Tries all entries, the last first.
-    pub(crate) fn fold(&mut self, service: Service<'_>, tried: Tried<'_>, kept: &mut [bool; 1009])
+    pub(crate) fn fold(&mut self, service: Asked<'_>, tried: Tried<'_>, kept: &mut [bool; 1009])
         ensures { (pre es : List Entry) → Listed pre es tried.entry.entries.now tried.entry.before tried.entry.count
-            → Grows (enough (under service.entry.pairs.now) pre es (entries_of service.entry.d.now)) → Open es tried.entry.count (set_of kept.old)
-            → set_of kept.new ≡ keep_from (enough (under service.entry.pairs.now) pre es (entries_of service.entry.d.now)) tried.entry.count (set_of kept.old) }
+            → Grows (enough (under service.entry.exclusions.pairs.now) pre es (entries_of service.entry.bytes.now)) → Open es tried.entry.count (set_of kept.old)
+            → set_of kept.new ≡ keep_from (enough (under service.entry.exclusions.pairs.now) pre es (entries_of service.entry.bytes.now)) tried.entry.count (set_of kept.old) }
     {
         let mut at = Turn {
             to: tried.count,

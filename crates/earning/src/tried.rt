@@ -1,10 +1,11 @@
 // The entries that are tried, packed as for writing, and the list that is left of them where some are left out.
+ghost use Rattle.std.proofs.Props.{props};
 ghost use Rattle.std.specs.Prelude.{◌≡◌, ◌+◌, ◌≤◌, ◌++◌, ◌&&◌, ◌||◌, ℕ, List, cond, eqb, leb, length, ltb};
 ghost use Rattle.blocks.specs.Entries.{Bounded, packed};
 ghost use Rattle.blocks.specs.declared.Entry.{Entry};
 ghost use Rattle.narrow.specs.Earned.{sayers};
 ghost use Rattle.narrow.specs.Keeping.{neutral, thinned};
-ghost use Rattle.earning.specs.code.Tried.{Listed, Packed, set_of};
+ghost use Rattle.earning.specs.code.Tried.{Listed, Packed, front_in, rest_in, set_of};
 
 use blocks::kinds;
 
@@ -16,6 +17,7 @@ pub(crate) struct Tried<'a> {
     pub(crate) count: usize,
     ghost few: { before + count ≤ 1008 },
     ghost whole: { length entries.now ≡ 1008 },
+    ghost listed: { Listed (front_in entries.now before) (rest_in entries.now before count) entries.now before count } by { Prim.hlevel props },
 }
 
 // Whether a packed entry is an 'every', which stays: it goes with what it owns.

@@ -1,8 +1,8 @@
-// Whether what is left of a list is still contained in the service: the list is written as blocks, and compared.
-ghost use Rattle.std.specs.Prelude.{◌≡◌, ◌≤◌, ◌++◌, eqb, is_ok, length, map, List, true};
-ghost use Rattle.blocks.proofs.Refusing.Bounds.{AllBounded};
-ghost use Rattle.blocks.specs.Entries.{entries_of, packed};
-ghost use Rattle.blocks.specs.Promise.{Legal};
+// Whether what is left of a list is still contained in the service: it is slotted from the table where it stands, and the service is read once for all
+// trials.
+ghost use Rattle.std.proofs.Props.{props};
+ghost use Rattle.std.specs.Prelude.{◌≡◌, ◌++◌, eqb, is_ok, length, List, true};
+ghost use Rattle.blocks.specs.Entries.{entries_of};
 ghost use Rattle.blocks.specs.Reading.{reading_of};
 ghost use Rattle.blocks.specs.declared.Entry.{Entry};
 ghost use Rattle.blocks.specs.declared.Schema.{Schema};
@@ -12,7 +12,8 @@ ghost use Rattle.pairs.specs.Pairs.{pairs_reading, under};
 ghost use Rattle.earning.specs.code.Tried.{Listed, set_of};
 
 use crate::tried::Tried;
-use writing::{bytes_for, write_entries};
+use pairs::{Exclusions, INDEX_BYTES};
+use slots::{Asked, Listing};
 
 /// A service, accepted, under a list of pairs that is accepted.
 #[derive(Clone, Copy)]
@@ -21,59 +22,51 @@ pub struct Service<'a> {
     pub pairs: &'a [u8],
     /// The service.
     pub d: &'a [u8],
+    /// How many entries it has.
+    pub total: usize,
     ghost listed: { is_ok (pairs_reading pairs.now) ≡ true },
     ghost read: { is_ok (reading_of Schema.Description 2 d.now) ≡ true },
+    ghost counted: { total ≡ length (entries_of d.now) },
 }
 
-// Whether packed entries, as a description, are contained in the service. What stands in the two tables before does not count.
-fn is_enough(
-    service: Service<'_>,
-    rows: &[u64],
-    blocks: &mut [u8; 8192],
-    table: &mut [u64; 1009],
-) -> bool
-    requires { length rows.now ≤ 1008 }
-    ensures { (es : List Entry) → Legal Schema.Description es → AllBounded es → rows.now ≡ map packed es
-        → result ≡ eqb (failing (under service.entry.pairs.now) es (entries_of service.entry.d.now)) 0 }
-{
-    let n = rows.len();
-    let size = bytes_for(n as u16);
-    write_entries(blocks, rows, n);
-    match slots::first_failing(service.pairs, &blocks[..size], service.d, table) {
-        Ok(unheld) => unheld.is_none(),
-        Err(_) => false,
+impl<'a> Service<'a> {
+    // The service as one that lists of entries are judged by. What the index held before does not count.
+    pub(crate) fn ask(self, index: &'a mut [u8; INDEX_BYTES]) -> Asked<'a>
+        ensures { (result.exclusions.pairs.now ≡ self.entry.pairs.now) × (result.bytes.now ≡ self.entry.d.now) }
+    {
+        Asked {
+            exclusions: Exclusions::new(self.pairs, index),
+            bytes: self.d,
+            total: self.total,
+        }
     }
 }
 
-// What a trial takes: the list that is left, its blocks, and a table for its slots. What stands there before does not count.
+// What a trial takes: the list that is left. What stands there before does not count.
 #[derive(Drop)]
 pub(crate) struct Trial {
     rows: [u64; 1008],
-    blocks: [u8; 8192],
-    table: [u64; 1009],
 }
 
 impl Trial {
     pub(crate) fn new() -> Self {
-        Trial {
-            rows: [0; 1008],
-            blocks: [0; 8192],
-            table: [0; 1009],
-        }
+        Trial { rows: [0; 1008] }
     }
 
     // Whether what is left of a list is contained in the service.
     pub(crate) fn passes(
         &mut self,
-        service: Service<'_>,
+        service: Asked<'_>,
         tried: Tried<'_>,
         kept: &[bool; 1009],
     ) -> bool
         ensures { (pre es : List Entry) → Listed pre es tried.entry.entries.now tried.entry.before tried.entry.count
-            → result ≡ eqb (failing (under service.entry.pairs.now) (pre ++ thinned (set_of kept.now) 1 es) (entries_of service.entry.d.now)) 0 }
+            → result ≡ eqb (failing (under service.entry.exclusions.pairs.now) (pre ++ thinned (set_of kept.now) 1 es) (entries_of service.entry.bytes.now)) 0 }
     {
         tried.thin(kept, &mut self.rows);
-        let n = tried.before + tried.count;
-        is_enough(service, &self.rows[..n], &mut self.blocks, &mut self.table)
+        let listing = Listing {
+            rows: &self.rows[..tried.before + tried.count],
+        };
+        service.holds(listing)
     }
 }

@@ -12,7 +12,7 @@ use Rattle.blocks.proofs.Refusing.Bounds.{AllBounded}
 use Rattle.blocks.proofs.RoundTrip.Accepting.{encoded-accepted, written-encodes}
 use Rattle.blocks.proofs.RoundTrip.Decoding.{decode-encode}
 use Rattle.blocks.specs.Encoding.{blocks_for, encode, written}
-use Rattle.blocks.specs.Entries.{form_ok, name_ok, nth, number_ok, packed, zero_entry}
+use Rattle.blocks.specs.Entries.{entries_of, form_ok, name_ok, nth, number_ok, packed, zero_entry}
 use Rattle.blocks.specs.Frame.{plain}
 use Rattle.blocks.specs.Owners.{chain, depth_of, depth_ok, owner_of, owner_ok}
 use Rattle.blocks.specs.Promise.{Legal}
@@ -94,3 +94,6 @@ together-impossible P c d e = rw (e, decode-encode impossible) refl
 
 pub impossible-read : {t : List ℕ} → t ≡ encode impossible → is_ok (reading_of Description 2 t) ≡ true
 impossible-read e = rw (e, encoded-accepted Description 2 impossible legal-impossible tt (omega arith)) refl
+
+pub impossible-counted : {t : List ℕ} → t ≡ encode impossible → 1 ≡ length (entries_of t)
+impossible-counted e = rw (e, decode-encode impossible) refl

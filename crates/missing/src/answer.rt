@@ -24,7 +24,11 @@ fn mark_lacking<'a>(
     ensures { (result ≡ Ok (lack_of pairs.now c.entry.bytes.now d.entry.bytes.now))
         × (out.new ≡ marked_bytes (lacks pairs.now c.entry.bytes.now d.entry.bytes.now) (length (entries_of d.entry.bytes.now)) out.old) }
 {
-    let service = Service { pairs, d: d.bytes };
+    let service = Service {
+        pairs,
+        d: d.bytes,
+        total: d.total,
+    };
     if is_contained(service, c.bytes) {
         out[..d.total].fill(0);
         return Ok(Lack::Nothing);

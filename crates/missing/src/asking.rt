@@ -30,7 +30,11 @@ pub(crate) fn is_against<'a>(pairs: &'a [u8], c: Part<'a>, d: Part<'a>) -> bool
 {
     let mut nothing = [0u8; BLOCK];
     write_entries(&mut nothing, &[u64::from(kinds::NOTHING)], 1);
-    let service = Service { pairs, d: &nothing };
+    let service = Service {
+        pairs,
+        d: &nothing,
+        total: 1,
+    };
     together(Attempt {
         stays: c,
         tried: d,

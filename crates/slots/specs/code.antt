@@ -2,6 +2,8 @@
 
 -- Slots as numbers of 64 bits in a table, as the code keeps them.
 pub mod Tables
+-- Entries that stand packed in a table, as a description.
+pub mod Rows
 -- The pairs in which each place has a property, as bits.
 pub mod Marking
 -- Which entries hold, by the slots of a normal form.

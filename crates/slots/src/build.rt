@@ -36,7 +36,7 @@ fn bounds_base(kind: u8) -> u64
 }
 
 // Both bounds of an entry of this kind and number, as they stand in a slot.
-fn entry_bounds(kind: u8, number: u16) -> u64
+pub(crate) fn entry_bounds(kind: u8, number: u16) -> u64
     ensures { (low_part result ≡ low_kind kind number) × (high_part result ≡ high_kind kind number) × (high_part result ≤ no_bound) × (result < 17179869184) }
 {
     bounds_times(kind) * u64::from(number) + bounds_base(kind)

@@ -21,6 +21,7 @@ mod failing;
 mod filling;
 mod marking;
 mod restrict;
+mod rows;
 mod service;
 mod settle;
 mod slots;
@@ -32,6 +33,7 @@ pub use containment::contained_table;
 pub use each::each_failing;
 pub use failing::first_failing;
 pub use filling::fill;
+pub use rows::{Asked, Listing};
 pub use slots::{high_in, key_in, low_in};
 pub use states::NOWHERE;
 

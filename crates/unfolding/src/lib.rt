@@ -20,6 +20,7 @@ mod tables;
 
 pub use calls::{unfold, unfold_both, unfold_into};
 pub use dictionary::Dictionary;
+pub use rows::entry_of_row;
 pub use tables::Tables;
 
 // What the entries of a description come to: how many they are once unfolded, and on how many levels these stand. They are not yet held against

@@ -86,7 +86,7 @@ impl Rows {
 }
 
 // The entry of a number. No `From<u64>`: Entry is a type of `blocks`, and only a row here is a number whose bytes are an entry's.
-pub(crate) fn entry_of_row(x: u64) -> Entry
+pub fn entry_of_row(x: u64) -> Entry
     ensures { result ≡ entry_of_row x }
 {
     Entry::from(&x.to_le_bytes())

@@ -1,6 +1,6 @@
 -- Lists whose entries are tried, in tables, and sets of entries as tables of marks.
 -- Assumes nothing.
-use Rattle.std.specs.Prelude.{◌+◌, ◌<◌, ◌≤◌, suc, ℕ, eqb, get_or, length, Bool, true, List, ◌++◌, ◌≡◌}
+use Rattle.std.specs.Prelude.{◌+◌, ◌<◌, ◌≤◌, suc, ℕ, drop, eqb, get_or, length, map, take, Bool, true, List, ◌++◌, ◌≡◌}
 use Rattle.blocks.proofs.Refusing.Bounds.{AllBounded}
 use Rattle.blocks.specs.Entries.{nth, packed}
 use Rattle.blocks.specs.Promise.{Legal}
@@ -10,6 +10,7 @@ use Rattle.logic.specs.Background.{Background}
 use Rattle.meaning.specs.Failing.{failing}
 use Rattle.narrow.specs.Earned.{sayers}
 use Rattle.narrow.specs.Keeping.{keep_from, thinned}
+use Rattle.unfolding.specs.code.Rows.{entry_of_row}
 
 -- the set that a table of marks stands for; what is past its end is in it
 abbrev pub set_of : List Bool → ℕ → Bool
@@ -27,6 +28,13 @@ pub record Listed (pre es : List Entry) (t : List ℕ) (s n : ℕ) : Type 0 wher
   pub front : Packed pre t 0
   pub rest : Packed es t s
   pub legal : (K : ℕ → Bool) → Legal Description (pre ++ thinned K 1 es)
+
+-- the entries that the first s numbers of a table stand for, and those that the n after these do
+abbrev pub front_in : List ℕ → ℕ → List Entry
+front_in t s = map entry_of_row (take s t)
+
+abbrev pub rest_in : List ℕ → ℕ → ℕ → List Entry
+rest_in t s n = map entry_of_row (take n (drop s t))
 
 -- what is left of them is contained in d
 abbrev pub enough : Background → List Entry → List Entry → List Entry → (ℕ → Bool) → Bool

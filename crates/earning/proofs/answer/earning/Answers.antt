@@ -1,5 +1,4 @@
 -- `earning` meets its contract: refused, or left to leaving out beside nothing.
-use mathlib.Core.List.{[]}
 use lib.ListN.{length}
 use mathlib.Core.Path.{◌∙◌, ap, sym}
 use native.Mathlib.Omega.{arith}
@@ -9,6 +8,7 @@ use Rattle.earning.proofs.AnswerLaws.{asked-first, asked-pairs, asked-second, ea
 use Rattle.earning.proofs.AttemptLaws.{none-entered, none-legal}
 use Rattle.narrow_listed.proofs.AcceptedLegal.{few-read, legal-read}
 use Rattle.std.proofs.lemmas.Result.{err_from_is_err_and}
+use Rattle.std.specs.Prelude.{is_ok}
 use Rattle.earning.proofs.answer.earning.Goals as goal
 
 pub returns-in_err-read_pairs : goal.returns-in_err-read_pairs
@@ -25,14 +25,14 @@ returns-in_err-total c =
     (earning-refused a.pairs.now a.c.now a.d.now a.out.now
     (asked-first a.pairs.now a.c.now a.d.now a.c.now a.out.now _ (sym c.read_pairs.ensures ∙ c.in_ok-read_pairs.was) (sym c.read.ensures ∙ c.in_err-total.was)))
 
-pub returns-in_err-read : goal.returns-in_err-read
-returns-in_err-read c =
+pub returns-in_err-asked : goal.returns-in_err-asked
+returns-in_err-asked c =
     let a = c.args in
-    let p = err_from_is_err_and c.from_residual-in_err-read.result c.from_residual-in_err-read.ensures.1 in
+    let p = err_from_is_err_and c.from_residual-in_err-asked.result c.from_residual-in_err-asked.ensures.1 in
     rw (p.1, p.2)
     (earning-refused a.pairs.now a.c.now a.d.now a.out.now
     (asked-second a.pairs.now a.c.now a.d.now a.c.now a.out.now _ (sym c.read_pairs.ensures ∙ c.in_ok-read_pairs.was) (sym c.read.ensures ∙ c.in_ok-total.was)
-    (sym c.read-2.ensures ∙ c.in_err-read.was)))
+    (sym c.read-2.ensures ∙ c.in_err-asked.was)))
 
 pub invariant_of-stays : goal.invariant_of-stays
 invariant_of-stays c = record { counted = ap length (sym none-entered); legal = none-legal }
@@ -41,6 +41,12 @@ pub invariant_of-tried : goal.invariant_of-tried
 invariant_of-tried c =
     let r = sym c.read.ensures ∙ c.in_ok-total.was in
     record { counted = c.from.ensures ∙ (none-of-accepted Description 1 c.args.c.now r).1; legal = legal-read 1 c.args.c.now r }
+
+pub invariant_of-service : goal.invariant_of-service
+invariant_of-service c =
+    let p = sym c.read_pairs.ensures ∙ c.in_ok-read_pairs.was in
+    let r = sym c.read-2.ensures ∙ c.in_ok-asked.was in
+    record { listed = ap is_ok p; read = ap is_ok r; counted = c.from-2.ensures ∙ (none-of-accepted Description 2 c.args.d.now r).1 }
 
 pub invariant_of-attempt : goal.invariant_of-attempt
 invariant_of-attempt c =
@@ -51,5 +57,5 @@ pub returns : goal.returns
 returns c =
     let a = c.args in
     let p = sym c.read_pairs.ensures ∙ c.in_ok-read_pairs.was in
-    let l = earning-left a.pairs.now a.c.now a.d.now a.out.now p (sym c.read.ensures ∙ c.in_ok-total.was) (sym c.read-2.ensures ∙ c.in_ok-read.was) in
+    let l = earning-left a.pairs.now a.c.now a.d.now a.out.now p (sym c.read.ensures ∙ c.in_ok-total.was) (sym c.read-2.ensures ∙ c.in_ok-asked.was) in
     (c.mark_left.ensures.0 ∙ l.0, c.mark_left.ensures.1 ∙ l.1)

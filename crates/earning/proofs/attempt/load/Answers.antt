@@ -1,7 +1,6 @@
 use Prim.Native.Nat.{◌+◌}
 use native.Mathlib.Omega.{arith}
 use Rattle.blocks.proofs.Refusing.Legal.{owner-earlier}
-use Rattle.blocks.specs.Entries.{Bounded}
 use Rattle.earning.proofs.AttemptLaws.{front-stays, load-more, load-whole}
 use Rattle.earning.proofs.MarkLaws.{owner-read}
 use mathlib.Core.Path.{refl}

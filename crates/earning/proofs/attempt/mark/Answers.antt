@@ -1,6 +1,6 @@
 -- `mark` meets its contract: nothing is left where it is not contained, or leaving out ends with what is.
 use Prim.Native.Nat.{◌≤◌, ℕ}
-use lib.ListN.{get_or-replicate, length, replicate}
+use lib.ListN.{get_or-replicate, replicate}
 use mathlib.Core.Bool.{false, true}
 use mathlib.Core.List.{List, map}
 use mathlib.Core.Path.{◌∙◌, ◌≡◌, ap, refl, sym}
@@ -12,6 +12,7 @@ use Rattle.blocks.specs.declared.Schema.TheVariants.{Description}
 use Rattle.earning.proofs.AttemptLaws.{all-open, all-put, all-together, grows-beside, left-kept, sayers-left}
 use Rattle.earning.proofs.MarkLaws.{bytes-are}
 use Rattle.earning.proofs.TrialLaws.{accepted}
+use Rattle.earning.proofs.TriedLaws.{listed-again}
 use Rattle.earning.specs.Answer.{marked_bytes}
 use Rattle.earning.specs.Leaving.{stays_in, together}
 use Rattle.earning.specs.code.Tried.{Grows, Listed, enough, set_of}
@@ -50,7 +51,7 @@ start c = all-put (B c) c.args.attempt.tried.total c.put_back.new.kept (whole c)
 asked : (c : After-passes)
     → c.passes.result ≡ together c.args.attempt.service.pairs.now c.args.attempt.stays.bytes.now c.args.attempt.tried.bytes.now c.args.attempt.service.d.now
 asked c =
-    c.passes.ensures (F c) (B c) (whole c)
+    (rw (c.ask-service.ensures.0, c.ask-service.ensures.1) at c.passes.ensures) (F c) (B c) (whole c)
     ∙ all-together (under c.args.attempt.service.pairs.now) (F c) (T c) (D c) c.args.attempt.stays.counted (set_of c.put_back.new.kept) (rw (start c) (sayers-left (B c)))
 
 grows : (c : After-passes) → Grows (enough (under c.args.attempt.service.pairs.now) (F c) (B c) (D c))
@@ -58,6 +59,9 @@ grows c =
     let a = c.args.attempt in
     accepted (pairs_reading a.service.pairs.now) a.service.listed (λ k l. accepted (reading_of Description 2 a.service.d.now) a.service.read (λ m r.
     grows-beside (ruled-under a.service.pairs.now l).lawful (F c) (T c) (D c) a.stays.legal a.tried.legal (legal-read 2 a.service.d.now r) a.stays.counted))
+
+pub invariant_of-tried-clause-listed : goal.invariant_of-tried-clause-listed
+invariant_of-tried-clause-listed c = listed-again (omega (arith, c.args.attempt.few, c.load.auto)) c.load.ensures
 
 pub returns-then-not-passes : goal.returns-then-not-passes
 returns-then-not-passes c =
@@ -90,7 +94,7 @@ returns c =
     let d = a.service.d.now in
     let yes : together P f t d ≡ true = sym (asked w) ∙ c.if-not-passes.false in
     let s = start w in
-    let l = c.fold.ensures (F w) (B w) (whole w) (grows w) (all-open (B w) a.tried.total s) in (
+    let l = (rw (c.ask-service.ensures.0, c.ask-service.ensures.1) at c.fold.ensures) (F w) (B w) (whole w) (grows w) (all-open (B w) a.tried.total s) in (
       sym yes,
       c.put_marks-2.ensures
           ∙ bytes-are (stays_in P f t d) c.mark_owners.new.kept a.tried.total c.args.out.now c.requires

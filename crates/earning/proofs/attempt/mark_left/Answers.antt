@@ -1,5 +1,5 @@
 -- `mark_left` meets its contract: too short, or marked.
-use mathlib.Core.Path.{◌∙◌, ap}
+use mathlib.Core.Path.{◌∙◌}
 use native.Mathlib.Omega.{arith}
 use Rattle.earning.proofs.AnswerLaws.{ok-same}
 use Rattle.earning.proofs.AttemptLaws.{left-given, left-short}

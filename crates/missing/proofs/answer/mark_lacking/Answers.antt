@@ -18,7 +18,7 @@ use Rattle.missing.proofs.answer.mark_lacking.Goals.{After-mark_left}
 use Rattle.missing.proofs.answer.mark_lacking.Goals as goal
 
 pub invariant_of-service : goal.invariant_of-service
-invariant_of-service c = record { listed = c.requires.0; read = c.requires.2 }
+invariant_of-service c = record { listed = c.requires.0; read = c.requires.2; counted = c.args.d.counted }
 
 pub is_contained-requires : goal.is_contained-requires
 is_contained-requires c = c.requires.1

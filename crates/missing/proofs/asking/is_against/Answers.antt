@@ -3,7 +3,7 @@ use Prim.Native.Nat.{ℕ}
 use lib.ListN.{length-replicate, replicate}
 use mathlib.Core.Path.{◌∙◌, ◌≡◌}
 use Rattle.blocks.specs.Encoding.{encode}
-use Rattle.missing.proofs.Impossible.{impossible-read, impossible-written, together-impossible}
+use Rattle.missing.proofs.Impossible.{impossible-counted, impossible-read, impossible-written, together-impossible}
 use Rattle.missing.specs.Answer.{impossible}
 use Rattle.missing.proofs.asking.is_against.Goals.{After-write_entries}
 use Rattle.missing.proofs.asking.is_against.Goals as goal
@@ -14,7 +14,7 @@ block c = impossible-written (replicate 512 0) (length-replicate {A = ℕ} 512 0
 pub invariant_of-service : goal.invariant_of-service
 invariant_of-service c =
     let w = (goal.at.invariant_of-service c).After-write_entries in
-    record { listed = c.requires.0; read = impossible-read (block w) }
+    record { listed = c.requires.0; read = impossible-read (block w); counted = impossible-counted (block w) }
 
 pub returns : goal.returns
 returns c =

@@ -1,5 +1,4 @@
 -- `load` meets its contract: first those that stay, and then those that are tried.
-use native.Mathlib.Omega.{arith}
 use Rattle.blocks.specs.Entries.{entries_of}
 use Rattle.earning.proofs.AttemptLaws.{listed-both}
 use Rattle.earning.proofs.attempt.Attempt.load.Goals as goal

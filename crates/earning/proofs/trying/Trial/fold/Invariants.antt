@@ -12,8 +12,8 @@ invariant-loop-at l = record {
   most : l.at.run ≤ 2016;
   left : l.at.to ≤ l.tried.count;
   goes : (pre es : List Entry) → Listed pre es l.tried.entries.now l.tried.before l.tried.count
-      → Grows (enough (under l.service.pairs.now) pre es (entries_of l.service.d.now)) → Open es l.tried.count (set_of l.initial.kept)
-      → Turned (enough (under l.service.pairs.now) pre es (entries_of l.service.d.now)) es l.tried.count (set_of l.initial.kept) l.at.to (set_of l.kept);
+      → Grows (enough (under l.service.exclusions.pairs.now) pre es (entries_of l.service.bytes.now)) → Open es l.tried.count (set_of l.initial.kept)
+      → Turned (enough (under l.service.exclusions.pairs.now) pre es (entries_of l.service.bytes.now)) es l.tried.count (set_of l.initial.kept) l.at.to (set_of l.kept);
 }
 
 abbrev pub decreases-loop-at : goal.decreases-loop-at

@@ -14,6 +14,6 @@ pub returns : goal.returns
 returns c = λ pre es L o.
     let a = c.args in
     let K = set_of a.kept.now in (
-      sym c.if-passes.false ∙ c.passes.ensures pre es L ∙ ap (enough (under a.service.pairs.now) pre es (entries_of a.service.d.now)) (fun_ext c.leave_out.ensures),
+      sym c.if-passes.false ∙ c.passes.ensures pre es L ∙ ap (enough (under a.service.exclusions.pairs.now) pre es (entries_of a.service.bytes.now)) (fun_ext c.leave_out.ensures),
       λ k. c.put_back.ensures pre es L k ∙ ap (λ (b : Bool). cond (ltb a.from k && leb k a.to) (sayers es k) b) (c.leave_out.ensures k) ∙ put-again es a.from a.to K o k,
     )

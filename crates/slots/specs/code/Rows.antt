@@ -1,0 +1,14 @@
+-- Entries that stand packed in a table, as a description. No public promise names these.
+-- Assumes nothing.
+use Rattle.std.specs.Prelude.{ℕ, List, map}
+use Rattle.blocks.specs.Encoding.{encode}
+use Rattle.blocks.specs.declared.Entry.{Entry}
+use Rattle.unfolding.specs.code.Rows.{entry_of_row}
+
+-- the entries that the numbers of a table stand for
+abbrev pub listed_in : List ℕ → List Entry
+listed_in rows = map entry_of_row rows
+
+-- the blocks that they would be written as; none are: contracts of slots speak of bytes
+abbrev pub rows_bytes : List ℕ → List ℕ
+rows_bytes rows = encode (listed_in rows)
