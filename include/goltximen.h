@@ -264,7 +264,8 @@ uint64_t gx_compare_with(const uint8_t *pairs, size_t pairs_len, const uint8_t *
  * other; where one is impossible, it is the other. Refused by the first that applies: 11; the dictionary; a in full; b in full; 1 at
  * input 2, place 0, where both together, once unfolded, have more than 16 blocks; 7 where out is shorter than both together, once
  * unfolded, or the result has more than 1,008 entries, or out is shorter than the result. With no pairs an out as long as both is
- * always long enough; GX_BYTES(1008) bytes are always. Later bytes of out stay. Where refused, out is unchanged.
+ * always long enough; GX_BYTES(1008) bytes are always. With no pairs, of two field sheets of which some item fits at least one,
+ * gx_read_sheet accepts what is written, with the same count. Later bytes of out stay. Where refused, out is unchanged.
  */
 uint64_t gx_narrowest(const uint8_t *pairs, size_t pairs_len, const uint8_t *dict, size_t dict_len, const uint8_t *a, size_t a_len,
                       const uint8_t *b, size_t b_len, uint8_t *out, size_t out_len);

@@ -52,7 +52,9 @@ pub mod NarrowestWritten
 pub mod NarrowestUnfolded
 -- refused exactly by the first row that applies,
 pub mod NarrowestOrder
--- and what its answer says.
+-- what its answer says,
 pub mod NarrowestKept
+-- and that of two field sheets it is one.
+pub mod NarrowestSheets
 -- Examples of the narrowest description compute.
 pub mod NarrowestExamples

@@ -19,6 +19,8 @@ use Rattle.named.specs.Answer.{narrowed_named, narrowest_named, normalise_named,
 use Rattle.names.specs.NamedReading.{dictionary_of, named_faults, plain_of}
 use Rattle.narrow_listed.specs.Listed.{narrowest_under}
 use Rattle.pairs.specs.Pairs.{pair_faults, under}
+use Rattle.sheets.specs.Promise.{SheetOfBoth}
+use Rattle.sheets.specs.Sheet.{sheet_reading}
 
 -- [G2] [G3] the entries of the narrowest description that contains two, which may name those of a dictionary: of the normal forms of both, as
 -- Join of `narrow` joins them
@@ -91,3 +93,9 @@ pub record Narrows (P D a b out : List ℕ) (k : ℕ) : Type 0 where
   -- [D8] the answer and the bytes are those for the unfolded descriptions
   pub unfolded : (narrowest_named P [] (plain_of D a) (plain_of D b) out ≡ Ok k)
       × (narrowed_named P [] (plain_of D a) (plain_of D b) out ≡ narrowed_named P D a b out)
+
+-- [W6] of two field sheets, with no pairs: the blocks are read as a field sheet of k entries exactly where some item of
+-- some record fits at least one of the two
+abbrev pub JoinsSheets : List ℕ → List ℕ → List ℕ → List ℕ → List ℕ → ℕ → Type 0
+JoinsSheets P D a b out k =
+    P ≡ [] → (n m : ℕ) → sheet_reading a ≡ Ok n → sheet_reading b ≡ Ok m → SheetOfBoth a b (narrowest_bytes P D a b out k) k

@@ -4,7 +4,7 @@ use Rattle.std.specs.Prelude.{◌≡◌, ℕ, ◌*◌, ◌+◌, ◌%◌, ◌<◌
 use Rattle.std.proofs.Math.Option.{none, some}
 use mathlib.Core.List.{Memᴰ}
 use Rattle.answers.specs.NarrowestExamples as joins
-use Rattle.answers.specs.Narrowest.{SevenDue, both_bytes, narrowest_with}
+use Rattle.answers.specs.Narrowest.{SevenDue, both_bytes, narrowest_bytes, narrowest_with}
 use Rattle.answers.specs.Promise.{Admitted, SameItemsNamed, normal_bytes, unfolded_list}
 use Rattle.answers.specs.Refusals.{AcceptedBy, NameRefused, ServicesTaken, SizeRefused}
 use Rattle.base.specs.Ascending.{Sorted}
@@ -53,6 +53,7 @@ use Rattle.normal.specs.Promise as form
 use Rattle.normal.specs.Promise.{OwnNormalForm}
 use Rattle.pairs.specs.Pairs.{pair_faults, pairs_reading, under}
 use Rattle.pairs.specs.Promise.{ListRead}
+use Rattle.sheets.specs.Promise.{SheetOfBoth}
 use Rattle.sheets.specs.Sheet.{sheet_reading}
 use Rattle.unfolding.specs.Answer.{unfold_at}
 
@@ -97,6 +98,16 @@ NarrowestOfSheets =
     (c d : List ℕ) (n m : ℕ) → sheet_reading c ≡ Ok n → sheet_reading d ≡ Ok m → (R : Record) → Keeps standing R → (x : ℕ) → x < R.size
     → (fits R (place_of (entries_of c) 0) x ≡ true) ⊎ (fits R (place_of (entries_of d) 0) x ≡ true)
     → length (narrowest_of c d) ≤ 1008 → sheet_reading (encode (narrowest_of c d)) ≡ Ok (length (narrowest_of c d))
+
+-- By the calls, under any dictionary that is accepted: with at most 16 blocks of both and an output as long nothing is
+-- refused, and what is written is read as a field sheet, with the number that was answered, exactly where some item of
+-- some record fits at least one.
+abbrev pub NarrowestSheetRead : Type 0
+NarrowestSheetRead =
+    (D c d out : List ℕ) (l n m : ℕ) → dictionary_reading D ≡ Ok l → sheet_reading c ≡ Ok n → sheet_reading d ≡ Ok m
+    → length c + length d ≤ 8192 → length c + length d ≤ length out
+    → (narrowest_named [] D c d out ≡ Ok (length (narrowest_of c d)))
+    × SheetOfBoth c d (narrowest_bytes [] D c d out (length (narrowest_of c d))) (length (narrowest_of c d))
 
 -- ---- the desk's examples
 

@@ -9,7 +9,7 @@
 #![tactic(auto)]
 
 ghost use Rattle.laws.specs.Laws.{BytesAndEntries, ExchangeOtherwise, ExchangeRefused, WrittenIsAccepted};
-ghost use Rattle.laws.specs.Laws.{DeskExamples, NarrowestExamples, NarrowestHasRoom, NarrowestOfSheets, RowsByNumber, RulesLeaveNothingOut, SevenLast, YesAndNo};
+ghost use Rattle.laws.specs.Laws.{DeskExamples, NarrowestExamples, NarrowestHasRoom, NarrowestOfSheets, NarrowestSheetRead, RowsByNumber, RulesLeaveNothingOut, SevenLast, YesAndNo};
 ghost use Rattle.laws.specs.Laws.{AsUnfolded, ContainedFits, EmptyListAsBefore, WithoutNames};
 ghost use Rattle.laws.specs.Laws.{OneSetOfBytes, SameBytesContained, SameBytesExactly};
 
@@ -48,10 +48,12 @@ pub fn one_set_of_bytes()
     ensures compared { SameBytesContained }
 {}
 
-// [W6] With no excluding pairs, the narrowest description of two field sheets is read as a field sheet, where some item
-// of some record fits at least one of them.
+// [W6] With no excluding pairs, the narrowest description of two field sheets is accepted as a field sheet, with the
+// number answered, exactly where some item of some record that keeps the rule on single links fits at least one of
+// them.
 pub fn narrowest_of_sheets()
-    ensures { NarrowestOfSheets }
+    ensures entries { NarrowestOfSheets }
+    ensures calls { NarrowestSheetRead }
 {}
 
 // [G9] With no pairs an output as long as both inputs has room for the narrowest description that contains them.
