@@ -24,22 +24,25 @@
  * Links from 32,768 up lead to one item only: a finite record keeps the rule that no item has two items by one of them. What a
  * yes, a no and a normal form promise is about such records.
  *
- * Properties that exclude each other. gx_fit_with, gx_normal_with, gx_compare_with, gx_narrowest, gx_catalogue, gx_hierarchy and
- * gx_fit_all take a list of pairs of properties, such as clay and sand, that never hold of one item: 0 to 64 pairs of four bytes, in each pair two
- * properties of two bytes, low byte first. Which of the two stands first says nothing; a pair may stand there twice, and a property in
- * several pairs. The list says which records are spoken of: what these calls promise is about every finite record that keeps
- * the list and the rule on links from 32,768 up. So a place of a description with both properties of a pair is impossible, and
+ * Properties that exclude each other. gx_fit_with, gx_normal_with, gx_compare_with, gx_narrowest, gx_catalogue,
+ * gx_hierarchy, gx_earning, gx_failing, gx_missing and gx_fit_all take a list of pairs of properties, such as clay and
+ * sand, that never hold of one item: 0 to 64 pairs of four bytes, in each pair two properties of two bytes, low byte
+ * first. Which of the two stands first says nothing; a pair may stand there twice, and a property in several pairs.
+ * The list says which records are spoken of: what these calls promise is about every finite record that keeps the list
+ * and the rule on links from 32,768 up. So a place of a description with both properties of a pair is impossible, and
  * one with the one of them lacks the other. gx_fit, gx_normal and gx_compare are the first three with no pairs and no
  * dictionary, and stay so.
  *
- * Dictionaries. All of these but gx_hierarchy, and gx_unfold, take a dictionary of named descriptions: 0 to 64 descriptions laid end to
- * end, where the first block and each later one numbered 1 begins a description; of length 0 it has none. In the descriptions
- * that these calls take, an entry of kind 9 with name n and number 0 stands for the n-th description of the dictionary, put in at
- * that place. A description of the dictionary may name only earlier ones. gx_unfold writes the plain description that is meant.
- * All answers and written bytes, numbers of entries included, are those for the unfolded descriptions, and an output is measured
- * by them too; one of them has at most GX_BYTES(1008) bytes. The limit of 16 blocks is about a description as it is sent. gx_fit,
- * gx_fit_counted, gx_normal and gx_compare have a dictionary of length 0, so they refuse every name with 13; the three readers,
- * gx_hierarchy, gx_earning, gx_failing, gx_missing, gx_to_stored, gx_from_stored and a desk take no dictionary and refuse kind 9 with 4.
+ * Dictionaries. All of these but gx_hierarchy, gx_earning, gx_failing and gx_missing, and gx_unfold, take a dictionary
+ * of named descriptions: 0 to 64 descriptions laid end to end, where the first block and each later one numbered 1
+ * begins a description; of length 0 it has none. In the descriptions that these calls take, an entry of kind 9 with
+ * name n and number 0 stands for the n-th description of the dictionary, put in at that place. A description of the
+ * dictionary may name only earlier ones. gx_unfold writes the plain description that is meant. All answers and written
+ * bytes, numbers of entries included, are those for the unfolded descriptions, and an output is measured by them too;
+ * one of them has at most GX_BYTES(1008) bytes. The limit of 16 blocks is about a description as it is sent. gx_fit,
+ * gx_fit_counted, gx_normal and gx_compare have a dictionary of length 0, so they refuse every name with 13; the three
+ * readers, gx_hierarchy, gx_earning, gx_failing, gx_missing, gx_to_stored, gx_from_stored and a desk take no
+ * dictionary and refuse kind 9 with 4.
  *
  * Lists of services. gx_catalogue and gx_hierarchy take 1 to 64 descriptions laid end to end: the first block and each later one numbered 1
  * begins a service. Only the stored number counts for this, and it is looked at before any check: a block whose number is damaged
