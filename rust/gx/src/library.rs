@@ -111,6 +111,17 @@ pub fn earning(
     Ok(contained.then(|| marks(&out)))
 }
 
+/// Which entries of a service's plain description a supplier's does not say, each by itself with its owners.
+///
+/// # Errors
+///
+/// The library's refusal.
+pub fn failing(pairs: &[u8], supplier: &[Entry], service: &[Entry]) -> Result<Vec<bool>, Refusal> {
+    let mut out = vec![0; service.len()];
+    goltximen::failing(pairs, &encode(supplier), &encode(service), &mut out)?;
+    Ok(marks(&out))
+}
+
 /// What a supplier's plain description lacks to be contained in a service's, and which entries of the service's that is.
 ///
 /// # Errors

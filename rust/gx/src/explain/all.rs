@@ -1,16 +1,16 @@
 //! All entries of the service's description that fail.
 //!
-//! The library tells the first one. An entry holds exactly where the supplier's description is contained in the entry with its owners
-//! alone; so the library is asked of each of these, 64 in a call, and of those that fail once more for a specimen.
+//! Which these are is one answer of the library. Each is then compared by itself, with its owners alone, for a specimen that shows it.
 
 use super::{failure, Failure};
 use crate::background::Background;
 use crate::blocks::encode;
 use crate::input::Input;
-use crate::library::{self, Compared, MOST_SERVICES};
+use crate::library::{self, Compared, Under};
 use crate::tree::alone;
 
-/// The entries of the service's description that fail, by their numbers, each explained.
+/// The entries of the service's description that fail, by their numbers, each explained; none where one of them by itself does not
+/// fail, which the library is proved not to answer.
 ///
 /// # Errors
 ///
@@ -19,32 +19,26 @@ pub fn all_failing(
     background: &Background,
     supplier: &Input,
     service: &Input,
-) -> Result<Vec<Failure>, library::Refusal> {
-    let under = background.under();
-    let normal = library::entries(&library::normal(under, &supplier.bytes)?);
-    let entries = 1..=service.entries.len();
-    let alone: Vec<Vec<u8>> = entries
-        .map(|entry| encode(&alone(&service.entries, entry)))
-        .collect();
-    let mut failures = Vec::new();
-    for (first, asked) in (1..)
-        .step_by(MOST_SERVICES)
-        .zip(alone.chunks(MOST_SERVICES))
-    {
-        let asked: Vec<&[u8]> = asked.iter().map(Vec::as_slice).collect();
-        let answers = library::catalogue(under, &supplier.bytes, &asked)?;
-        for (entry, holds) in (first..).zip(answers) {
-            if holds {
-                continue;
-            }
-            let compared = library::compare(under, &supplier.bytes, &alone[entry - 1])?;
-            let Compared::NotContained { specimen, .. } = compared else {
-                continue;
-            };
-            let specimen = library::entries(&specimen);
-            let list = &background.list;
-            failures.push(failure(list, supplier, service, entry, &normal, specimen));
-        }
-    }
-    Ok(failures)
+) -> Result<Option<Vec<Failure>>, library::Refusal> {
+    let Background { list, .. } = background;
+    // Both are unfolded.
+    let under = Under {
+        dictionary: &[],
+        ..background.under()
+    };
+    let marks = library::failing(under.pairs, &supplier.entries, &service.entries)?;
+    let unfolded = encode(&supplier.entries);
+    let normal = library::entries(&library::normal(under, &unfolded)?);
+    let marked = (1..).zip(marks).filter(|(_, fails)| *fails);
+    let explained = marked.map(|(entry, _)| {
+        let asked = encode(&alone(&service.entries, entry));
+        let specimen = match library::compare(under, &unfolded, &asked)? {
+            Compared::Contained => return Ok(None),
+            Compared::NotContained { specimen, .. } => library::entries(&specimen),
+        };
+        Ok(Some(failure(
+            list, supplier, service, entry, &normal, specimen,
+        )))
+    });
+    explained.collect()
 }

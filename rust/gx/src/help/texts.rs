@@ -65,8 +65,8 @@ Answers whether every item that fits the supplier's description fits the service
 where it stands, what the supplier's description says there, and shows a specimen that fits the first and not the second. With
 --pairs the answer is about the records that keep the list, and so is the specimen. Named entries are unfolded: what is told and
 shown, and the numbers of entries, are those of the plain descriptions. For a yes it names the entries of the supplier's description
-that earn it, as 'gx keep' shows them. --all tells each entry that fails: one holds exactly where the supplier's description is
-contained in it with its owners alone, and the library is asked so of each.
+that earn it, as 'gx keep' shows them. --all tells every entry that fails: each that the supplier's description is not contained in
+where the entry stands with its owners alone. Of each it tells what an item of a specimen of its own shows.
 ";
 
 const KEEP: &str = "\

@@ -47,7 +47,9 @@ fn the_entries_that_fail_alone_are_told_and_no_others() {
             _ => description(&mut chance),
         };
         let (c, d) = (input(ours(&drawn)), input(ours(&d)));
-        let all = all_failing(&Background::default(), &c, &d).unwrap();
+        let all = all_failing(&Background::default(), &c, &d)
+            .unwrap()
+            .unwrap();
         let all: Vec<usize> = all.iter().map(|failure| failure.entry).collect();
         let alone = |&entry: &usize| encode(&alone(&d.entries, entry));
         let entries = 1..=d.entries.len();

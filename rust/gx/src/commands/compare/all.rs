@@ -25,13 +25,11 @@ pub(super) fn failing(
         Explained::Contained(_) => None,
         Explained::NotContained(failure) => Some(failure.entry),
     };
-    match all.first().map(|failure| failure.entry) == first {
-        true => Ok(all),
-        false => Err(Trouble::Fault {
-            file: named(d),
-            why: "the entries that fail one by one are not those of the comparison".into(),
-        }),
-    }
+    let as_compared = |all: &Vec<Failure>| all.first().map(|failure| failure.entry) == first;
+    all.filter(as_compared).ok_or_else(|| Trouble::Fault {
+        file: named(d),
+        why: "the entries that fail one by one are not those of the comparison".into(),
+    })
 }
 
 /// Tells them in an answer.
