@@ -20,6 +20,7 @@ use crate::tree::owners;
 use crate::words::{self, grouped, Words};
 
 pub use record::{shown_record, why_record};
+pub use sheet::outside;
 pub use shown::{shown, shown_dictionary, shown_pairs};
 pub use stored::{shown_stored, why_stored};
 

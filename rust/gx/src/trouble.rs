@@ -54,25 +54,78 @@ pub enum Trouble {
         why: String,
     },
     /// The library refuses the input.
-    Refused {
-        /// The file as it was named.
-        file: String,
-        /// The library's answer.
-        refusal: Refusal,
-        /// The answer in words.
-        why: String,
-        /// The block or entry in its surroundings.
-        shown: String,
-        /// Where the entry stands in a text.
-        at: Option<Position>,
-    },
+    Refused(Box<Refused>),
+}
+
+/// An input that the library refuses.
+#[derive(Clone, Debug)]
+pub struct Refused {
+    /// The file as it was named.
+    pub file: String,
+    /// The library's answer.
+    pub refusal: Refusal,
+    /// The answer in words.
+    pub why: String,
+    /// The block or entry in its surroundings.
+    pub shown: String,
+    /// Where the entry stands in a text.
+    pub at: Option<Position>,
+    /// All entries that no field sheet has, where it has to be one.
+    pub outside: Vec<usize>,
+}
+
+impl Refused {
+    /// This file is refused for this reason, and nothing is shown of it.
+    pub fn new(file: String, refusal: Refusal, why: String) -> Refused {
+        Refused {
+            file,
+            refusal,
+            why,
+            shown: String::new(),
+            at: None,
+            outside: Vec::new(),
+        }
+    }
+
+    /// On one line, without the file.
+    fn line(&self) -> String {
+        let place = self
+            .at
+            .map_or(String::new(), |at| format!(" (line {})", at.line));
+        let number = self.refusal.reason.number();
+        format!("refused {number}: {}{place}", self.why)
+    }
+
+    fn json(&self) -> Vec<(&'static str, Json)> {
+        let Refused { refusal, why, .. } = self;
+        let line = self.at.map_or(Json::Null, |at| Json::number(at.line));
+        let mut fields = vec![
+            ("answer", Json::text("refused")),
+            ("refusal", Json::number(refusal.reason.number().into())),
+            ("input", Json::number(refusal.input.into())),
+            ("place", Json::number(refusal.place.into())),
+            ("line", line),
+            ("words", Json::text(why)),
+        ];
+        if !self.outside.is_empty() {
+            let outside = self.outside.iter().map(|&entry| Json::number(entry));
+            fields.push(("outside", Json::List(outside.collect())));
+        }
+        fields
+    }
+}
+
+impl From<Refused> for Trouble {
+    fn from(refused: Refused) -> Trouble {
+        Trouble::Refused(Box::new(refused))
+    }
 }
 
 impl Trouble {
     /// The same where a refusal is one of this part of an input.
     pub fn within(mut self, part: &str) -> Trouble {
-        if let Trouble::Refused { why, .. } = &mut self {
-            *why = format!("{part}: {why}");
+        if let Trouble::Refused(refused) = &mut self {
+            refused.why = format!("{part}: {}", refused.why);
         }
         self
     }
@@ -97,12 +150,7 @@ impl Trouble {
             Trouble::Fault { why, .. } => {
                 format!("an error of gx, not of the input: {why}; nothing is shown")
             }
-            Trouble::Refused {
-                refusal, why, at, ..
-            } => {
-                let place = at.map_or(String::new(), |at| format!(" (line {})", at.line));
-                format!("refused {}: {why}{place}", refusal.reason.number())
-            }
+            Trouble::Refused(refused) => refused.line(),
         }
     }
 
@@ -113,8 +161,8 @@ impl Trouble {
             | Trouble::Unwritten { file, .. }
             | Trouble::Mistake { file, .. }
             | Trouble::Empty { file, .. }
-            | Trouble::Fault { file, .. }
-            | Trouble::Refused { file, .. } => file,
+            | Trouble::Fault { file, .. } => file,
+            Trouble::Refused(refused) => &refused.file,
             Trouble::Words(conflict) => &conflict.other.place.file,
         }
     }
@@ -163,8 +211,8 @@ impl Trouble {
             | Trouble::Fault { .. } => format!("{line}\n"),
             Trouble::Words(conflict) => format!("{line}\n{}", conflict.shown()),
             Trouble::Mistake { shown, .. } => format!("{line}\n{shown}\n"),
-            Trouble::Refused { shown, .. } if shown.is_empty() => format!("{line}\n"),
-            Trouble::Refused { shown, .. } => format!("{line}\n\n{shown}"),
+            Trouble::Refused(refused) if refused.shown.is_empty() => format!("{line}\n"),
+            Trouble::Refused(refused) => format!("{line}\n\n{}", refused.shown),
         }
     }
 
@@ -204,19 +252,7 @@ impl Trouble {
                 fields.push(("clash", Json::Object(conflict.json())));
                 fields
             }
-            Trouble::Refused {
-                refusal, why, at, ..
-            } => {
-                let line = at.map_or(Json::Null, |at| Json::number(at.line));
-                vec![
-                    ("answer", Json::text("refused")),
-                    ("refusal", Json::number(refusal.reason.number().into())),
-                    ("input", Json::number(refusal.input.into())),
-                    ("place", Json::number(refusal.place.into())),
-                    ("line", line),
-                    ("words", Json::text(why)),
-                ]
-            }
+            Trouble::Refused(refused) => refused.json(),
         }
     }
 }

@@ -11,7 +11,7 @@ use crate::names::Names;
 use crate::owl::{self, Asked};
 use crate::page;
 use crate::svg;
-use crate::trouble::Trouble;
+use crate::trouble::{Refused, Trouble};
 
 impl Context {
     /// Each of these services read, as the call's input of its number.
@@ -119,13 +119,10 @@ impl Context {
 fn too_many(count: usize) -> Trouble {
     let file = "the services".to_string();
     match library::read_ranked(count) {
-        Err(refusal) => Trouble::Refused {
-            file,
-            why: format!("they are {count} services, and the most is {MOST_SERVICES}"),
-            shown: String::new(),
-            refusal,
-            at: None,
-        },
+        Err(refusal) => {
+            let why = format!("they are {count} services, and the most is {MOST_SERVICES}");
+            Refused::new(file, refusal, why).into()
+        }
         Ok(()) => Trouble::Fault {
             file,
             why: "the library does not refuse too many services".into(),

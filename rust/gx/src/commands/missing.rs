@@ -10,7 +10,7 @@ use crate::json::Json;
 use crate::library::{self, Compared, Lack, Reason};
 use crate::readback;
 use crate::tree::{cut_down, joined};
-use crate::trouble::Trouble;
+use crate::trouble::{Refused, Trouble};
 use crate::words;
 
 const TOO_MUCH: &str = "both descriptions together have more than 16 blocks";
@@ -69,21 +69,9 @@ fn said(status: Status, answer: &'static str, what: &str, marks: &[bool]) -> Ans
 
 /// The refusal of two accepted descriptions, which can only be too much together.
 fn refused(file: &Path, refusal: library::Refusal) -> Trouble {
-    match not_refused(file, refusal) {
-        Trouble::Refused {
-            file,
-            refusal,
-            shown,
-            at,
-            ..
-        } if refusal.reason == Reason::Length => Trouble::Refused {
-            file,
-            refusal,
-            why: TOO_MUCH.into(),
-            shown,
-            at,
-        },
-        other => other,
+    match refusal.reason {
+        Reason::Length => Refused::new(named(file), refusal, TOO_MUCH.into()).into(),
+        _ => not_refused(file, refusal),
     }
 }
 

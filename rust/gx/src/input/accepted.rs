@@ -10,7 +10,7 @@ use crate::entry::{Named, Sort};
 use crate::library;
 use crate::pairs::List;
 use crate::refused;
-use crate::trouble::Trouble;
+use crate::trouble::{Refused, Trouble};
 
 /// The input, if the library accepts it where a description may name these.
 ///
@@ -29,13 +29,14 @@ pub fn accepted(
     let place = usize::from(refusal.place);
     let of_entry = refusal.reason.number() >= 4;
     let at = draft.positions.get(place.wrapping_sub(1)).copied();
-    Err(Trouble::Refused {
+    Err(Trouble::from(Refused {
         file: named(path),
         why: refused::why(refusal, draft.sort, &draft.bytes, naming),
         shown: refused::shown(refusal, &draft.bytes, &draft.names, naming),
         refusal: library::Refusal { input, ..refusal },
         at: at.filter(|_| of_entry),
-    })
+        outside: refused::outside(refusal, &draft.entries),
+    }))
 }
 
 /// Asks the library whether an input is accepted: a reader, or for a description that may name others the unfolding.
@@ -57,12 +58,15 @@ fn read(draft: &Input, naming: Naming<'_>) -> Result<(), library::Refusal> {
 ///
 /// The refusal.
 pub fn unstored(path: &Path, bytes: &[u8], input: u16) -> Result<Vec<u8>, Trouble> {
-    library::from_stored(bytes).map_err(|refusal| Trouble::Refused {
-        file: named(path),
-        why: refused::why_stored(refusal, bytes),
-        shown: refused::shown_stored(refusal, bytes),
-        refusal: library::Refusal { input, ..refusal },
-        at: None,
+    library::from_stored(bytes).map_err(|refusal| {
+        Trouble::from(Refused {
+            shown: refused::shown_stored(refusal, bytes),
+            ..Refused::new(
+                named(path),
+                library::Refusal { input, ..refusal },
+                refused::why_stored(refusal, bytes),
+            )
+        })
     })
 }
 
@@ -83,13 +87,11 @@ pub fn accepted_record(
     let place = usize::from(refusal.place);
     let of_entry = refusal.reason.number() >= 4;
     let at = draft.positions.get(place.wrapping_sub(1)).copied();
-    Err(Trouble::Refused {
-        file: named(path),
-        why: refused::why_record(refusal, &draft),
+    Err(Trouble::from(Refused {
         shown: refused::shown_record(refusal, &draft),
-        refusal,
         at: at.filter(|_| of_entry),
-    })
+        ..Refused::new(named(path), refusal, refused::why_record(refusal, &draft))
+    }))
 }
 
 /// The dictionary, if the library accepts it.
@@ -110,13 +112,15 @@ pub fn accepted_dictionary(path: &Path, draft: Dictionary) -> Result<Dictionary,
         true => part.positions.get(place - 1).copied(),
         false => part.at,
     });
-    Err(Trouble::Refused {
-        file: named(path),
-        why: refused::why_dictionary(refusal, &draft, number),
+    Err(Trouble::from(Refused {
         shown: refused::shown_dictionary(refusal, &draft, number),
-        refusal,
         at,
-    })
+        ..Refused::new(
+            named(path),
+            refusal,
+            refused::why_dictionary(refusal, &draft, number),
+        )
+    }))
 }
 
 /// The list, if the library accepts it.
@@ -129,13 +133,11 @@ pub fn accepted_list(path: &Path, draft: List) -> Result<List, Trouble> {
         return Ok(draft);
     };
     let place = usize::from(refusal.place);
-    Err(Trouble::Refused {
-        file: named(path),
-        why: refused::why_list(refusal, &draft),
+    Err(Trouble::from(Refused {
         shown: refused::shown_pairs(refusal, &draft),
-        refusal,
         at: draft.positions.get(place.wrapping_sub(1)).copied(),
-    })
+        ..Refused::new(named(path), refusal, refused::why_list(refusal, &draft))
+    }))
 }
 
 /// The list of services, if the library does not refuse it as a whole.
@@ -144,12 +146,12 @@ pub fn accepted_list(path: &Path, draft: List) -> Result<List, Trouble> {
 ///
 /// The refusal.
 pub fn accepted_services(path: &Path, list: &[u8]) -> Result<(), Trouble> {
-    library::read_services(list).map_err(|refusal| Trouble::Refused {
-        file: named(path),
-        why: refused::why_services(refusal, list),
-        shown: String::new(),
-        refusal,
-        at: None,
+    library::read_services(list).map_err(|refusal| {
+        Trouble::from(Refused::new(
+            named(path),
+            refusal,
+            refused::why_services(refusal, list),
+        ))
     })
 }
 
@@ -163,11 +165,13 @@ pub fn keeping(path: &Path, specimen: Input, list: &List) -> Result<Input, Troub
         return Ok(specimen);
     };
     let place = usize::from(refusal.place);
-    Err(Trouble::Refused {
-        file: named(path),
-        why: refused::why_not_kept(place, &specimen.entries, list, &specimen.names),
+    Err(Trouble::from(Refused {
         shown: refused::shown(refusal, &specimen.bytes, &specimen.names, Naming::Nothing),
-        refusal,
         at: specimen.positions.get(place.wrapping_sub(1)).copied(),
-    })
+        ..Refused::new(
+            named(path),
+            refusal,
+            refused::why_not_kept(place, &specimen.entries, list, &specimen.names),
+        )
+    }))
 }

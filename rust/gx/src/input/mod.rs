@@ -12,7 +12,7 @@ use crate::entry::{Entry, Sort};
 use crate::library;
 use crate::names::Names;
 use crate::text::Position;
-use crate::trouble::Trouble;
+use crate::trouble::{Refused, Trouble};
 
 pub use accepted::{
     accepted, accepted_dictionary, accepted_list, accepted_record, accepted_services, keeping,
@@ -85,11 +85,5 @@ impl Input {
 
 /// The trouble that a refusal of accepted inputs would be; the library is proved to have none.
 pub fn not_refused(path: &Path, refusal: library::Refusal) -> Trouble {
-    Trouble::Refused {
-        file: named(path),
-        refusal,
-        why: refusal.to_string(),
-        shown: String::new(),
-        at: None,
-    }
+    Refused::new(named(path), refusal, refusal.to_string()).into()
 }

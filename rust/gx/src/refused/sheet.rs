@@ -1,7 +1,7 @@
 //! Why a description is no field sheet, in words: the entry that the library names, and the later ones that are outside the profile
 //! too.
 
-use goltximen::Reason;
+use goltximen::{Reason, Refusal};
 
 use crate::blocks::encode;
 use crate::entry::Entry;
@@ -30,22 +30,34 @@ pub(super) fn fault(entries: &[Entry], place: usize) -> String {
             format!("it stands {depth} deep, and the most in a field sheet is 3")
         }
     };
-    format!("entry {place}: {fault}{}", others(entries, place))
+    let others = match all(entries, place).as_slice() {
+        [] | [_] => String::new(),
+        [_, one] => format!("; outside too is entry {one}"),
+        [_, others @ ..] => {
+            let others = words::listed(&runs(others));
+            format!("; outside too are entries {others}")
+        }
+    };
+    format!("entry {place}: {fault}{others}")
 }
 
-/// The entries after this one that are outside as well. One is outside exactly where it with its owners alone is no field sheet, so
-/// the library is asked that of each.
-fn others(entries: &[Entry], place: usize) -> String {
+/// All entries that no field sheet has, where the one at this place is refused for that; else none.
+pub fn outside(refusal: Refusal, entries: &[Entry]) -> Vec<usize> {
+    match refusal.reason {
+        Reason::Sheet => all(entries, refusal.place.into()),
+        _ => Vec::new(),
+    }
+}
+
+/// The entries from this one on that are outside: the first, and each later one that with its owners alone is no field sheet, which the
+/// library is asked.
+fn all(entries: &[Entry], place: usize) -> Vec<usize> {
     let outside = |&entry: &usize| {
         let alone = encode(&alone(entries, entry));
         matches!(library::read_sheet(&alone), Err(refusal) if refusal.reason == Reason::Sheet)
     };
-    let later: Vec<usize> = (place + 1..=entries.len()).filter(outside).collect();
-    match later.as_slice() {
-        [] => String::new(),
-        [one] => format!("; outside too is entry {one}"),
-        all => format!("; outside too are entries {}", words::listed(&runs(all))),
-    }
+    let later = (place + 1..=entries.len()).filter(outside);
+    std::iter::once(place).chain(later).collect()
 }
 
 /// Numbers that rise, those that follow each other as one run: 7, 9 to 12.

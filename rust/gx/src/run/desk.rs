@@ -18,7 +18,7 @@ use crate::json::Json;
 use crate::library::{self, Compared, Desk, Reason, Refusal, Step};
 use crate::refused;
 use crate::text::{self, Numbers};
-use crate::trouble::Trouble;
+use crate::trouble::{Refused, Trouble};
 use crate::words;
 
 /// A desk and the file that keeps it.
@@ -233,13 +233,7 @@ fn refused_step(kept: &Kept<'_>, step: Step, refusal: Refusal) -> Trouble {
         }
         _ => refused::rule(refusal),
     };
-    Trouble::Refused {
-        file: named(kept.file),
-        why,
-        shown: String::new(),
-        refusal,
-        at: None,
-    }
+    Refused::new(named(kept.file), refusal, why).into()
 }
 
 fn listed(kept: &Kept<'_>) -> String {

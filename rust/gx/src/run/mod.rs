@@ -267,7 +267,7 @@ impl Run {
         }
         let told = matches!(
             trouble,
-            Trouble::Mistake { .. } | Trouble::Words(_) | Trouble::Refused { .. }
+            Trouble::Mistake { .. } | Trouble::Words(_) | Trouble::Refused(_)
         );
         if self.options().json {
             print(self.object(trouble.json()).as_bytes());

@@ -36,6 +36,9 @@ fn accepted_or_all_that_is_outside() {
     assert!(ran
         .text()
         .contains("> entry 2, at the top: lacks property 8\n"));
+    let ran = folder.gx(&["check", "--sheet", "--json", "more.txt"]);
+    let due = "outside too are entries 3, 8 and 9\",\"outside\":[2,3,8,9]}\n";
+    assert!(ran.text().ends_with(due), "{}", ran.text());
     is(
         &folder.gx(&["check", "more.txt"]),
         0,
