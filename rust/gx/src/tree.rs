@@ -76,6 +76,31 @@ pub fn joined(first: &[Entry], second: &[Entry]) -> Vec<Entry> {
     first.iter().copied().chain(behind).collect()
 }
 
+/// The entries of one description, and behind them those of another that are marked, each at the place where it stands there: an 'every'
+/// of a place that the first has is that one. And of what is behind, the numbers that it has in the other.
+pub fn placed(first: &[Entry], second: &[Entry], marks: &[bool]) -> (Vec<Entry>, Vec<usize>) {
+    let mut whole = first.to_vec();
+    let mut behind = Vec::new();
+    let mut numbers = vec![0; second.len() + 1];
+    for (number, e) in (1..).zip(second) {
+        if marks.get(number - 1) != Some(&true) {
+            continue;
+        }
+        let owner = numbers.get(usize::from(e.owner)).copied().unwrap_or(0);
+        let e = Entry { owner, ..*e };
+        let there = whole.iter().position(|other| e.owns() && *other == e);
+        numbers[number] = match there {
+            Some(at) => (at + 1) as u16,
+            None => {
+                whole.push(e);
+                behind.push(number);
+                whole.len() as u16
+            }
+        };
+    }
+    (whole, behind)
+}
+
 /// An entry with its owners, and nothing else: the description that an item fits exactly if it meets the entry.
 pub fn alone(entries: &[Entry], entry: usize) -> Vec<Entry> {
     let chain = owners(entries, entry).into_iter().chain([entry]);

@@ -132,7 +132,7 @@ pub const OPTIONS: &[Opt] = &[
         "--html",
         "write a page with the answer, of a field sheet that is shown a form for paper; for folders, and of a catalogue, into this folder, with an index",
         &[
-            Show, Fit, Compare, Keep, Narrowest, Catalogue, Hierarchy, Delivered, Doubles,
+            Show, Fit, Compare, Keep, Missing, Narrowest, Catalogue, Hierarchy, Delivered, Desk, Doubles,
         ],
     ),
     file(

@@ -3,54 +3,175 @@
 use std::path::Path;
 
 use super::keep::{lines, marked, numbers, written, ONE_SET};
-use super::{words_of, Answer, Context, Status};
+use super::{words_of, Answer, Context, Extra, Status};
+use crate::blocks::encode;
 use crate::entry::Entry;
 use crate::input::{named, not_refused, Input};
 use crate::json::Json;
 use crate::library::{self, Compared, Lack, Reason};
+use crate::names::Names;
+use crate::page::{self, Lacking};
 use crate::readback;
-use crate::tree::{cut_down, joined};
+use crate::tree::{cut_down, joined, placed};
 use crate::trouble::{Refused, Trouble};
 use crate::words;
 
 const TOO_MUCH: &str = "both descriptions together have more than 16 blocks";
 
+/// The two descriptions, and what the first lacks.
+struct Lacks {
+    supplier: Input,
+    service: Input,
+    lack: Lack,
+    /// The entries of the service's that are marked.
+    marks: Vec<bool>,
+    /// Where no item fits both, the entries of the supplier's that contradict these.
+    against: Vec<bool>,
+    names: Names,
+}
+
 /// Which entries of the service to add to the supplier's description.
 pub(super) fn missing(context: &Context, c: &Path, d: &Path) -> Result<Answer, Trouble> {
+    let of = asked(context, c, d)?;
+    let addition = cut_down(&of.service.entries, &of.marks);
+    contained_then(
+        context,
+        (&of.supplier.entries, &addition, &of.service.entries),
+        d,
+    )?;
+    let mut answer = match of.lack {
+        Lack::Nothing => said(Status::Yes, "nothing to add", "contained", &of.marks),
+        _ => lacking(&of)?,
+    };
+    if of.lack == Lack::Addable {
+        written(context, &mut answer, (&addition, &of.service), &of.names)?;
+    }
+    if context.options.html.is_some() {
+        let page = on_page(context, &of, c)?;
+        answer.extras.push((Extra::Html, page.into_bytes()));
+    }
+    Ok(answer.noted(&of.names))
+}
+
+/// The library's answer, and where no item fits both what of the supplier's makes that so.
+fn asked(context: &Context, c: &Path, d: &Path) -> Result<Lacks, Trouble> {
     let [supplier, service] = [context.supplied(c, 1)?, context.description(d, 2)?];
     let names = words_of(&supplier, &service)?;
     let pairs = context.background.under().pairs;
     let lacks = library::missing(pairs, &supplier.entries, &service.entries);
     let (lack, marks) = lacks.map_err(|refusal| refused(d, refusal))?;
-    if lack == Lack::Nothing {
-        return Ok(said(Status::Yes, "nothing to add", "contained", &marks).noted(&names));
-    }
-    let addition = cut_down(&service.entries, &marks);
-    contained_then(context, (&supplier.entries, &addition, &service.entries), d)?;
-    let shown = readback::surroundings(lines(&service, &marks, &names), &service, &names)?;
-    let mut answer = lacking(lack, &marks, &service, &shown);
-    if lack == Lack::Addable {
-        written(context, &mut answer, (&addition, &service), &names)?;
-    }
-    Ok(answer.noted(&names))
+    let against = match lack {
+        Lack::Against => {
+            let both = joined(&supplier.entries, &cut_down(&service.entries, &marks));
+            let earns = library::earning(pairs, &both, &[NOTHING_FITS]);
+            let earns = earns
+                .map_err(|refusal| not_refused(c, refusal))?
+                .unwrap_or_default();
+            earns.into_iter().take(supplier.entries.len()).collect()
+        }
+        _ => Vec::new(),
+    };
+    Ok(Lacks {
+        supplier,
+        service,
+        lack,
+        marks,
+        against,
+        names,
+    })
 }
 
+/// The description that nothing fits.
+const NOTHING_FITS: Entry = Entry {
+    kind: 6,
+    zero: 0,
+    owner: 0,
+    name: 0,
+    number: 0,
+};
+
 /// What is lacking, with the entries as they are shown.
-fn lacking(lack: Lack, marks: &[bool], service: &Input, shown: &str) -> Answer {
-    let of = words::entries(service.entries.len());
-    let count = marked(marks).len();
-    let mut answer = match lack {
-        Lack::Against => {
-            let what = format!("the supplier's contradicts {count} of {of}");
-            said(Status::No, "no item fits both", &what, marks)
-        }
-        _ => {
-            let what = format!("{count} of {of}");
-            said(Status::Yes, "to be added", &what, marks)
-        }
+fn lacking(of: &Lacks) -> Result<Answer, Trouble> {
+    let (service, supplier) = (&of.service, &of.supplier);
+    let show = |input: &Input, marks: &[bool]| {
+        readback::surroundings(lines(input, marks, &of.names), input, &of.names)
     };
-    answer.full = format!("{}\n\n{shown}\n{ONE_SET}\n", answer.line).into_bytes();
-    answer
+    let entries = words::entries(service.entries.len());
+    let count = marked(&of.marks).len();
+    let shown = show(service, &of.marks)?;
+    let mut answer = match of.lack {
+        Lack::Against => {
+            let what = format!("the supplier's contradicts {count} of {entries}");
+            said(Status::No, "no item fits both", &what, &of.marks)
+        }
+        _ => said(
+            Status::Yes,
+            "to be added",
+            &format!("{count} of {entries}"),
+            &of.marks,
+        ),
+    };
+    let mut full = format!("{}\n\n{shown}\n", answer.line);
+    if of.lack == Lack::Against {
+        let by = show(supplier, &of.against)?;
+        full.push_str(&format!(
+            "Of the supplier's description these contradict them:\n\n{by}\n"
+        ));
+        answer.json.insert(1, ("against", numbers(&of.against)));
+    }
+    answer.full = format!("{full}{ONE_SET}\n").into_bytes();
+    Ok(answer)
+}
+
+/// The page, for which the addition is put into its places in the supplier's description.
+fn on_page(context: &Context, of: &Lacks, file: &Path) -> Result<String, Trouble> {
+    let addable = of.lack == Lack::Addable;
+    let none = vec![false; of.marks.len()];
+    let marks = if addable { &of.marks } else { &none };
+    let (entries, behind) = placed(&of.supplier.entries, &of.service.entries, marks);
+    alike(
+        context,
+        (
+            &entries,
+            &joined(&of.supplier.entries, &cut_down(&of.service.entries, marks)),
+        ),
+        file,
+    )?;
+    let whole = Input {
+        bytes: encode(&entries),
+        sent: of.supplier.sent + behind.len(),
+        entries,
+        ..of.supplier.clone()
+    };
+    page::missing(Lacking {
+        lack: of.lack,
+        inputs: [&whole, &of.service],
+        against: &of.against,
+        missing: &of.marks,
+        behind: &behind,
+        list: &context.background.list,
+        names: &of.names,
+        given: &context.given,
+    })
+}
+
+/// An error of this program where two descriptions do not have the library's one normal form.
+fn alike(
+    context: &Context,
+    (one, other): (&[Entry], &[Entry]),
+    file: &Path,
+) -> Result<(), Trouble> {
+    let normal = |entries: &[Entry]| {
+        let normal = library::normal(context.background.under(), &encode(entries));
+        normal.map_err(|refusal| not_refused(file, refusal))
+    };
+    match normal(one)? == normal(other)? {
+        true => Ok(()),
+        false => Err(Trouble::Fault {
+            file: named(file),
+            why: "with the addition in its places the description says something else".into(),
+        }),
+    }
 }
 
 /// An answer in these words.
@@ -81,7 +202,6 @@ fn contained_then(
     (supplier, addition, service): (&[Entry], &[Entry], &[Entry]),
     file: &Path,
 ) -> Result<(), Trouble> {
-    let encode = crate::blocks::encode;
     let compared = library::compare(
         context.background.under(),
         &encode(&joined(supplier, addition)),

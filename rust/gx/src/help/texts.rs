@@ -79,7 +79,8 @@ const MISSING: &str = "\
 Marks the entries of the service that the supplier's description lacks for a yes: with them it is contained, and without any one of
 them, 'every' entries apart, it is not. It is one such set: leaving out was tried from the last entry to the first. --out writes them
 as a description, in the form that --to says. Where no item fits both, nothing can be added: the entries that are marked contradict
-the supplier's, and nothing is written. Both together have at most 16 blocks.
+the supplier's, which are marked too, and nothing is written. Both together have at most 16 blocks (1). --html writes a page with the
+supplier's description, in which the addition stands in its places, beside the service's.
 ";
 
 const NARROWEST: &str = "\

@@ -1,6 +1,8 @@
 //! The page of a delivered record: a table of its items, and of each that does not fit the path to what breaks it, drawn.
 
-use super::description::{listing, Marks};
+use std::collections::BTreeSet;
+
+use super::description::{listing, Marks, FAILS_TOO};
 use super::{answer, filed, framed, given, marked, readback, settled, where_kept};
 use crate::commands::Unmet;
 use crate::delivered::Delivered;
@@ -10,11 +12,12 @@ use crate::names::Names;
 use crate::pairs::List;
 use crate::shown::file_name;
 use crate::svg;
+use crate::tree::owners;
 use crate::trouble::Trouble;
-use crate::words::{self, Words};
+use crate::words::Words;
 
-/// So many paths are drawn.
-const MOST_DRAWN: usize = 40;
+/// So many paths stand open, and the others behind one line.
+const MOST_OPEN: usize = 40;
 
 /// What the page is made of.
 #[derive(Clone, Copy, Debug)]
@@ -44,9 +47,14 @@ pub fn delivered(sheet: Checked<'_>) -> Result<String, Trouble> {
     let mut body = head;
     body.push_str(&table(sheet, words));
     body.push_str(&paths(sheet));
-    let fails = |unmet: &Unmet| (unmet.entry, (" too", "not met".to_string()));
+    let fails = |unmet: &Unmet| (unmet.entry, (FAILS_TOO, "not met".to_string()));
+    let unmet = sheet.unmet.iter().flatten();
+    let way = unmet
+        .clone()
+        .flat_map(|unmet| owners(&sheet.description.entries, unmet.entry));
     let marks = Marks {
-        notes: sheet.unmet.iter().flatten().map(fails).collect(),
+        way: way.collect::<BTreeSet<usize>>().into_iter().collect(),
+        notes: unmet.map(fails).collect(),
         ..Marks::default()
     };
     let described = listing(
@@ -146,19 +154,21 @@ fn paths(sheet: Checked<'_>) -> String {
         .zip(sheet.unmet)
         .filter_map(|(item, unmet)| Some((item, unmet.as_ref()?)))
         .collect();
-    let mut out = String::new();
-    for (item, unmet) in bad.iter().take(MOST_DRAWN) {
+    let drawn = |(item, unmet): &(usize, &Unmet)| {
         let shows = unmet.shows(sheet.record, words);
         let drawing = svg::chain(&unmet.steps(words), &shows);
-        out.push_str(&format!(
+        format!(
             "<section class=\"card\" id=\"item-{item}\">\n<h2>Item {item}</h2>\n<figure>\n<div class=\"draw\" tabindex=\"0\" role=\"group\" \
              aria-label=\"Path from item {item}\">\n{drawing}</div>\n</figure>\n</section>\n"
-        ));
-    }
-    if bad.len() > MOST_DRAWN {
-        let rest = words::grouped((bad.len() - MOST_DRAWN) as u32);
+        )
+    };
+    let (open, folded) = bad.split_at(bad.len().min(MOST_OPEN));
+    let mut out: String = open.iter().map(drawn).collect();
+    if !folded.is_empty() {
         out.push_str(&format!(
-            "<p>{rest} more are not drawn; the table has them.</p>\n"
+            "<details class=\"run\"><summary>{} more paths</summary>\n{}</details>\n",
+            folded.len(),
+            folded.iter().map(drawn).collect::<String>()
         ));
     }
     out

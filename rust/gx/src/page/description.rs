@@ -1,6 +1,6 @@
 //! A description as a list of places that fold.
 
-use std::collections::BTreeMap;
+use std::collections::{BTreeMap, BTreeSet};
 
 use super::folds::{parts, Part};
 use super::{filed, marked};
@@ -15,6 +15,10 @@ const ALL_OPEN: usize = 60;
 
 /// The class of rows on the way to what is marked.
 const ON_THE_WAY: &str = " way";
+/// The class of rows that are to be added.
+pub(super) const ADDED: &str = " added";
+/// The class of rows that fail beside another.
+pub(super) const FAILS_TOO: &str = " too";
 
 /// The entries that are marked.
 #[derive(Clone, Debug, Default)]
@@ -29,6 +33,8 @@ pub(super) struct Marks {
     pub(super) says: Vec<usize>,
     /// What is told of entries, each with the class of its row.
     pub(super) notes: BTreeMap<usize, (&'static str, String)>,
+    /// Owners whose places are open, of which nothing is told.
+    pub(super) open: BTreeSet<usize>,
     /// All places are open and no line is folded, as on paper.
     pub(super) whole: bool,
 }
@@ -51,6 +57,7 @@ impl Marks {
             || self.too.contains(&entry)
             || self.way.contains(&entry)
             || self.says.contains(&entry)
+            || self.open.contains(&entry)
             || self
                 .notes
                 .get(&entry)
@@ -59,8 +66,9 @@ impl Marks {
 
     /// Whether the place that an entry owns is open in any case.
     fn opens(&self, entry: usize) -> bool {
-        let on_the_way = |note: &(&str, String)| note.0 == ON_THE_WAY;
-        self.way.contains(&entry) || self.notes.get(&entry).is_some_and(on_the_way)
+        let opens = |note: &(&str, String)| [ON_THE_WAY, ADDED, FAILS_TOO].contains(&note.0);
+        let told = self.way.contains(&entry) || self.open.contains(&entry);
+        told || self.notes.get(&entry).is_some_and(opens)
     }
 }
 
@@ -201,7 +209,7 @@ impl Listing<'_> {
             if note.is_empty() {
                 return (class, String::new());
             }
-            return (class, format!(" <span class=\"c\">{note}</span>"));
+            return (class, format!(" <span class=\"c t\">{note}</span>"));
         }
         let (class, flag) = match () {
             () if marks.fails == Some(entry) => {
@@ -212,9 +220,9 @@ impl Listing<'_> {
                 " <strong class=\"flag here\">is said there</strong>",
             ),
             () if marks.too.contains(&entry) => {
-                (" too", " <strong class=\"flag\">✕ fails too</strong>")
+                (FAILS_TOO, " <strong class=\"flag\">✕ fails too</strong>")
             }
-            () if marks.way.contains(&entry) => (" way", ""),
+            () if marks.way.contains(&entry) => (ON_THE_WAY, ""),
             () => ("", ""),
         };
         (class, flag.into())

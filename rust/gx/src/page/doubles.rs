@@ -72,7 +72,7 @@ fn section(meaning: &Meaning, names: &Names) -> Result<String, Trouble> {
     let title = &meaning.files[0];
     let text = readback::entries(text, Sort::Description, &meaning.entries, names, title)?;
     Ok(format!(
-        "<section class=\"card\">\n<h2>{}</h2>\n<details{}><summary>{} in normal form</summary>\n<pre>{}</pre></details>\n</section>\n",
+        "<section class=\"card\">\n<h2>{}</h2>\n<details class=\"run\"{}><summary>{} in normal form</summary>\n<pre>{}</pre></details>\n</section>\n",
         files.join(" = "),
         if meaning.entries.len() <= 12 { " open" } else { "" },
         words::entries(meaning.entries.len()),

@@ -11,6 +11,7 @@ mod hierarchy;
 mod index;
 mod kept;
 mod narrowest;
+mod missing;
 mod readback;
 mod shown;
 mod specimen;
@@ -39,6 +40,7 @@ pub use index::{index, Row};
 pub use kept::{kept, Kept};
 pub use narrowest::{narrowest, Joined, Lead};
 pub use shown::{shown, text as shown_text, Shown};
+pub use missing::{missing, Lacking};
 
 /// What a page of a comparison is made of.
 #[derive(Clone, Copy, Debug)]

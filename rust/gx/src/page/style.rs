@@ -18,6 +18,8 @@ a{color:var(--way)}
 .answer.no h1{color:var(--no)}
 .answer.yes{border-color:var(--yes);background:var(--yes-back)}
 .answer.yes h1{color:var(--yes)}
+.answer.add{border-color:var(--way);background:var(--way-back)}
+.answer.add h1{color:var(--way)}
 .card{background:var(--paper);border:1px solid var(--rule);border-radius:.3rem;padding:1rem 1.25rem;margin-top:1.25rem;min-width:0}
 .why{display:grid;grid-template-columns:max-content minmax(0,1fr);gap:.7rem 1.5rem;align-items:baseline;margin:.8rem 0 0}
 .why dt{color:var(--soft)}
@@ -35,6 +37,7 @@ ul ul{margin-left:.55rem;padding-left:.9rem;border-left:1px solid var(--rule)}
 .w{flex:1;min-width:0;overflow-wrap:anywhere}
 .w b{font-weight:600}
 .c{color:var(--soft);font-size:.85rem;margin-left:.35rem;white-space:nowrap}
+.c.t{white-space:normal}
 summary{cursor:pointer;border-radius:.2rem;list-style:none}
 summary::-webkit-details-marker{display:none}
 summary .e::before{content:\"\\25B8\";flex:none;width:.8rem;margin-right:-.4rem;color:var(--soft)}
@@ -46,6 +49,7 @@ summary:focus-visible{outline:3px solid var(--way)}
 .fails{background:var(--no-back);outline:3px solid var(--no);outline-offset:-1px;margin:.2rem 0}
 .fails mark{background:none;color:inherit;font-weight:700}
 .gone{color:var(--soft)}
+.added{background:var(--yes-back);box-shadow:inset .22rem 0 var(--yes)}
 .too{background:var(--no-back);outline:1px solid var(--no);outline-offset:-1px;margin:.15rem 0}
 table{border-collapse:collapse;width:100%;margin-top:.6rem}
 th{text-align:left;color:var(--soft);font-weight:400}
@@ -82,7 +86,7 @@ main{padding:0;max-width:none}
 .draw{overflow:visible}
 .draw svg{max-width:100%;height:auto;zoom:.75}
 h2{break-after:avoid}
-details:not([open])>summary::after{content:\" \\00B7 folded\";color:var(--soft);font-size:.85rem}
+details:not([open])>summary .w::after,.run:not([open])>summary::after{content:\" \\00B7 folded\";color:var(--soft);font-size:.85rem}
 .draw svg{max-height:225mm;width:auto}
 bdi.long{white-space:normal;max-width:none}
 }
@@ -95,7 +99,7 @@ pub(super) const FORM: &str = "\
 .blanks span{flex:1 1 12rem;display:flex;align-items:baseline;gap:.5rem}
 .blanks span::after{content:\"\";flex:1;border-bottom:1px solid var(--ink)}
 .form .e{padding:.35rem .4rem}
-.form li>.e::before{content:\"\";flex:none;width:1.05rem;height:1.05rem;margin-right:.1rem;border:1.5px solid var(--ink);border-radius:.15rem;align-self:center}
+.form li>.e::before,.form details>summary .e::before{content:\"\";flex:none;width:1.05rem;height:1.05rem;margin-right:.1rem;border:1.5px solid var(--ink);border-radius:.15rem;align-self:center}
 .form li>.e::after{content:\"\";flex:none;width:clamp(3.5rem,16vw,9rem);border-bottom:1px solid var(--soft);align-self:end}
 .form summary .e{font-weight:600}
 .form .k{display:none}

@@ -38,7 +38,7 @@ fn a_near_word_is_suggested() {
         ),
         (
             &["normal", "d", "--html", "p"],
-            "normal has no option '--html'; show, fit, compare, keep, narrowest, catalogue, hierarchy, delivered, doubles has",
+            "normal has no option '--html'; show, fit, compare, keep, missing, narrowest, catalogue, hierarchy, delivered, desk, doubles has",
         ),
         (&["judge"], "there is no command 'judge'\n"),
         (

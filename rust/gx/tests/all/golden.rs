@@ -335,6 +335,7 @@ fn what_is_folded_is_told_on_paper() {
     );
     let page = String::from_utf8(folder.get("page")).unwrap();
     let paper = page.split_once("@media print{").unwrap().1;
-    assert!(paper.contains("details:not([open])>summary::after{content:\" \\00B7 folded\""));
+    let folded = "details:not([open])>summary .w::after,.run:not([open])>summary::after{content:\" \\00B7 folded\"";
+    assert!(paper.contains(folded));
     assert!(paper.contains(".draw svg{max-height:225mm"));
 }

@@ -43,6 +43,12 @@ no item fits both: the supplier's contradicts 1 of 2 entries
   + 1  at most 0 link 1
     2  has property 9
 
+Of the supplier's description these contradict them:
+
+    1  every link 1
+    2      has property 7
+  + 3  at least 1 link 1
+
 One such set, of which none can be left out; leaving out was tried from the last.
 ";
 
@@ -74,8 +80,41 @@ fn nothing_to_add_and_nothing_that_can_be() {
     is(
         &ran,
         1,
-        "{\"answer\":\"no item fits both\",\"missing\":[1]}\n",
+        "{\"answer\":\"no item fits both\",\"against\":[3],\"missing\":[1]}\n",
     );
+}
+
+/// The page has the supplier's description with the addition in its places, or both with what contradicts.
+#[test]
+fn on_a_page() {
+    let folder = desk("missing-page");
+    let page = |c: &str, d: &str| {
+        folder.gx(&["missing", c, d, "--html", "page"]);
+        String::from_utf8(folder.get("page")).unwrap()
+    };
+    let added = page("c", "d");
+    assert!(added.contains("</span> 1 entry to add</h1>"), "{added}");
+    // It stands below the supplier's 'every', which has no other.
+    let (before, after) = added.split_once("<li id=\"supplier-4\">").unwrap();
+    assert!(before.ends_with("has property 7</span></span></li>\n"));
+    assert!(after.starts_with("<span class=\"e added\"><span class=\"n\">4</span><span class=\"w\"><b>at least 2 items by link 2</b>"));
+    assert!(after.contains("added: <a href=\"#service-2\">entry 2</a> of the service’s"));
+    assert_eq!(added.matches(">to be added</span>").count(), 1);
+    let against = page("c", "e");
+    assert!(against.contains(" No item fits both</h1>"));
+    assert_eq!(
+        against.matches(">contradicts the service’s</span>").count(),
+        1
+    );
+    assert_eq!(
+        against
+            .matches(">contradicts the supplier’s</span>")
+            .count(),
+        1
+    );
+    let none = page("d", "c");
+    assert!(none.contains(" Nothing to add</h1>"));
+    assert!(!none.contains("to be added"));
 }
 
 /// Named entries are unfolded, pairs count, and many services get a line each.
