@@ -202,7 +202,7 @@ fn leading(entries: &[Entry], way: &[Link]) -> Vec<usize> {
 }
 
 /// The entries at a place that speak of the same property or link, and their numbers.
-fn on_subject(entries: &[Entry], way: &[Link], says: Says) -> (Vec<Says>, Vec<usize>) {
+pub(crate) fn on_subject(entries: &[Entry], way: &[Link], says: Says) -> (Vec<Says>, Vec<usize>) {
     let tree = Tree::new(entries);
     let ends = places(entries, &tree, way);
     let numbers = ends.iter().flat_map(|&end| tree.owned(end)).copied();

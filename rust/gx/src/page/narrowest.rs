@@ -1,12 +1,15 @@
 //! The page of the narrowest description that contains two: the first, the result and the second side by side.
 
 use super::description::{listing, Marks};
-use super::{filed, framed, given, readback, settled, where_kept};
+use super::{filed, framed, given, marked, readback, settled, where_kept};
+use crate::entry::{Entry, Says};
+use crate::explain::on_subject;
 use crate::given::Given;
 use crate::input::Input;
 use crate::names::Names;
 use crate::pairs::List;
 use crate::shown::file_name;
+use crate::tree::{owners, places, way, Tree};
 use crate::trouble::Trouble;
 use crate::words::Words;
 
@@ -22,9 +25,11 @@ pub struct Lead {
 pub struct Joined<'a> {
     /// The two descriptions.
     pub inputs: [&'a Input; 2],
+    /// Their normal forms.
+    pub normal: &'a [Vec<Entry>; 2],
     /// The narrowest that contains both.
     pub result: &'a Input,
-    /// What each entry of the result comes from; none where it has too many.
+    /// What each entry of the result comes from.
     pub leads: &'a [Lead],
     /// For each entry of the two whether the result does not say it.
     pub given_up: [&'a [bool]; 2],
@@ -83,14 +88,51 @@ pub fn narrowest(of: Joined<'_>) -> Result<String, Trouble> {
 const FOOTER: &str = "<p>The description, and which entries it gives up, are answers of the proved library; this page words them. Behind an \
 entry stands what it comes from: entries of either that earn it.</p>\n";
 
-/// What the result gives up of one of the two is grey, with the reason.
+/// What the result gives up of one of the two is grey, with the reason; the places of it are open, but where the other says nothing at all.
 fn side_marks(of: Joined<'_>, side: usize) -> Marks {
-    let other = filed(&of.inputs[1 - side].title);
-    let numbered = (1..).zip(of.given_up[side]).filter(|(_, &gone)| gone);
-    let note = |(entry, _)| (entry, (" gone", format!("{other} does not say it")));
+    let this = of.inputs[side];
+    let mut marks = Marks::default();
+    for (entry, _) in (1..).zip(of.given_up[side]).filter(|(_, &gone)| gone) {
+        let reason = reason(of, side, entry);
+        marks.notes.insert(entry, (" gone", reason));
+        marks.open.extend(owners(&this.entries, entry));
+    }
+    let closed =
+        |owner: &usize| matches!(marks.notes.get(owner), Some((_, reason)) if !reason.is_empty());
+    let open = marks.open.iter().copied().filter(|owner| !closed(owner));
     Marks {
-        notes: numbered.map(note).collect(),
-        ..Marks::default()
+        open: open.collect(),
+        ..marks
+    }
+}
+
+/// Why an entry of this description is given up: the other does not say it, and what that says instead.
+fn reason(of: Joined<'_>, side: usize, entry: usize) -> String {
+    let (this, other) = (&of.inputs[side].entries, &of.normal[1 - side]);
+    let (says, mut way) = (this[entry - 1].says(), way(this, entry));
+    let file = filed(&of.inputs[1 - side].title);
+    if let Says::Every(link) = says {
+        way.push(link);
+        let there = places(other, &Tree::new(other), &way);
+        return match there.is_empty() {
+            true => format!("{file} says nothing there"),
+            false => String::new(),
+        };
+    }
+    let (of_same, _) = on_subject(other, &way, says);
+    let instead = of_same.into_iter().find(|other| is_instead(says, *other));
+    let instead = instead.map(|instead| marked(&Words::apart(of.names).says(instead)));
+    let but = instead.map_or(String::new(), |instead| format!(", but {instead}"));
+    format!("{file} does not say it{but}")
+}
+
+/// Whether an entry says something else of what another speaks of: another bound of the same side, or the opposite of a property.
+fn is_instead(says: Says, other: Says) -> bool {
+    use Says::{AtLeast, AtMost, Has, Lacks};
+    match (says, other) {
+        (AtLeast(_, n), AtLeast(_, m)) | (AtMost(_, n), AtMost(_, m)) => n != m,
+        (Has(_), Lacks(_)) | (Lacks(_), Has(_)) => true,
+        _ => false,
     }
 }
 

@@ -45,9 +45,51 @@ every link 1 [
     assert_eq!(out, "3,1,2; 5,1 [1,7; 4,2,6]\n");
     let page = String::from_utf8(folder.get("page")).unwrap();
     // 'has property 9' and 'has property 5' of the first, 'lacks property 8' of the second; and the closer bounds.
-    assert_eq!(page.matches("<bdi>b</bdi> does not say it").count(), 3);
-    assert_eq!(page.matches("<bdi>a</bdi> does not say it").count(), 2);
+    assert_eq!(page.matches("<bdi>b</bdi> does not say it<").count(), 2);
+    assert_eq!(page.matches("<bdi>a</bdi> does not say it<").count(), 1);
+    assert!(page.contains("<bdi>b</bdi> does not say it, but at most 6 items by link 2<"));
+    assert!(page.contains("<bdi>a</bdi> does not say it, but at least 2 items by link 1<"));
     assert!(page.contains("from <a href=\"#first-3\">3</a> and <a href=\"#second-3\">3</a>"));
+    // An 'every' leads to those of the same place.
+    assert!(page.contains("from <a href=\"#first-2\">2</a> and <a href=\"#second-2\">2</a>"));
+}
+
+/// On a page of many entries each of the result has what it comes from, and the places of what is given up are open.
+#[test]
+fn a_page_of_many_entries() {
+    let folder = Folder::new("narrowest-many");
+    let side = |gone: u16| {
+        let place = |link: u16| {
+            let has: Vec<String> = (1..=40)
+                .map(|name| format!("1,{}", 100 * link + name))
+                .collect();
+            format!("5,{link} [{}]", has.join("; "))
+        };
+        let places: Vec<String> = (1..=10).map(place).collect();
+        format!("{}; 5,{gone} [1,7]", places.join("; "))
+    };
+    folder.put("a", side(1)).put("b", side(20));
+    let ran = folder.gx(&["narrowest", "a", "b", "--html", "page"]);
+    assert_eq!(ran.status, 0, "{}", ran.err);
+    let page = String::from_utf8(folder.get("page")).unwrap();
+    assert_eq!(page.matches(">from <a href=\"#first-").count(), 410);
+    assert!(page.contains("<li id=\"first-411\"><details open>"));
+    assert!(page.contains("<bdi>b</bdi> does not say it<"));
+    assert!(page.contains("<li id=\"second-411\"><details>"));
+    assert!(page.contains("<bdi>a</bdi> says nothing there<"));
+}
+
+#[test]
+fn too_much_together() {
+    let folder = Folder::new("narrowest-much");
+    let many = |entries: u16| {
+        let all: Vec<String> = (1..=entries).map(|name| format!("1,{name}")).collect();
+        all.join("; ")
+    };
+    folder.put("a", many(504)).put("b", many(505));
+    let ran = folder.gx(&["narrowest", "a", "b"]);
+    let due = "gx: b: refused 1: both descriptions together have more than 16 blocks\n";
+    assert_eq!((ran.status, ran.err.as_str()), (2, due));
 }
 
 /// Where nothing fits an input the result is the other, which is told above it; for programs by its number.
