@@ -124,6 +124,9 @@ impl<'a> Line<'a> {
         if self.command == Command::Desk && count == 0 {
             return Err("desk takes the file of a desk".into());
         }
+        if self.command == Command::Desk && self.files[0].as_os_str() == "-" {
+            return Err("a desk is a file; its steps are read from standard input".into());
+        }
         let catalogue = self.command == Command::Owl && count > 2;
         if self.command.takes_pair() && count != 2 && !catalogue {
             return Err(format!("{word} takes two inputs, and {given}"));

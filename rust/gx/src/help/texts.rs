@@ -165,8 +165,8 @@ A drafting desk: the file is its bytes, and where there is none the desk is empt
     write                the description, in the form of --to, into --out
 Without one, steps are read from standard input, a line each. Each is one call of the library; what it refuses alters nothing (16 full, 17
 none to take off, 18 no such stand, 4, 5 and 6 as of any entry). The file is written whole or not at all, FILE~ has the desk before, and
-while somebody works at it FILE.lock is there. --against tells after each step which services of a folder contain the draft. A file that
-holds no desk is refused (20).
+while somebody works at it FILE.lock is there. --against tells after each step which services of a folder contain the draft. --html writes
+a page with the draft, these services, and what each stand keeps. A file that holds no desk is refused (20).
 ";
 
 const DOUBLES: &str = "\

@@ -4,14 +4,15 @@
 mod all;
 mod delivered;
 mod description;
+mod desk;
 mod doubles;
 mod fitting;
 mod folds;
 mod hierarchy;
 mod index;
 mod kept;
-mod narrowest;
 mod missing;
+mod narrowest;
 mod readback;
 mod shown;
 mod specimen;
@@ -33,14 +34,15 @@ use crate::words::{self, Words, APART};
 use description::{listing, Marks};
 
 pub use delivered::{delivered, Checked};
+pub use desk::{drafted, Drafted};
 pub use doubles::{doubles, Meaning};
 pub use fitting::{fitting, Fitting};
 pub use hierarchy::hierarchy;
 pub use index::{index, Row};
 pub use kept::{kept, Kept};
+pub use missing::{missing, Lacking};
 pub use narrowest::{narrowest, Joined, Lead};
 pub use shown::{shown, text as shown_text, Shown};
-pub use missing::{missing, Lacking};
 
 /// What a page of a comparison is made of.
 #[derive(Clone, Copy, Debug)]

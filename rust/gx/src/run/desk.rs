@@ -1,7 +1,7 @@
 //! The run of a drafting desk: steps on a file that is its bytes, from the command line or from standard input.
 
 use std::fs::{self, OpenOptions};
-use std::io::{self, BufRead};
+use std::io::{self, BufRead, IsTerminal};
 use std::path::{Path, PathBuf};
 
 use super::print::{complain, printed};
@@ -13,9 +13,10 @@ use crate::commands::Status;
 use crate::dictionary::Naming;
 use crate::draft::{asked, stands, Asked};
 use crate::entry::{Entry, Sort};
-use crate::input::{named, unreadable};
+use crate::input::{named, not_refused, title, unreadable, Input};
 use crate::json::Json;
-use crate::library::{self, Compared, Desk, Reason, Refusal, Step};
+use crate::library::{self, Desk, Reason, Refusal, Step, MOST_SERVICES};
+use crate::page::{self, Drafted};
 use crate::refused;
 use crate::text::{self, Numbers};
 use crate::trouble::{Refused, Trouble};
@@ -27,6 +28,8 @@ struct Kept<'a> {
     desk: Desk,
     /// The services that the draft is compared with after each step.
     against: Vec<(String, Vec<u8>)>,
+    /// How reading these ended.
+    read: Status,
 }
 
 /// The file that is there while a desk is worked at.
@@ -48,22 +51,39 @@ impl Run {
         let (_lock, mut kept) = match begun {
             Ok(begun) => begun,
             Err(trouble) => {
-                self.print_trouble(&trouble, true);
+                let of_file = matches!(trouble, Trouble::File { .. });
+                self.print_trouble(&trouble, of_file);
                 return trouble.status().code();
             }
         };
-        if !step.is_empty() {
-            let words: Vec<String> = step.iter().map(|word| word.display().to_string()).collect();
-            return self.desk_line(&mut kept, &words.join(" ")).code();
+        let said = match step {
+            [] => self.desk_lines(&mut kept),
+            _ => {
+                let words: Vec<String> =
+                    step.iter().map(|word| word.display().to_string()).collect();
+                self.desk_line(&mut kept, &words.join(" "))
+            }
+        };
+        let paged = self.paged(&kept).unwrap_or_else(|trouble| {
+            self.print_trouble(&trouble, true);
+            trouble.status()
+        });
+        said.max(paged).max(kept.read).code()
+    }
+
+    /// The steps of standard input, line by line.
+    fn desk_lines(&self, kept: &mut Kept<'_>) -> Status {
+        if io::stdin().is_terminal() {
+            complain("gx: reads steps, a line each; Ctrl-D ends it, and gx desk --help tells which there are\n");
         }
         let mut worst = Status::Yes;
         for line in io::stdin().lock().lines() {
             let Ok(line) = line else { break };
             if !line.trim().is_empty() {
-                worst = worst.max(self.desk_line(&mut kept, &line));
+                worst = worst.max(self.desk_line(kept, &line));
             }
         }
-        worst.code()
+        worst
     }
 
     /// The desk of a file; where there is none, the empty one.
@@ -73,22 +93,34 @@ impl Run {
             Err(error) if error.kind() == io::ErrorKind::NotFound => Desk::new(),
             Err(error) => return Err(unreadable(file, &error)),
         };
-        let mut against = Vec::new();
-        if let Some(folder) = &self.options().against {
-            let (services, _) = self.services(std::slice::from_ref(folder))?;
-            for service in &services {
-                let input = self
-                    .context
-                    .each_alone(std::slice::from_ref(service))
-                    .remove(0)?;
-                against.push((service.told(), blocks::encode(&input.entries)));
-            }
-        }
-        Ok(Kept {
+        let mut kept = Kept {
             file,
             desk,
-            against,
-        })
+            against: Vec::new(),
+            read: Status::Yes,
+        };
+        held(&kept)?;
+        self.read_against(&mut kept)?;
+        Ok(kept)
+    }
+
+    /// The services that the draft is compared with. One that is refused is told, and stops none of the others.
+    fn read_against(&self, kept: &mut Kept<'_>) -> Result<(), Trouble> {
+        let Some(folder) = &self.options().against else {
+            return Ok(());
+        };
+        let (services, worst) = self.services(std::slice::from_ref(folder))?;
+        kept.read = worst;
+        for (service, read) in services.iter().zip(self.context.each_alone(&services)) {
+            match read {
+                Ok(input) => {
+                    let blocks = blocks::encode(&input.entries);
+                    kept.against.push((service.told(), blocks));
+                }
+                Err(trouble) => kept.read = kept.read.max(self.passed_over(&trouble)),
+            }
+        }
+        Ok(())
     }
 
     fn desk_line(&self, kept: &mut Kept<'_>, line: &str) -> Status {
@@ -147,13 +179,55 @@ impl Run {
             dictionary: &[],
             ..self.context.background.under()
         };
-        let answer = |(name, service): &(String, Vec<u8>)| {
-            let compared = library::compare(under, &draft, service);
-            compared.map(|answer| (name.clone(), answer == Compared::Contained))
+        let mut answers = Vec::new();
+        for called in kept.against.chunks(MOST_SERVICES) {
+            let services: Vec<&[u8]> = called.iter().map(|(_, service)| &service[..]).collect();
+            let contain = library::catalogue(under, &draft, &services);
+            let contain = contain.map_err(|refusal| not_refused(kept.file, refusal))?;
+            let names = called.iter().map(|(name, _)| name.clone());
+            answers.extend(names.zip(contain));
+        }
+        Ok(answers)
+    }
+
+    /// Writes the page of what the desk holds, where one is asked for.
+    fn paged(&self, kept: &Kept<'_>) -> Result<Status, Trouble> {
+        let Some(path) = &self.options().html else {
+            return Ok(Status::Yes);
         };
-        let answers: Result<Vec<(String, bool)>, Refusal> =
-            kept.against.iter().map(answer).collect();
-        answers.map_err(|refusal| crate::input::not_refused(kept.file, refusal))
+        let mut kept_there = Vec::new();
+        for (stand, _) in stands(kept.desk.bytes()) {
+            // What a stand keeps is what a desk that goes back to it holds.
+            let mut desk = kept.desk.clone();
+            let back = library::step(&mut desk, Step::Back(stand));
+            back.map_err(|refusal| refused_step(kept, Step::Back(stand), refusal))?;
+            let there = library::held(&desk);
+            let there = there.map_err(|refusal| refused_step(kept, Step::Back(stand), refusal))?;
+            kept_there.push((stand, self.on_desk(kept, there)));
+        }
+        let page = page::drafted(Drafted {
+            draft: &self.on_desk(kept, held(kept)?),
+            stands: &kept_there,
+            against: &self.compared(kept)?,
+            list: &self.context.background.list,
+            given: &self.context.given,
+        })?;
+        store(path, page.as_bytes()).map(|()| Status::Yes)
+    }
+
+    /// A description that a desk holds, or that one of its stands keeps.
+    fn on_desk(&self, kept: &Kept<'_>, blocks: Vec<u8>) -> Input {
+        let entries = library::entries(&blocks);
+        Input {
+            title: title(kept.file),
+            sort: Sort::Description,
+            sent: entries.len(),
+            entries,
+            bytes: blocks,
+            names: self.context.reading.names.clone(),
+            positions: Vec::new(),
+            origins: Vec::new(),
+        }
     }
 
     /// What the desk holds as text, and its stands.
@@ -179,15 +253,15 @@ impl Run {
         let blocks = held(kept)?;
         let entries = library::entries(&blocks);
         let names = &self.context.reading.names;
-        let bytes = match self.options().to.unwrap_or(To::Text) {
-            To::Text => {
-                text::text(Sort::Description, &entries, names, Numbers::WhereNeeded).into_bytes()
-            }
-            To::Desk => (text::desk(Sort::Description, &entries) + "\n").into_bytes(),
-            To::Blocks => blocks,
-            To::Stored => library::to_stored(&blocks)
-                .map_err(|refusal| crate::input::not_refused(kept.file, refusal))?,
-        };
+        let bytes =
+            match self.options().to.unwrap_or(To::Text) {
+                To::Text => text::text(Sort::Description, &entries, names, Numbers::WhereNeeded)
+                    .into_bytes(),
+                To::Desk => (text::desk(Sort::Description, &entries) + "\n").into_bytes(),
+                To::Blocks => blocks,
+                To::Stored => library::to_stored(&blocks)
+                    .map_err(|refusal| not_refused(kept.file, refusal))?,
+            };
         match &self.options().out {
             Some(out) => store(out, &bytes).map(|()| Status::Yes),
             None => Ok(self.printed(&bytes, Status::Yes)),

@@ -139,6 +139,49 @@ fn limits() {
     assert_eq!(folder.gx(&["desk"]).status, 64);
 }
 
+/// The page has the draft, the services that contain it and what each stand keeps; of a file that is no desk it says so.
+#[test]
+fn on_a_page() {
+    let folder = Folder::new("desk-page");
+    std::fs::create_dir(folder.path().join("services")).unwrap();
+    folder
+        .put("services/a.txt", "1,7")
+        .put("services/b.txt", "1,9")
+        .put("services/wrong.txt", "1,0");
+    let with = ["desk", "d", "--against", "services", "--html", "page"];
+    let ran = folder.gx_with(&with, b"add 1,7\nstand 4\nadd 1,8\n");
+    // A service that is refused is told, and stops none of the others.
+    assert!(
+        ran.err.starts_with("gx: services/wrong.txt: refused 4: "),
+        "{}",
+        ran.err
+    );
+    assert_eq!(
+        (ran.status, ran.text().matches("a.txt: contained").count()),
+        (2, 3)
+    );
+    let page = String::from_utf8(folder.get("page")).unwrap();
+    for due in [
+        "<h1 id=\"answer\">2 entries on the desk</h1>",
+        "with stand 4 to return to.",
+        "<h2>1 of 2 services contain it</h2>",
+        "<td><bdi>b.txt</bdi></td><td>does not contain it</td>",
+        "<li id=\"draft-2\">",
+        "<h2 id=\"stand-4\">",
+        "<li id=\"stand-4-1\">",
+    ] {
+        assert!(page.contains(due), "{due}");
+    }
+    assert!(!page.contains("<li id=\"stand-4-2\">"));
+    folder.put("d", &folder.get("d")[..100]);
+    let ran = folder.gx(&["desk", "d", "show", "--html", "page"]);
+    assert_eq!(ran.status, 2);
+    assert!(String::from_utf8(folder.get("page"))
+        .unwrap()
+        .contains("Refused</h1>"));
+    assert_eq!(folder.gx(&["desk", "-", "show"]).status, 64);
+}
+
 #[test]
 fn against_a_folder() {
     let folder = Folder::new("desk-against");
