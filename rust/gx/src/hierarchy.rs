@@ -117,7 +117,7 @@ impl Hierarchy {
             let superiors = self
                 .superiors(service)
                 .map(|other| self.names[other].as_str());
-            let superiors = cell(&superiors.collect::<Vec<&str>>().join(" "));
+            let superiors = cell(&superiors.collect::<Vec<&str>>().join(";"));
             let class = cell(&self.names[self.ranked.classes[service]]);
             let row = self.ranked.table[service].iter();
             let row: Vec<&str> = row.map(|&in_it| if in_it { "1" } else { "0" }).collect();

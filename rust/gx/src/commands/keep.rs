@@ -2,7 +2,7 @@
 
 use std::path::Path;
 
-use super::{words_of, Answer, Context, Extra, Status, Written};
+use super::{compare, words_of, Answer, Context, Extra, Status, Written};
 use crate::entry::{Entry, Sort};
 use crate::input::{named, not_refused, Input};
 use crate::json::Json;
@@ -55,7 +55,7 @@ pub(super) fn keep(context: &Context, c: &Path, d: &Path) -> Result<Answer, Trou
     let pairs = context.background.under().pairs;
     let marks = library::earning(pairs, &supplier.entries, &service.entries);
     let Some(marks) = marks.map_err(|refusal| not_refused(d, refusal))? else {
-        return Ok(nothing_earns(&names));
+        return nothing_earns(context, supplier, service, d);
     };
     let kept = cut_down(&supplier.entries, &marks);
     still_contained(context, (&kept, &service.entries), d)?;
@@ -94,9 +94,16 @@ fn earning(marks: &[bool], supplier: &Input, shown: &str) -> Answer {
     }
 }
 
-fn nothing_earns(names: &Names) -> Answer {
+/// A no, of which the page is that of the comparison.
+fn nothing_earns(
+    context: &Context,
+    supplier: Input,
+    service: Input,
+    d: &Path,
+) -> Result<Answer, Trouble> {
     let line = "not contained: no entry earns a yes".to_string();
-    let answer = Answer {
+    let compared = compare::of_inputs(context, supplier, service, d)?;
+    Ok(Answer {
         status: Status::No,
         full: format!("{line}\n\ngx compare tells why.\n").into_bytes(),
         line,
@@ -105,10 +112,8 @@ fn nothing_earns(names: &Names) -> Answer {
             ("answer", Json::text("not contained")),
             ("earning", Json::List(Vec::new())),
         ],
-        extras: Vec::new(),
-        notes: Vec::new(),
-    };
-    answer.noted(names)
+        ..compared
+    })
 }
 
 /// An error of this program where the library does not find these entries contained.

@@ -133,11 +133,12 @@ each class. Services that say the same are one class, with '=' between their nam
 first of them, and 'also below' names the others. Services are files, folders of files, or one file that is a list, as for gx
 catalogue. More than 64 are refused (8), and so is the whole where one of them is: what is missing could stand between two others.
 With --pairs the order is that among the records that keep the list. With --dictionary named entries are unfolded first.
---csv writes a row for each service: its class, by the first service of it, its direct superiors, and a column for each service with
-1 where that contains it, else 0. --dot writes a graph for Graphviz, in which each class leads up to those directly above. --owl
+--csv writes a row for each service: its class, by the first service of it, its direct superiors, with ';' between them, and a column
+for each service with 1 where that contains it, else 0. --dot writes a graph for Graphviz, in which each class leads up to those directly above. --owl
 writes an ontology in OWL 2 functional syntax: a class for each service with its definition, and what was found, SubClassOf for each
 direct superior and EquivalentClasses for services that say the same, so that a reasoner finds no class elsewhere. --svg
-draws the classes in layers, --html writes a page with the tree, the drawing, and of each class what stands above and below it.
+draws the classes in layers, --html writes a page with the tree, the drawing, and of each service what stands above and below it and
+what says the same.
 ";
 
 const DELIVERED: &str = "\

@@ -1,4 +1,4 @@
-//! The page of a hierarchy: the tree, the drawing, and of each class what stands above and below it.
+//! The page of a hierarchy: the tree, the drawing, and of each service what stands above and below it and what says the same.
 
 use super::{filed, framed, given, where_kept};
 use crate::given::Given;
@@ -24,8 +24,9 @@ pub fn hierarchy(hierarchy: &Hierarchy, list: &List, under: &Given) -> String {
         true => body.push_str(&format!("{tree}{drawing}")),
         false => body.push_str(&format!("{drawing}{tree}")),
     }
-    for class in 0..hierarchy.classes.len() {
-        body.push_str(&section(hierarchy, class));
+    for (class, of) in hierarchy.classes.iter().enumerate() {
+        let sections = of.members.iter().map(|&of| section(hierarchy, class, of));
+        body.extend(sections);
     }
     body.push_str(&format!("<footer>\n{FOOTER}{}</footer>\n", given(under)));
     framed(&format!("Hierarchy: {counted}"), &body)
@@ -44,13 +45,17 @@ fn drawing(hierarchy: &Hierarchy) -> String {
     )
 }
 
-/// The names of a class, which lead to its section.
+/// The names of a class, each of which leads to the section of its service.
 fn link(hierarchy: &Hierarchy, class: usize) -> String {
-    let members = hierarchy.classes[class].members.iter();
-    let names: Vec<String> = members
-        .map(|&member| filed(&hierarchy.names[member]))
-        .collect();
-    format!("<a href=\"#class-{}\">{}</a>", class + 1, names.join(" = "))
+    let members = &hierarchy.classes[class].members;
+    let names: Vec<String> = members.iter().map(|&of| service(hierarchy, of)).collect();
+    names.join(" = ")
+}
+
+/// The name of a service, which leads to its section.
+fn service(hierarchy: &Hierarchy, of: usize) -> String {
+    let name = filed(&hierarchy.names[of]);
+    format!("<a href=\"#service-{}\">{name}</a>", of + 1)
 }
 
 fn links(hierarchy: &Hierarchy, classes: &[usize]) -> String {
@@ -99,24 +104,24 @@ fn tree(hierarchy: &Hierarchy) -> String {
     out
 }
 
-/// What stands above and below a class.
-fn section(hierarchy: &Hierarchy, class: usize) -> String {
+/// What stands above and below a service of a class, and which others say the same. The first one's section is that of the class.
+fn section(hierarchy: &Hierarchy, class: usize, member: usize) -> String {
     let of = &hierarchy.classes[class];
-    let first = filed(&hierarchy.names[of.members[0]]);
-    let same: Vec<String> = of
-        .members
-        .iter()
-        .skip(1)
-        .map(|&member| filed(&hierarchy.names[member]))
-        .collect();
+    let others = of.members.iter().filter(|&&other| other != member);
+    let same: Vec<String> = others.map(|&other| service(hierarchy, other)).collect();
     let same = match same.is_empty() {
         true => String::new(),
         false => format!("<dt>Says the same</dt><dd>{}</dd>\n", same.join(", ")),
     };
+    let id = match of.members[0] == member {
+        true => format!(" id=\"class-{}\"", class + 1),
+        false => String::new(),
+    };
     format!(
-        "<section class=\"card\" id=\"class-{}\">\n<h2>{first}</h2>\n<dl class=\"why\">\n{same}<dt>Directly above</dt><dd>{}</dd>\n\
+        "<section class=\"card\"{id}>\n<h2 id=\"service-{}\">{}</h2>\n<dl class=\"why\">\n{same}<dt>Directly above</dt><dd>{}</dd>\n\
          <dt>Directly below</dt><dd>{}</dd>\n</dl>\n</section>\n",
-        class + 1,
+        member + 1,
+        filed(&hierarchy.names[member]),
         links(hierarchy, &of.above),
         links(hierarchy, &of.below)
     )

@@ -1,6 +1,7 @@
 //! The page that leads to the pages of a folder: a table of all answers.
 
 use super::{filed, framed, given};
+use crate::args::Command;
 use crate::commands::Status;
 use crate::given::Given;
 use crate::shown::file_name;
@@ -43,8 +44,19 @@ impl Row {
     }
 }
 
+/// What a yes and a no of a command are called; no second where it has no no.
+fn called(command: Command) -> (&'static str, Option<&'static str>) {
+    match command {
+        Command::Fit | Command::Delivered => ("fit", Some("do not")),
+        Command::Missing => ("can be met", Some("cannot")),
+        Command::Show => ("shown", None),
+        Command::Narrowest => ("written", None),
+        _ => ("contained", Some("not")),
+    }
+}
+
 /// The page of these answers for one description, or for many where that has no name.
-pub fn index(supplier: &str, rows: &[Row], under: &Given) -> String {
+pub fn index(command: Command, supplier: &str, rows: &[Row], under: &Given) -> String {
     let count = |status: Status| rows.iter().filter(|row| row.status == status).count();
     let (yes, no) = (count(Status::Yes), count(Status::No));
     let bad = rows.len() - yes - no;
@@ -52,10 +64,15 @@ pub fn index(supplier: &str, rows: &[Row], under: &Given) -> String {
         true => String::new(),
         false => format!(" of {}", filed(supplier)),
     };
-    let title = format!("{} answers: {yes} contained", rows.len());
+    let (is, is_not) = called(command);
+    let mut says = format!("{yes} {is}");
+    says.extend(is_not.map(|is_not| format!(", {no} {is_not}")));
+    if bad > 0 {
+        says.push_str(&format!(", {bad} without an answer"));
+    }
+    let title = format!("{}: {yes} {is}", counted(rows.len()));
     let mut body = format!(
-        "<header class=\"answer\">\n<h1 id=\"answer\">{yes} contained, {no} not{}</h1>\n<p>{}{of}.</p>\n</header>\n",
-        if bad > 0 { format!(", {bad} without an answer") } else { String::new() },
+        "<header class=\"answer\">\n<h1 id=\"answer\">{says}</h1>\n<p>{}{of}.</p>\n</header>\n",
         counted(rows.len())
     );
     let rows: String = rows.iter().map(Row::html).collect();

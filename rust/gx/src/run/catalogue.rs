@@ -178,7 +178,7 @@ impl Run {
         let Some(folder) = &self.options().html else {
             return Ok(());
         };
-        let page = crate::page::index(supplier, rows, &self.context.given);
+        let page = crate::page::index(self.command, supplier, rows, &self.context.given);
         let path = folder.join("index.html");
         match rows.iter().any(|row| row.page == "index.html") {
             true => Err(Trouble::Unwritten {

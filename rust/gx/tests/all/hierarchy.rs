@@ -303,8 +303,8 @@ fn the_drawing() {
             }
         }
         let page = String::from_utf8(folder.get("page")).unwrap();
-        for class in page.match_indices("href=\"#class-") {
-            let id = page[class.0 + 7..].split_once('"').unwrap().0;
+        for link in page.match_indices("href=\"#") {
+            let id = page[link.0 + 7..].split_once('"').unwrap().0;
             assert!(page.contains(&format!("id=\"{id}\"")), "{id}");
         }
         let opened = page.matches("<ul>").count() + page.matches("<li>").count();

@@ -14,6 +14,9 @@ any.txt,any.txt,,0,1,0
 left.txt,left.txt,any.txt,1,1,1
 ";
     is(&ran, 0, due);
+    let ran = folder.gx(&["hierarchy", "services", "--csv"]);
+    let due = "\nboth.txt,both.txt,left.txt;right.txt,1,1,1,0,1,1\n";
+    assert!(ran.text().contains(due), "{}", ran.text());
     let ran = folder.gx(&[&["hierarchy", "--dot"], &files[..]].concat());
     let due = "\
 digraph hierarchy {

@@ -52,9 +52,13 @@ fn what_earns_a_yes() {
         (ran.status, folder.get("kept")),
         (0, b"5,1 [1,7; 3,2,3]\n".to_vec())
     );
-    let ran = folder.gx(&["keep", "c", "e"]);
+    let ran = folder.gx(&["keep", "c", "e", "--html", "page"]);
     let due = "not contained: no entry earns a yes\n\ngx compare tells why.\n";
     is(&ran, 1, due);
+    // The page is that of the comparison.
+    let page = folder.get("page");
+    folder.gx(&["compare", "c", "e", "--html", "page"]);
+    assert_eq!(folder.get("page"), page);
     // The comparison tells it too.
     let ran = folder.gx(&["compare", "c", "d"]);
     let due = "\nOf its 5 entries 3 earn it: 1, 2 and 3. One such set, of which none can be left out; leaving out was tried from the last.\n";

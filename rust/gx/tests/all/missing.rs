@@ -134,6 +134,15 @@ fn pairs_a_dictionary_and_folders() {
     let due = "a.txt: nothing to add: contained\nb.txt: to be added: 2 of 2 entries\n\
                c.txt: no item fits both: the supplier's contradicts 1 of 1 entry\n";
     is(&ran, 1, due);
+    let ran = folder.gx(&[
+        &["missing", "named", "services", "--html", "pages"],
+        &with[..],
+    ]
+    .concat());
+    is(&ran, 1, due);
+    let index = String::from_utf8(folder.get("pages/index.html")).unwrap();
+    assert!(index.contains("<h1 id=\"answer\">2 can be met, 1 cannot</h1>"));
+    assert!(index.contains("<a href=\"./b.txt.html\">"));
 }
 
 #[test]

@@ -137,6 +137,8 @@ fn each_answer_for_programs_is_one_of_the_schema() {
         .put("f", "has property 8 \"b\"")
         .put("s", "specimen\ngroup of 2 sample [has sealed]")
         .put("t", "at least 3 sample")
+        .put("g", "lacks sealed")
+        .put("nothing", "nothing fits")
         .put(
             "record",
             "record of 2 items\nitem 1 sample item 2\nitem 2 has property 9",
@@ -172,12 +174,12 @@ fn each_answer_for_programs_is_one_of_the_schema() {
         &["keep", "c", "d"],
         &["missing", "c", "d"],
         &["missing", "d", "d"],
-        &["delivered", "record", "d"],
-        &["check", "record"],
         &["missing", "services/a", "g"],
         &["narrowest", "c", "d"],
         &["narrowest", "g", "nothing"],
         &["check", "--sheet", "d"],
+        &["delivered", "record", "d"],
+        &["check", "record"],
         &["desk", "desk", "add", "1,7", "--against", "services"],
         &["desk", "desk", "show"],
         &["doubles", "c", "d", "c"],
@@ -209,6 +211,12 @@ fn each_answer_for_programs_is_one_of_the_schema() {
         "contained",
         "written",
         "hierarchy",
+        "narrowest",
+        "nothing to add",
+        "to be added",
+        "no item fits both",
+        "doubles",
+        "drafted",
     ] {
         assert!(answers.contains(&Some(Text(due.into()))), "{due}");
     }
