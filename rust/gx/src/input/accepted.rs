@@ -8,6 +8,7 @@ use crate::delivered::Delivered;
 use crate::dictionary::{self, Dictionary, Naming};
 use crate::entry::{Named, Sort};
 use crate::library;
+use crate::names::Names;
 use crate::pairs::List;
 use crate::refused;
 use crate::trouble::{Refused, Trouble};
@@ -57,10 +58,10 @@ fn read(draft: &Input, naming: Naming<'_>) -> Result<(), library::Refusal> {
 /// # Errors
 ///
 /// The refusal.
-pub fn unstored(path: &Path, bytes: &[u8], input: u16) -> Result<Vec<u8>, Trouble> {
+pub fn unstored(path: &Path, bytes: &[u8], input: u16, names: &Names) -> Result<Vec<u8>, Trouble> {
     library::from_stored(bytes).map_err(|refusal| {
         Trouble::from(Refused {
-            shown: refused::shown_stored(refusal, bytes),
+            shown: refused::shown_stored(refusal, bytes, names),
             ..Refused::new(
                 named(path),
                 library::Refusal { input, ..refusal },

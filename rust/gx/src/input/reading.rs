@@ -59,10 +59,10 @@ impl Reading {
     ) -> Result<Input, Trouble> {
         let draft = match self.form_at(path, &bytes) {
             Form::Blocks if self.form.is_none() && is_stored(&bytes, sort) => {
-                self.blocks(path, unstored(path, &bytes, input)?, sort)
+                self.blocks(path, unstored(path, &bytes, input, &self.names)?, sort)
             }
             Form::Blocks => self.blocks(path, bytes, sort),
-            Form::Stored => self.blocks(path, unstored(path, &bytes, input)?, sort),
+            Form::Stored => self.blocks(path, unstored(path, &bytes, input, &self.names)?, sort),
             Form::Text => self.text(path, &bytes, sort)?,
         };
         accepted(path, draft, input, naming)

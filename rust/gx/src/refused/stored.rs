@@ -4,6 +4,7 @@ use goltximen::{Reason, Refusal};
 
 use super::{check_faults, counted, in_order_fault, length_fault};
 use crate::blocks::BLOCK;
+use crate::input::Form;
 use crate::names::Names;
 use crate::stored::{decode, frame, place_of, Stored, MOST_BLOCKS, STORED_BYTES, STORED_ENTRIES};
 use crate::text;
@@ -20,7 +21,11 @@ pub fn why_stored(refusal: Refusal, bytes: &[u8]) -> String {
             "the input is empty: it has 0 bytes, and the least is one block of 512".into()
         }
         Reason::Length if !bytes.len().is_multiple_of(BLOCK) => {
-            length_fault("the input", bytes.len())
+            let fault = length_fault("the input", bytes.len());
+            match Form::of(bytes) {
+                Form::Text => format!("{fault}; it looks like a text, which --from text reads"),
+                _ => fault,
+            }
         }
         Reason::Length => format!(
             "the input has {}, and the stored form has at most {MOST_BLOCKS}",
@@ -78,7 +83,7 @@ fn order_fault(e: Stored, entries: &[Stored], place: usize) -> String {
 }
 
 /// The entries around the one that the refusal names, each with its depth.
-pub fn shown_stored(refusal: Refusal, bytes: &[u8]) -> String {
+pub fn shown_stored(refusal: Refusal, bytes: &[u8], names: &Names) -> String {
     let place = usize::from(refusal.place);
     let blocks = matches!(
         refusal.reason,
@@ -91,7 +96,6 @@ pub fn shown_stored(refusal: Refusal, bytes: &[u8]) -> String {
     let first = place.saturating_sub(AROUND).max(1);
     let last = (place + AROUND).min(entries.len());
     let width = last.to_string().len();
-    let names = Names::default();
     let mut out = String::new();
     for number in first..=last {
         let e = entries[number - 1];
@@ -100,7 +104,7 @@ pub fn shown_stored(refusal: Refusal, bytes: &[u8]) -> String {
         out.push_str(&format!(
             "{sign} entry {number:>width$}, depth {:>3}: {indent}{}\n",
             e.depth,
-            text::entry(e.says(), &names)
+            text::entry(e.says(), names)
         ));
     }
     let e = entries.get(place - 1).copied().unwrap_or_default();

@@ -144,8 +144,17 @@ fn refused() {
         assert_eq!(text.lines().next().unwrap(), format!("d.stored: {due}"));
         if due.contains("entry 3:") {
             assert!(text.contains("> entry 3, depth   2:         has property 7\n"), "{text}");
+            folder.put("names", "property 7 \"sealed\"");
+            let ran = folder.gx(&["check", "d.stored", "--names", "names"]);
+            assert!(ran.text().contains("> entry 3, depth   2:         has property 7 \"sealed\"\n"));
         }
     }
+    let ran = folder
+        .put("d.stored", "has property 7")
+        .gx(&["check", "d.stored"]);
+    assert!(ran
+        .text()
+        .contains("; it looks like a text, which --from text reads\n"));
 }
 
 #[test]
