@@ -154,6 +154,10 @@ fn refused_and_mistaken() {
     for (text, due) in [
         ("record of 2 item", "expected 'items'"),
         (
+            "at least 1 sample",
+            "expected a record (record of 3 items), or a table headed item,says,name,to, found 'at'",
+        ),
+        (
             "record of 2 items\n1 has property 7",
             "expected what is said of an item",
         ),

@@ -25,6 +25,7 @@ pub const TABLE: &str = "item,says,name,to";
 /// The word before an item, which ends the word of a link.
 const ITEM: &str = "item";
 
+const A_HEADING: &str = "a record (record of 3 items), or a table headed item,says,name,to";
 const AN_ITEM: &str = "an item's number from 0 to 65,535";
 const A_LINE: &str = "what is said of an item (item 1 has property 7, or item 1 link 1 item 2)";
 const THE_END: &str = "a new line or ';' after it";
@@ -52,6 +53,9 @@ pub fn parse_record(text: &str, names: &Names) -> Result<ParsedRecord, Mistake> 
     parser.stop = Some(ITEM);
     let mut parsed = ParsedRecord::default();
     parser.skip_lines()?;
+    if !parser.next_is_word(RECORD) {
+        return parser.expected(A_HEADING);
+    }
     parser.word(RECORD)?;
     parser.word("of")?;
     parsed.items = parser
