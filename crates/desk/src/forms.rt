@@ -7,9 +7,9 @@ ghost use Rattle.blocks.specs.declared.Schema.{Schema};
 // What the words of kind and zero byte, and of the name, are multiplied by where they stand.
 const ABOVE: u32 = 65536;
 
-// Whether 8 bytes are an entry of a form that the table of kinds has, by halves of 4 bytes: kind and zero byte are one word, and so is the name, each
-// moved above 16 zero bits, so that what stood above it goes. By `&` and `|` no jump is taken, and the loop over entries is compiled to one over eight at
-// a step; word by word it took nearly twice as long, and byte by byte twice as long again.
+// Whether 8 bytes are an entry of a form that the table of kinds has, by halves of 4 bytes: kind and zero byte are one
+// word, and so is the name, each moved above 16 zero bits, so that what stood above it goes. By `&` and `|` no jump is
+// taken, and the loop over entries is compiled to one over eight at a step; by words or bytes it gathers them one by one.
 #[inline(always)]
 fn form_ok(bytes: &[u8; 8]) -> bool
     ensures { result ≡ form_ok Schema.Description (entry_from bytes.now 0) }

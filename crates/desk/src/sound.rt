@@ -85,8 +85,9 @@ fn owners_ok(rows: &[[u8; 8]], level: &mut [u8; 1009]) -> bool
     true
 }
 
-// Whether entries break none of 4, 5 and 6; if so, the table then has the level of each. Forms are looked at apart from owners, since they are told
-// of several entries at a step, and owners of one after the other: both passes together take less than half of what one pass by entries took.
+// Whether entries break none of 4, 5 and 6; if so, the table then has the level of each. Forms are looked at apart from
+// owners: they are told of eight entries at a step, and owners of one after the other, since each may be owned by the
+// one before.
 fn rows_drafted(rows: &[[u8; 8]], level: &mut [u8; 1009]) -> bool
     requires { length rows.now ≤ 1008 }
     ensures tells { result ≡ drafted (map (λ b. entry_from b 0) rows.now) }
