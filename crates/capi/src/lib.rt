@@ -6,7 +6,8 @@
 // `packing`, which has the table of these numbers. The clauses beside it say what that means:
 // - `refuses`: it refuses exactly where a row of the table in Refusals of `answers` applies, by that row;
 // - `keeps`: a refusal writes nothing;
-// - `means`: what the other answers say of every finite record and of the bytes that are written.
+// - `means`: what the other answers say of every finite record and of the bytes that are written;
+// - `sheets`, of the narrowest description: that of two field sheets it is one.
 // They are theorems of `answers`, and of `stored`, about the same definitions; each record that they name is in its specs/.
 #![tactic(auto)]
 
@@ -16,7 +17,7 @@ ghost use Rattle.answers.specs.Earning.{AskedRefused, Earns};
 ghost use Rattle.answers.specs.Failing.{Fails};
 ghost use Rattle.answers.specs.Items.{ItemsRefused, MarksItems};
 ghost use Rattle.answers.specs.Missing.{Lacks, MissingRefused};
-ghost use Rattle.answers.specs.Narrowest.{NarrowestRefused, Narrows};
+ghost use Rattle.answers.specs.Narrowest.{JoinsSheets, NarrowestRefused, Narrows};
 ghost use Rattle.answers.specs.Promise.{ComparableNamed, DecidedNamed, Fills, FitsNamedExactly, JudgeableNamed, NormalisesNamed};
 ghost use Rattle.answers.specs.Ranking.{HierarchyRefused, Ranks};
 ghost use Rattle.answers.specs.Refusals.{CatalogueRefused, ComparisonRefused, FitRefused, NormalRefused, UnfoldRefused};
@@ -185,6 +186,7 @@ pub extern "C" fn gx_narrowest(pairs: &[u8], dict: &[u8], a: &[u8], b: &[u8], ou
     ensures refuses { RefusedExactly (narrowest_named pairs.now dict.now a.now b.now out.old) (NarrowestRefused pairs.now dict.now a.now b.now out.old) }
     ensures keeps { NothingWritten (narrowest_named pairs.now dict.now a.now b.now out.old) (narrowed_named pairs.now dict.now a.now b.now out.old) out.old }
     ensures means { (k : ℕ) → narrowest_named pairs.now dict.now a.now b.now out.old ≡ Ok k → Narrows pairs.now dict.now a.now b.now out.old k }
+    ensures sheets { (k : ℕ) → narrowest_named pairs.now dict.now a.now b.now out.old ≡ Ok k → JoinsSheets pairs.now dict.now a.now b.now out.old k }
 {
     pack_reading(named::narrowest(pairs, dict, a, b, out))
 }
