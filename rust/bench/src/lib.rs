@@ -9,4 +9,5 @@ pub mod excluding;
 pub mod hierarchy;
 pub mod inputs;
 pub mod naming;
+pub mod ontology;
 pub mod plain;

@@ -2,6 +2,7 @@
 
 #![forbid(unsafe_code)]
 
+mod classes;
 mod delivered;
 mod desks;
 mod earned;
@@ -18,6 +19,7 @@ mod turns;
 
 use std::fmt::Debug;
 use std::hint::black_box;
+use std::path::Path;
 use std::time::Instant;
 
 use bench::inputs::{
@@ -66,6 +68,11 @@ struct Plan {
 type Pair<'a> = (&'a [u8], &'a [u8]);
 
 fn main() {
+    if let [_, word, folder] = &std::env::args().collect::<Vec<String>>()[..] {
+        if word == "ontologies" {
+            return classes::write(Path::new(folder)).expect("a folder to write to");
+        }
+    }
     print_heading();
     // With a word, the rows of one call alone.
     match std::env::args().nth(1).as_deref() {
