@@ -1,12 +1,13 @@
 #!/usr/bin/env bash
-# The sample pages: one of a few entries, one of 1,008, one that goes 31 deep, a hierarchy, and the table of a catalogue; as PDF too. Where Chromium is installed, it is looked in it whether the answer, the
-# marked entry and the drawing are shown; no page has a script, so this is asked by a script in a copy.
+# The sample pages: comparisons of a few entries, of 1,008 and of some that go 31 deep, and a page of each other command on the examples
+# and on some 500 entries; as PDF too. Where Chromium is installed, it is looked in it whether the answer, the marked entry and the drawing
+# are shown, and whether a page is wider than the window; no page has a script, so this is asked by a script in a copy.
 set -euo pipefail
 cd "$(dirname "$0")/../.."
 out=target/page
 mkdir -p "$out"
 cargo build --release --quiet --manifest-path rust/gx/Cargo.toml --bin gx --example large
-gx=rust/gx/target/release/gx
+gx=$PWD/rust/gx/target/release/gx
 large=rust/gx/target/release/examples/large
 for part in supplier service; do "$large" $part > "$out/large-$part.txt"; done
 "$large" names > "$out/large.names"
@@ -21,7 +22,21 @@ deep 31 "has sealed" > "$out/deep-service.txt"
 page "$out/deep-supplier.txt" "$out/deep-service.txt" examples/laboratory.names deep
 "$gx" catalogue examples/supplier.blocks examples/services --quiet --html "$out/catalogue" || test $? = 1
 "$gx" hierarchy examples/supplier.blocks examples/services --quiet --html "$out/hierarchy.html" --svg "$out/hierarchy.svg"
-echo "$out/small.html, $out/large.html, $out/deep.html, $out/hierarchy.html and $out/catalogue/index.html are written"
+north=examples/spring/north.txt south=examples/spring/south.txt services=examples/spring/services
+words="--names examples/spring/laboratory.names --quiet"
+"$gx" narrowest $north $south $words --html "$out/narrowest.html"
+"$gx" missing $north $services/few-cores.txt $words --html "$out/missing.html"
+"$gx" keep $north $services/sealed-cores.txt $words --html "$out/keep.html"
+"$gx" doubles $services $words --html "$out/doubles.html"
+"$gx" show --sheet $north $words --html "$out/sheet.html"
+"$gx" delivered examples/spring/delivered.csv $services/twin-cores.txt $words --html "$out/delivered.html" || test $? = 1
+rm -f "$out/draft" "$out/draft~"
+"$gx" desk "$out/draft" $words --against $services --html "$out/desk.html" < examples/spring/draft.steps
+for part in supplier service; do head -n 500 "$out/large-$part.txt" | tac | sed '0,/^every link 1[0-9][0-9] \[$/d' | tac > "$out/half-$part.txt"; done
+for command in narrowest missing; do
+    "$gx" $command "$out/half-supplier.txt" "$out/half-service.txt" --names "$out/large.names" --quiet --html "$out/large-$command.html"
+done
+echo "The pages are written into $out"
 
 chromium=$(command -v chromium || command -v chromium-browser || true)
 if [ -z "$chromium" ]; then
@@ -29,9 +44,12 @@ if [ -z "$chromium" ]; then
     exit 0
 fi
 look() { timeout 60 "$chromium" --headless --no-sandbox --disable-gpu --hide-scrollbars "$@" 2> "$out/chromium.log"; }
-for name in small large deep hierarchy; do
-    parts="answer entry drawing mark"
-    if [ $name = hierarchy ]; then parts="answer drawing"; fi
+for name in small large deep hierarchy narrowest missing keep doubles sheet delivered desk large-narrowest large-missing; do
+    case $name in
+        small | large | deep) parts="answer entry drawing mark" ;;
+        hierarchy) parts="answer drawing" ;;
+        *) parts=answer ;;
+    esac
     for width in 1280 390; do
         copy="$out/$name-looked-at.html"
         { cat "$out/$name.html"; cat rust/gx/seen.html; } > "$copy"
