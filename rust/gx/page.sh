@@ -32,7 +32,7 @@ words="--names examples/spring/laboratory.names --quiet"
 "$gx" delivered examples/spring/delivered.csv $services/twin-cores.txt $words --html "$out/delivered.html" || test $? = 1
 rm -f "$out/draft" "$out/draft~"
 "$gx" desk "$out/draft" $words --against $services --html "$out/desk.html" < examples/spring/draft.steps
-for part in supplier service; do head -n 500 "$out/large-$part.txt" | tac | sed '0,/^every link 1[0-9][0-9] \[$/d' | tac > "$out/half-$part.txt"; done
+for part in supplier service; do sed -n '/^every link 112 \[$/,$p' "$out/large-$part.txt" > "$out/half-$part.txt"; done
 for command in narrowest missing; do
     "$gx" $command "$out/half-supplier.txt" "$out/half-service.txt" --names "$out/large.names" --quiet --html "$out/large-$command.html"
 done

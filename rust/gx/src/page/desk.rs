@@ -33,7 +33,7 @@ pub fn drafted(of: Drafted<'_>) -> Result<String, Trouble> {
     let words = Words::apart(&of.draft.names);
     let count = words::entries(of.draft.entries.len());
     let mut body = format!(
-        "<header class=\"answer\">\n<h1 id=\"answer\">{count} on the desk</h1>\n<p>The draft of {}{}.{}</p>\n</header>\n",
+        "<header class=\"answer\">\n<h1 id=\"answer\">{count} on the desk</h1>\n<p>A description in the making, in {}{}.{}</p>\n</header>\n",
         filed(&of.draft.title),
         counted(of),
         match of.against.is_empty() {
