@@ -1,8 +1,11 @@
 // The answer, and the blocks that are written.
-ghost use Rattle.std.specs.Prelude.{◌≡◌, ℕ, ◌+◌, ◌≤◌, ◌<◌, length, map, take};
+ghost use Rattle.std.specs.Prelude.{Err, ◌≡◌, ℕ, ◌+◌, ◌≤◌, ◌<◌, length, map, take};
 ghost use Rattle.blocks.proofs.Refusing.Bounds.{AllBounded};
+ghost use Rattle.blocks.specs.Reading.{reading_of};
 ghost use Rattle.blocks.specs.Refusals.{refusal, unless_refused};
 ghost use Rattle.blocks.specs.Words.{word_at};
+ghost use Rattle.blocks.specs.declared.Refusal.{Refusal};
+ghost use Rattle.blocks.specs.declared.Schema.TheVariants.{Description};
 ghost use Rattle.logic.specs.Layout.{write};
 ghost use Rattle.logic.specs.Normal.{is_bottom};
 ghost use Rattle.narrowest.specs.Answer.{laid, narrowed_of, narrowest_of};
@@ -11,12 +14,12 @@ ghost use Rattle.narrowest.specs.code.Formed.{Formed, result_entries, result_pla
 ghost use Rattle.narrowest.specs.code.Forms.{entries_in};
 ghost use Rattle.narrowest.specs.code.Mates.{Joinable};
 ghost use Rattle.narrowest.specs.code.Pushes.{Counted, row_number};
-ghost use Rattle.normal.specs.code.Formed.{FormRows};
+ghost use Rattle.normal.specs.code.Formed.{FormHeld, FormRows};
 ghost use Rattle.pairs.specs.Promise.{ListRead};
 
-use crate::form::{Form, entry_of_row};
+use crate::form::{Form, entry_of_row, note_starts};
 use crate::mates::Joining;
-use blocks::{Cause, Refusal, Schema, kinds};
+use blocks::{Cause, Refusal, kinds};
 use pairs::{Exclusions, INDEX_BYTES};
 
 impl Form<'_> {
@@ -114,13 +117,35 @@ fn write_result(
     Ok(count as u16)
 }
 
-// The normal form of a description, of so many rows of a table.
-fn formed<'a>(pairs: &[u8], description: &[u8], table: &'a [u64; 1008], count: u16) -> Form<'a>
+// The normal form of a description, of so many rows of a table, with the starts of its places in another.
+fn formed<'a>(
+    pairs: &[u8],
+    description: &[u8],
+    table: &'a [u64; 1008],
+    count: u16,
+    starts: &'a mut [u16; 1009],
+) -> Form<'a>
     requires { FormRows pairs.now description.now count table.now }
     ensures { result.rows.now ≡ take count table.now }
 {
-    Form {
-        rows: &table[..usize::from(count)],
+    let rows = &table[..usize::from(count)];
+    note_starts(rows, starts);
+    Form { rows, starts }
+}
+
+// The rows of the normal form of the second description, refused as input 2, where the list is read.
+fn second_rows(pairs: &[u8], description: &[u8], rows: &mut [u64; 1008]) -> Result<u16, Refusal>
+    requires { ListRead pairs.now }
+    ensures held { FormHeld pairs.now description.now result rows.new }
+    ensures refused { (e : Refusal) → result ≡ Err e → reading_of Description 2 description.now ≡ Err e }
+{
+    match normal::form_rows(pairs, description, rows) {
+        Ok(count) => Ok(count),
+        Err(e) => Err(Refusal {
+            cause: e.cause,
+            input: 2,
+            place: e.place,
+        }),
     }
 }
 
@@ -133,19 +158,20 @@ pub fn narrowest(pairs: &[u8], a: &[u8], b: &[u8], out: &mut [u8]) -> Result<u16
 {
     let mut first = [0u64; 1008];
     let n = normal::form_rows(pairs, a, &mut first)?;
-    reading::read(b, Schema::Description, 2)?;
+    let mut second = [0u64; 1008];
+    let m = second_rows(pairs, b, &mut second)?;
     if 8192 < a.len() + b.len() {
         return Err(refusal(Cause::Length, 2));
     }
     if out.len() < a.len() + b.len() {
         return Err(refusal(Cause::Room, 0));
     }
-    let mut second = [0u64; 1008];
-    let m = normal::form_rows(pairs, b, &mut second)?;
+    let mut first_starts = [0u16; 1009];
+    let mut second_starts = [0u16; 1009];
     write_result(
         pairs,
-        formed(pairs, a, &first, n),
-        formed(pairs, b, &second, m),
+        formed(pairs, a, &first, n, &mut first_starts),
+        formed(pairs, b, &second, m, &mut second_starts),
         out,
     )
 }

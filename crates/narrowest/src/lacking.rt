@@ -31,10 +31,10 @@ impl PlaceIn<'_> {
     }
 
     // Whether it says that property p lacks.
-    fn says_lack(self, exclusions: Exclusions<'_>, p: Property) -> bool
+    fn says_lack(self, exclusions: Exclusions<'_>, p: Property, near: &mut usize) -> bool
         ensures { result ≡ supports (under exclusions.entry.pairs.now) (place_in self.entry) (atom lacks p.0 0) }
     {
-        self.listed(AtomKind::Lacks, p.0).is_some() || self.excluded(exclusions, p)
+        self.listed_near(AtomKind::Lacks, p.0, near).is_some() || self.excluded(exclusions, p)
     }
 }
 
@@ -58,10 +58,15 @@ impl Sides<'_> {
     }
 
     // Whether a lack that the first place says is one of the joined place: the second says it too, and no property that both have implies it.
-    pub(crate) fn lists_lack(self, exclusions: Exclusions<'_>, p: Property) -> bool
+    pub(crate) fn lists_lack(
+        self,
+        exclusions: Exclusions<'_>,
+        p: Property,
+        near: &mut usize,
+    ) -> bool
         ensures { result ≡ (supports (under exclusions.entry.pairs.now) (place_in self.entry.second) (atom lacks p.0 0)
             && not (implied (under exclusions.entry.pairs.now) p.0 (place_in self.entry.first) (place_in self.entry.second))) }
     {
-        self.second.says_lack(exclusions, p) && !self.implies_lack(exclusions, p)
+        self.second.says_lack(exclusions, p, near) && !self.implies_lack(exclusions, p)
     }
 }

@@ -18,6 +18,7 @@ use pairs::Exclusions;
 // Notes the lack of a property that the first place says, where the joined place lists it.
 fn note_lack(
     sides: Sides<'_>,
+    near: &mut usize,
     exclusions: Exclusions<'_>,
     p: Property,
     order: &mut [u64],
@@ -26,7 +27,7 @@ fn note_lack(
     requires { n ≤ length order.old + 1 }
     ensures { Counted (length order.old) order.old n (lack_if exclusions.entry.pairs.now (place_in sides.entry.first) (place_in sides.entry.second) p.0) order.new result }
 {
-    if !sides.lists_lack(exclusions, p) {
+    if !sides.lists_lack(exclusions, p, near) {
         return n;
     }
     push(order, n, u64::from(p.0))
@@ -35,6 +36,7 @@ fn note_lack(
 // Notes those of the properties that exclude one.
 fn note_partners(
     sides: Sides<'_>,
+    near: &mut usize,
     exclusions: Exclusions<'_>,
     q: Property,
     order: &mut [u64],
@@ -49,7 +51,7 @@ fn note_partners(
     let mut rest = exclusions.excluding(q);
     // `while let` and no `for`: what is left is what the proof speaks of.
     while let Some(p) = rest.next() {
-        k = note_lack(sides, exclusions, p, order, k);
+        k = note_lack(sides, near, exclusions, p, order, k);
     }
     k
 }
@@ -57,6 +59,7 @@ fn note_partners(
 // Notes those that a packed entry of the first place leads to.
 fn note_entry(
     sides: Sides<'_>,
+    near: &mut usize,
     exclusions: Exclusions<'_>,
     x: u64,
     order: &mut [u64],
@@ -68,10 +71,10 @@ fn note_entry(
 {
     let e = entry_of_row(x);
     if e.kind == kinds::LACKS {
-        return note_lack(sides, exclusions, Property(e.name), order, n);
+        return note_lack(sides, near, exclusions, Property(e.name), order, n);
     }
     if e.kind == kinds::HAS {
-        return note_partners(sides, exclusions, Property(e.name), order, n);
+        return note_partners(sides, near, exclusions, Property(e.name), order, n);
     }
     n
 }
@@ -79,6 +82,7 @@ fn note_entry(
 // Notes those of all entries of the first place; returns how many they are.
 pub(crate) fn note_lacks(
     sides: Sides<'_>,
+    near: &mut usize,
     exclusions: Exclusions<'_>,
     own: &[u64],
     order: &mut [u64],
@@ -88,7 +92,7 @@ pub(crate) fn note_lacks(
 {
     let mut n: usize = 0;
     for x in own {
-        n = note_entry(sides, exclusions, *x, order, n);
+        n = note_entry(sides, near, exclusions, *x, order, n);
     }
     n
 }

@@ -11,12 +11,12 @@ ghost use Rattle.sorting.specs.Sorted.{sorted};
 ghost use Rattle.unfolding.specs.code.Rows.{entry_of_row};
 
 use crate::form::entry_of_row;
-use crate::paired::{Paired, leads};
+use crate::paired::{Near, Paired, leads};
 use crate::rows::push;
 use blocks::{Entry, kinds};
 
 // Notes the link of a packed entry that leads to a place.
-fn note_link(pair: Paired<'_>, x: u64, order: &mut [u64], n: usize) -> usize
+fn note_link(pair: Paired<'_>, near: &mut Near, x: u64, order: &mut [u64], n: usize) -> usize
     requires { n ≤ length order.old + 1 }
     ensures { Counted (length order.old) order.old n
         (links_of (entries_in pair.entry.sides.first.form.rows.now) (entries_in pair.entry.sides.second.form.rows.now) pair.entry.mates.now
@@ -26,7 +26,7 @@ fn note_link(pair: Paired<'_>, x: u64, order: &mut [u64], n: usize) -> usize
     if !leads(e) {
         return n;
     }
-    if pair.below(e.name) == 0 {
+    if pair.below(e.name, near) == 0 {
         return n;
     }
     push(order, n, u64::from(e.name))
@@ -39,8 +39,9 @@ pub(crate) fn note_links(pair: Paired<'_>, own: &[u64], order: &mut [u64]) -> us
         pair.entry.sides.first.owner pair.entry.sides.second.owner) (entries_in own.now)) order.new result }
 {
     let mut n: usize = 0;
+    let mut near = pair.near();
     for x in own {
-        n = note_link(pair, *x, order, n);
+        n = note_link(pair, &mut near, *x, order, n);
     }
     n
 }
@@ -48,6 +49,7 @@ pub(crate) fn note_links(pair: Paired<'_>, own: &[u64], order: &mut [u64]) -> us
 // Pushes the 'every' of a link, and notes the place below it.
 fn push_knot(
     pair: Paired<'_>,
+    near: &mut Near,
     owner: u16,
     l: u64,
     rows: &mut [u64],
@@ -71,13 +73,14 @@ fn push_knot(
     if rows.len() < k {
         return k;
     }
-    below[k] = pair.below(link);
+    below[k] = pair.below(link, near);
     k
 }
 
 // Pushes that of link l, unless it is the one before.
 fn push_next(
     pair: Paired<'_>,
+    near: &mut Near,
     owner: u16,
     last: u64,
     l: u64,
@@ -93,7 +96,7 @@ fn push_next(
     if l == last {
         return count;
     }
-    push_knot(pair, owner, l, rows, below, count)
+    push_knot(pair, near, owner, l, rows, below, count)
 }
 
 // Pushes those of an ascending list of links, each once.
@@ -112,8 +115,9 @@ fn push_knots(
 {
     let mut k = count;
     let mut last: u64 = 65536;
+    let mut near = pair.near();
     for l in order {
-        k = push_next(pair, owner, last, *l, rows, below, k);
+        k = push_next(pair, &mut near, owner, last, *l, rows, below, k);
         last = *l;
     }
     k

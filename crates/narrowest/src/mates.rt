@@ -48,7 +48,7 @@ impl<'a> Joining<'a> {
     }
 
     // The mate of the first's entry n, where it is an 'every': that of the second's at the path of its owner, with its link.
-    fn mate(self, mates: &[u16], n: usize) -> u16
+    fn mate(self, mates: &[u16], n: usize, near: &mut usize) -> u16
         requires { (1 ≤ n) × (n ≤ length self.first.rows.now) × (length self.first.rows.now < length mates.now) }
         ensures { result ≡ mate_at (entries_in self.entry.first.rows.now) (entries_in self.entry.second.rows.now) mates.now n }
     {
@@ -60,7 +60,7 @@ impl<'a> Joining<'a> {
         if e.owner != 0 && mate == 0 {
             return 0;
         }
-        self.second.find(mate, kinds::EVERY, e.name) as u16
+        self.second.find(mate, kinds::EVERY, e.name, near) as u16
     }
 
     // Finds the mates of all 'every' entries of the first; those of others are 0.
@@ -69,8 +69,9 @@ impl<'a> Joining<'a> {
         ensures { Mated (entries_in self.entry.first.rows.now) (entries_in self.entry.second.rows.now)
             (length (entries_in self.entry.first.rows.now)) mates.new }
     {
+        let mut near: usize = 0;
         for n in 0..self.first.rows.len() {
-            let mate = self.mate(mates, n + 1);
+            let mate = self.mate(mates, n + 1, &mut near);
             mates[n + 1] = mate;
         }
     }
@@ -105,17 +106,18 @@ impl<'a> Joining<'a> {
 }
 
 // Whether two joined places say something of a kind.
-fn says_kind(kind: AtomKind, own: &[u64], second: PlaceIn<'_>) -> bool
+fn says_kind(kind: AtomKind, own: &[u64], second: PlaceIn<'_>, near: &mut usize) -> bool
     ensures { result ≡ says_kind (kind_in kind) (place_in second.entry) (entries_in own.now) }
 {
-    push_kind(kind, 0, own, second, &mut [], 0) != 0
+    push_kind(kind, 0, own, second, near, &mut [], 0) != 0
 }
 
 // Whether they have a lack.
 fn says_lack(sides: Sides<'_>, exclusions: Exclusions<'_>, own: &[u64]) -> bool
     ensures { result ≡ says_lack exclusions.entry.pairs.now (place_in sides.entry.first) (place_in sides.entry.second) (entries_in own.now) }
 {
-    note_lacks(sides, exclusions, own, &mut []) != 0
+    let mut near = sides.second.start();
+    note_lacks(sides, &mut near, exclusions, own, &mut []) != 0
 }
 
 // Whether they have an 'every'.
@@ -134,13 +136,14 @@ fn says_any(pair: Paired<'_>, exclusions: Exclusions<'_>, own: &[u64]) -> bool
         pair.entry.mates.now pair.entry.sides.first.owner pair.entry.sides.second.owner (entries_in own.now) }
 {
     let second = pair.sides.second;
-    if says_kind(AtomKind::Has, own, second) {
+    let mut near = second.start();
+    if says_kind(AtomKind::Has, own, second, &mut near) {
         return true;
     }
-    if says_kind(AtomKind::AtLeast, own, second) {
+    if says_kind(AtomKind::AtLeast, own, second, &mut near) {
         return true;
     }
-    if says_kind(AtomKind::AtMost, own, second) {
+    if says_kind(AtomKind::AtMost, own, second, &mut near) {
         return true;
     }
     if says_lack(pair.sides, exclusions, own) {

@@ -12,10 +12,10 @@ use blocks::{Entry, kinds};
 
 impl PlaceIn<'_> {
     // Whether it lists at most 0 of a link.
-    fn closes(self, link: u16) -> bool
+    fn closes(self, link: u16, near: &mut usize) -> bool
         ensures { result ≡ closes link (place_in self.entry) }
     {
-        match self.listed(AtomKind::AtMost, link) {
+        match self.listed_near(AtomKind::AtMost, link, near) {
             Some(most) => most == 0,
             None => false,
         }
@@ -29,6 +29,15 @@ pub(crate) fn leads(e: Entry) -> bool
     e.kind == kinds::EVERY || e.kind == kinds::AT_MOST && e.number == 0
 }
 
+// Where the last looks for a link ended, at most how many and 'every' on each side: the next is looked for from there.
+#[derive(Clone, Copy)]
+pub(crate) struct Near {
+    first_most: usize,
+    first_every: usize,
+    second_most: usize,
+    second_every: usize,
+}
+
 // The two places, and for each 'every' entry of the first form the second's at the same path: 0 where there is none, and where nothing is to be
 // written below it.
 #[derive(Clone, Copy)]
@@ -39,6 +48,18 @@ pub(crate) struct Paired<'a> {
 }
 
 impl Paired<'_> {
+    // Where the looks for links begin.
+    pub(crate) fn near(self) -> Near {
+        let first = self.sides.first.start();
+        let second = self.sides.second.start();
+        Near {
+            first_most: first,
+            first_every: first,
+            second_most: second,
+            second_every: second,
+        }
+    }
+
     // Whether the first's place stands whole.
     pub(crate) fn first_alone(self) -> bool
         ensures { result ≡ first_alone self.entry.sides.first.owner self.entry.sides.second.owner }
@@ -54,11 +75,11 @@ impl Paired<'_> {
     }
 
     // The code of the first's 'every' of a link, joined with its mate; 0 where it has none.
-    fn mated(self, link: u16) -> u32
+    fn mated(self, link: u16, near: &mut Near) -> u32
         ensures { result ≡ mated self.entry.mates.now
             (entry_for (entries_in self.entry.sides.first.form.rows.now) self.entry.sides.first.owner 5 link) }
     {
-        let m = self.sides.first.below(link);
+        let m = self.sides.first.below(link, &mut near.first_every);
         let mate = self.mates[m];
         if mate == 0 {
             return 0;
@@ -68,31 +89,31 @@ impl Paired<'_> {
 
     // The code of the place below a link of two joined places: where one side has at most 0 of it, the other's place whole.
     #[tactic(auto, unfolding(crate::specs::code::Codes::joined_code))]
-    fn joined_below(self, link: u16) -> u32
+    fn joined_below(self, link: u16, near: &mut Near) -> u32
         ensures { result ≡ joined_code (entries_in self.entry.sides.first.form.rows.now) (entries_in self.entry.sides.second.form.rows.now)
             self.entry.mates.now self.entry.sides.first.owner self.entry.sides.second.owner link }
     {
-        if self.sides.second.closes(link) {
-            return 1024 * self.sides.first.below(link) as u32;
+        if self.sides.second.closes(link, &mut near.second_most) {
+            return 1024 * self.sides.first.below(link, &mut near.first_every) as u32;
         }
-        if self.sides.first.closes(link) {
-            return self.sides.second.below(link) as u32;
+        if self.sides.first.closes(link, &mut near.first_most) {
+            return self.sides.second.below(link, &mut near.second_every) as u32;
         }
-        self.mated(link)
+        self.mated(link, near)
     }
 
     // The code of the place below a link, 0 where nothing stands there.
     #[tactic(auto, unfolding(crate::specs::code::Codes::code_below))]
-    pub(crate) fn below(self, link: u16) -> u32
+    pub(crate) fn below(self, link: u16, near: &mut Near) -> u32
         ensures { result ≡ code_below (entries_in self.entry.sides.first.form.rows.now) (entries_in self.entry.sides.second.form.rows.now)
             self.entry.mates.now self.entry.sides.first.owner self.entry.sides.second.owner link }
     {
         if self.first_alone() {
-            return 1024 * self.sides.first.below(link) as u32;
+            return 1024 * self.sides.first.below(link, &mut near.first_every) as u32;
         }
         if self.second_alone() {
-            return self.sides.second.below(link) as u32;
+            return self.sides.second.below(link, &mut near.second_every) as u32;
         }
-        self.joined_below(link)
+        self.joined_below(link, near)
     }
 }

@@ -82,6 +82,7 @@ fn push_whole(owner: u16, own: &[u64], rows: &mut [u64], count: usize) -> usize
 // Pushes the lacks of two joined places, in order.
 fn push_lacked(
     pair: Paired<'_>,
+    near: &mut usize,
     exclusions: Exclusions<'_>,
     owner: u16,
     own: &[u64],
@@ -96,7 +97,7 @@ fn push_lacked(
         (flat_map (lacks_of exclusions.entry.pairs.now (place_in pair.entry.sides.first) (place_in pair.entry.sides.second))
         (entries_in own.now))))) rows.new result }
 {
-    let n = note_lacks(pair.sides, exclusions, own, order);
+    let n = note_lacks(pair.sides, near, exclusions, own, order);
     let lacks = &mut order[..n];
     sorting::sort(lacks);
     push_lacks(owner, lacks, rows, count)
@@ -121,10 +122,11 @@ fn push_joined_atoms(
         pair.entry.sides.first.owner pair.entry.sides.second.owner)) rows.new result }
 {
     let second = pair.sides.second;
-    let h = push_kind(AtomKind::Has, owner, own, second, rows, count);
-    let k = push_lacked(pair, exclusions, owner, own, order, rows, h);
-    let a = push_kind(AtomKind::AtLeast, owner, own, second, rows, k);
-    push_kind(AtomKind::AtMost, owner, own, second, rows, a)
+    let mut near = second.start();
+    let h = push_kind(AtomKind::Has, owner, own, second, &mut near, rows, count);
+    let k = push_lacked(pair, &mut near, exclusions, owner, own, order, rows, h);
+    let a = push_kind(AtomKind::AtLeast, owner, own, second, &mut near, rows, k);
+    push_kind(AtomKind::AtMost, owner, own, second, &mut near, rows, a)
 }
 
 // Pushes what a place of the result lists beside 'every'.

@@ -89,6 +89,7 @@ fn push_shared(
     owner: u16,
     x: u64,
     second: PlaceIn<'_>,
+    near: &mut usize,
     rows: &mut [u64],
     count: usize,
 ) -> usize
@@ -99,7 +100,7 @@ fn push_shared(
     if e.kind != kind.number() {
         return count;
     }
-    match second.listed(kind, e.name) {
+    match second.listed_near(kind, e.name, near) {
         Some(other) => push_joined(kind, owner, e, other, rows, count),
         None => count,
     }
@@ -111,6 +112,7 @@ pub(crate) fn push_kind(
     owner: u16,
     own: &[u64],
     second: PlaceIn<'_>,
+    near: &mut usize,
     rows: &mut [u64],
     count: usize,
 ) -> usize
@@ -120,7 +122,7 @@ pub(crate) fn push_kind(
 {
     let mut k = count;
     for x in own {
-        k = push_shared(kind, owner, *x, second, rows, k);
+        k = push_shared(kind, owner, *x, second, near, rows, k);
     }
     k
 }

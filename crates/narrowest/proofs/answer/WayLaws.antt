@@ -13,11 +13,12 @@ use Rattle.blocks.proofs.Refusing.Readings.{reading-cases}
 use Rattle.blocks.proofs.RoundTrip.Accepting.{accepted-by-none, none-of-accepted, written-encodes}
 use Rattle.blocks.specs.Encoding.{blocks_for, written}
 use Rattle.blocks.specs.Entries.{entries_of, nth, packed, zero_entry}
+use Rattle.blocks.specs.Faults.{Clean, Faulty, Finding, faults, first}
 use Rattle.blocks.specs.Frame.{plain}
 use Rattle.blocks.specs.Owners.{owner_of}
 use Rattle.blocks.specs.Promise.{Legal}
-use Rattle.blocks.specs.Reading.{reading_of}
-use Rattle.blocks.specs.Refusals.{refused, unless_refused}
+use Rattle.blocks.specs.Reading.{answer, reading_of}
+use Rattle.blocks.specs.Refusals.{refusal, refused, unless_refused}
 use Rattle.blocks.specs.Words.{word_at}
 use Rattle.blocks.specs.declared.Cause.TheVariants.{Length, Room}
 use Rattle.blocks.specs.declared.Entry.{Entry}
@@ -99,14 +100,21 @@ module _ (P a b out : List ℕ) where
   unfolding narrowed_of
   narrowed-by h = rw h refl
 
--- what is read as input 2 is not refused as input 1
-pub read-again : (P d : List ℕ) {n k : ℕ} {e : Refusal} → pairs_reading P ≡ Ok n → reading_of Description 2 d ≡ Ok k → form_reading P d ≡ Err e → ⊥
-unfolding form_reading form_under
-read-again P d l r h =
-    let again = accepted-by-none Description 1 d (none-of-accepted Description 2 d r).0 in
-    let y = rw (l, again) at h in
-    let z : ◌≡◌ {A = ℕ} 0 1 = cc in
-    absurd (omega arith)
+-- ---- the second description, read as if it were the first
+
+second-as : (n m k : ℕ) (f : Finding) {e : Refusal} → unless_refused Err (answer 1 n f) (Ok m) ≡ Err e → answer 2 k f ≡ Err (refusal e.cause 2 e.place)
+second-as n m k Clean h = let z : ◌≡◌ {A = ℕ} 0 1 = cc in absurd (omega arith)
+second-as n m k (Faulty c p) {e} h = let q : refusal c 1 p ≡ e = cc in rw (← q) refl
+
+-- it is refused by the same rule at the same place
+pub second-wrong : (P d : List ℕ) {n : ℕ} {e : Refusal} → pairs_reading P ≡ Ok n → form_reading P d ≡ Err e
+    → reading_of Description 2 d ≡ Err (refusal e.cause 2 e.place)
+unfolding form_reading form_under reading_of
+second-wrong P d l h = second-as _ _ _ (first (faults Description d)) (rw l at h)
+
+-- or it is read
+pub second-right : (d : List ℕ) {n : ℕ} → reading_of Description 1 d ≡ Ok n → reading_of Description 2 d ≡ Ok (length (entries_of d))
+second-right d r = accepted-by-none Description 2 d (none-of-accepted Description 1 d r).0
 
 -- words of bytes
 pub word-small : (P : List ℕ) → ((i : ℕ) → get_or P i 0 < 256) → (i : ℕ) → word_at P i < 65536

@@ -12,17 +12,10 @@ use Rattle.blocks.specs.Entries.{nth, zero_entry}
 use Rattle.blocks.specs.declared.Entry.{Entry}
 use Rattle.meaning.proofs.Descriptions.Lookups.{match-first, match-missing}
 use Rattle.meaning.specs.Lookup.{entry_for}
-use Rattle.narrowest.specs.code.Forms.{Held, Seeks, entries_in, key_for, key_in}
+use Rattle.narrowest.specs.code.Forms.{Halving, Held, Seeks, entries_in, key_for, key_in}
 use Rattle.unfolding.specs.code.Rows.{entry_of_row}
 
 -- ---- halving
-
--- so far: those before `from` stand before the key, and those from `to` on do not
-pub record Halving (rows : List ℕ) (key from to : ℕ) : Type 0 where
-  pub order : from ≤ to
-  pub limit : to ≤ length rows
-  pub below : (i : ℕ) → i < from → key_in (get_or rows i 0) < key
-  pub above : (i : ℕ) → to ≤ i → i < length rows → key ≤ key_in (get_or rows i 0)
 
 module _ {rows : List ℕ} (H : Held rows) {key from to : ℕ} (h : Halving rows key from to) where
   -- keys rise
@@ -52,6 +45,17 @@ module _ {rows : List ℕ} (H : Held rows) {key from to : ℕ} (h : Halving rows
   halving-done l =
       let e : from ≡ to = omega (arith, h.order) in
       record { to = omega (arith, h.order, h.limit); below = h.below; above = λ i m n. h.above i (omega arith) n }
+
+-- ---- an entry at a key
+
+pub seeks-at : {rows : List ℕ} → Held rows → {key g : ℕ} → g < length rows → key_in (get_or rows g 0) ≡ key → Seeks rows key g
+seeks-at {rows} H {key} {g} l e =
+    record {
+      to = omega arith;
+      below = λ i m. let y = H.rising i g m l in omega (arith, e);
+      above = λ i m n.
+          lt-cases g i (λ k. let z = H.rising g i k n in omega (arith, e)) (λ k. let q : g ≡ i = omega arith in rw (← q) (omega (arith, e)));
+    }
 
 -- ---- the entry of a key
 

@@ -40,6 +40,13 @@ pub record Held (rows : List ℕ) : Type 0 where
   pub legal : Legal Description (entries_in rows)
   pub rising : (i j : ℕ) → i < j → j < length rows → key_in (get_or rows i 0) < key_in (get_or rows j 0)
 
+-- so far: those before `from` stand before a key, and those from `to` on do not
+pub record Halving (rows : List ℕ) (key from to : ℕ) : Type 0 where
+  pub order : from ≤ to
+  pub limit : to ≤ length rows
+  pub below : (i : ℕ) → i < from → key_in (get_or rows i 0) < key
+  pub above : (i : ℕ) → to ≤ i → i < length rows → key ≤ key_in (get_or rows i 0)
+
 -- so many stand before a key
 pub record Seeks (rows : List ℕ) (key r : ℕ) : Type 0 where
   pub to : r ≤ length rows

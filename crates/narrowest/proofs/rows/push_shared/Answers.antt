@@ -20,7 +20,7 @@ returns-in-Some c =
     let k = kind_in a.kind in
     let x = entry_of_row a.x in
     let is = ap (λ (e : Entry). e.kind) (sym c.entry_of_row-e.ensures) ∙ c.if-e-number.false ∙ c.number.ensures in
-    let h = rw c.entry_of_row-e.ensures at c.listed.ensures in
+    let h = rw c.entry_of_row-e.ensures at c.listed_near.ensures in
     counted-as (rw c.entry_of_row-e.ensures at c.push_joined.ensures) refl
     (shared-both a.owner k (place_in a.second) x is (option_some _ (sym c.in-Some.is ∙ h)))
 
@@ -28,5 +28,5 @@ pub returns-in-None : goal.returns-in-None
 returns-in-None c =
     let a = c.args in
     let is = ap (λ (e : Entry). e.kind) (sym c.entry_of_row-e.ensures) ∙ c.if-e-number.false ∙ c.number.ensures in
-    let h = rw c.entry_of_row-e.ensures at c.listed.ensures in
+    let h = rw c.entry_of_row-e.ensures at c.listed_near.ensures in
     shared-missing c.requires a.owner (kind_in a.kind) (place_in a.second) (entry_of_row a.x) is (option-none _ (sym c.in-None.is ∙ h))

@@ -1,11 +1,11 @@
--- `listed` meets its contract: an entry that is found has its number.
+-- `listed_near` meets its contract: an entry that is found has its number.
 use mathlib.Core.Path.{◌∙◌, ap, refl}
 use native.Mathlib.Omega.{arith}
 use Rattle.blocks.specs.declared.Entry.{Entry}
 use Rattle.narrowest.proofs.place.ListedLaws.{listed-none, listed-within, listed_some}
 use Rattle.narrowest.specs.code.Forms.{kind_in}
 use Rattle.std.specs.Prelude.{Some}
-use Rattle.narrowest.proofs.place.PlaceIn.listed.Goals as goal
+use Rattle.narrowest.proofs.place.PlaceIn.listed_near.Goals as goal
 
 pub returns-then-n-eq0 : goal.returns-then-n-eq0
 returns-then-n-eq0 c =
