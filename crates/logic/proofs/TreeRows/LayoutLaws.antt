@@ -20,13 +20,6 @@ module _ {A B : Type 0} where
   weight-pos (leaf a r) = omega arith
   weight-pos (node b s r) = omega arith
 
-  -- there is at most one place more than entries
-  pub weight-nodes : (t : Tree A B) → weight t ≤ suc (nodes t + nodes t)
-  unfolding weight measure
-  weight-nodes end = omega arith
-  weight-nodes (leaf a r) = omega (arith, weight-nodes r)
-  weight-nodes (node b s r) = omega (arith, weight-nodes s, weight-nodes r)
-
   -- the steps that the jobs take, and the rows that they give
   unfoldable pub load : Queue (Tree A B) → ℕ
   load done = 0
