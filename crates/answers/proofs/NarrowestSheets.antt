@@ -1,7 +1,7 @@
 -- The narrowest description of two field sheets, as it is written: with no pairs it is read as a field sheet exactly
 -- where some item fits at least one of them.
 -- Assumes nothing.
-use Rattle.std.proofs.Common.{◌≡◌, ℕ, ◌+◌, ◌≤◌, List, [], length, Ok, sym, ap, subst, ◌∙◌, arith}
+use Rattle.std.proofs.Common.{◌≡◌, ℕ, ◌+◌, ◌≤◌, List, [], length, Ok, sym, ap, subst, ◌∙◌}
 use Rattle.answers.proofs.Accepted.{plain-entries, plain-length}
 use Rattle.answers.proofs.AnswerLaws.{refused-answered}
 use Rattle.answers.proofs.DictionaryOrder.{dictionary-accepted}
@@ -10,7 +10,7 @@ use Rattle.answers.proofs.NarrowestKept.{always-answered, narrowest_means}
 use Rattle.answers.proofs.NarrowestOrder.{narrowest-answers, narrowest-cases, narrowest-refuses}
 use Rattle.answers.proofs.NarrowestWritten.{empty-list}
 use Rattle.answers.proofs.Sent.{sent-length}
-use Rattle.answers.specs.Narrowest.{JoinsSheets, both_bytes, narrowest_bytes, narrowest_with}
+use Rattle.answers.specs.Narrowest.{JoinsSheets, narrowest_bytes, narrowest_with}
 use Rattle.answers.specs.Promise.{Admitted}
 use Rattle.blocks.specs.Encoding.{encode}
 use Rattle.blocks.specs.Entries.{entries_of}
