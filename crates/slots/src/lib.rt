@@ -1,12 +1,13 @@
 // The slots of a description: one for each place, class and name, with the bounds that all entries give together. They are built from the
 // entries, in the order in which they stand, and settled from the last to the first, so that what is below a place is known before the
 // place. A second call asks which entries of another description they hold; it orders nothing. A third asks it of each description of a list,
-// by one set of slots, and reads each as it comes to it. A fourth asks it of each entry of another, by itself.
+// by one set of slots, and reads each as it comes to it. A fourth asks it of each entry of another, by itself. A fifth takes the entries of the first
+// from a table where they stand packed, for callers that ask of one description again and again: it reads nothing.
 //
 // The slots stand in a table that the caller lends, who can go on from them. All other tables are slices too, made in three sizes, for
 // as many entries as a block has, as four have, and for any number, so that a short call clears no large ones.
 //
-// The three calls begin alike: the list of pairs is read, and indexed.
+// The other four begin alike: the list of pairs is read, and indexed.
 //
 // The contracts cite specs/: Holding and Catalogue say what is answered; the others mirror the code. What slots are, on lists, is said in `passes`.
 #![tactic(auto)]
