@@ -1,4 +1,4 @@
--- Laws of a trial: what the comparison of the written list answers.
+-- Laws of a trial: what a comparison answers, and a run that is put back.
 -- Assumes nothing.
 use Prim.Native.Nat.{◌<◌, ◌≤◌, ℕ}
 use lib.Dec.{eqb, leb, ltb}

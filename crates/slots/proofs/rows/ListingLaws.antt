@@ -1,12 +1,11 @@
 -- Laws of listed entries, as a description.
 -- Assumes nothing.
-use Prim.Native.Nat.{◌+◌, ◌<◌, ◌≤◌, suc, ℕ}
+use Prim.Native.Nat.{◌<◌, suc, ℕ}
 use lib.Dec.{eqb}
 use lib.ListN.{get_or, length, length-map}
 use mathlib.Core.Bool.{Bool}
 use mathlib.Core.List.{List}
 use mathlib.Core.Path.{◌∙◌, ◌≡◌, ap, sym}
-use native.Mathlib.Omega.{arith}
 use Rattle.base.proofs.Lists.{get_d-map-in}
 use Rattle.blocks.proofs.Refusing.Legal.{owner-earlier, owner-kind}
 use Rattle.blocks.proofs.RoundTrip.Decoding.{decode-encode}

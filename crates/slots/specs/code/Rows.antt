@@ -9,6 +9,6 @@ use Rattle.unfolding.specs.code.Rows.{entry_of_row}
 abbrev pub listed_in : List ℕ → List Entry
 listed_in rows = map entry_of_row rows
 
--- the blocks that they would be written as; none are: contracts of slots speak of bytes
+-- the blocks that they would be written as, of which the contracts of slots speak; nobody writes them
 abbrev pub rows_bytes : List ℕ → List ℕ
 rows_bytes rows = encode (listed_in rows)
