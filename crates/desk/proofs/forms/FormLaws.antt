@@ -21,7 +21,7 @@ use Rattle.drafts.specs.Sound.{drafted}
 
 -- ---- the form by words
 
--- the test of the words, as the code has it
+-- the test of the three words: kind with the zero byte, name, and number
 abbrev pub words_ok : ℕ → ℕ → ℕ → Bool
 words_ok sort name number =
     (ltb 0 sort && leb sort 6)
