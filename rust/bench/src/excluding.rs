@@ -1,8 +1,10 @@
 //! Inputs of the calls under a list of properties that exclude each other.
 
+use std::collections::BTreeSet;
+
 use reference::Entry;
 
-use crate::inputs::{entry, Chance, Model, Shape};
+use crate::inputs::{entry, Chance, Model, Shape, MOST_NAME};
 
 /// The most pairs of a list.
 pub const MOST_PAIRS: usize = 64;
@@ -58,6 +60,18 @@ impl Case {
             specimen: model.specimen(),
         }
     }
+}
+
+/// The entries, of which each second one that is no 'every' has another name, which none had.
+pub fn half_renamed(entries: &[Entry]) -> Vec<Entry> {
+    let taken: BTreeSet<u16> = entries.iter().map(|e| e.name).collect();
+    let mut free = (1..=MOST_NAME).filter(|name| !taken.contains(name));
+    let mut renamed = entries.to_vec();
+    let says = renamed.iter_mut().filter(|e| e.kind != 5);
+    for (e, name) in says.step_by(2).zip(&mut free) {
+        e.name = name;
+    }
+    renamed
 }
 
 /// The worst list: one property excludes 64 others.

@@ -45,8 +45,9 @@ pub enum Shape {
 /// The links of a chain.
 const CHAIN: usize = 32;
 
-/// The first link that leads to one item only.
+/// The first link that leads to one item only, and the largest name of a model.
 const SINGLE: u16 = 32_768;
+pub const MOST_NAME: u16 = 32_767;
 
 /// A specimen and the entries that a description may have of it, one for one: a chain of groups and 'every' entries, and then
 /// for each entry owner, name and number.
@@ -153,7 +154,7 @@ impl Model {
 fn distinct_names(count: usize, chance: &mut Chance) -> Vec<u16> {
     let mut names = Vec::new();
     while names.len() < count {
-        let name = chance.name(32_767);
+        let name = chance.name(MOST_NAME.into());
         if !names.contains(&name) {
             names.push(name);
         }

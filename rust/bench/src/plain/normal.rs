@@ -59,21 +59,27 @@ fn sized<const N: usize>(
 /// Writes place by place, in the order in which the 'every' entries stand.
 pub fn write<const N: usize>(slots: &Slots<N>, out: &mut [u8]) -> usize {
     let mut rows = Rows::<N>::new();
+    fill(slots, &mut rows);
+    rows.write(out)
+}
+
+/// The entries of the normal form, in the order in which they are written.
+#[inline]
+pub fn fill<const N: usize>(slots: &Slots<N>, rows: &mut Rows<N>) {
     if slots.is_broken() {
         rows.push(NOTHING, 0, 0, 0);
-        return rows.write(out);
+        return;
     }
     let mut order = Order::new(slots, |_| true);
     let mut queue = Queue::<N>::new();
     let mut next = Some(Waiting::default());
     while let Some(Waiting { place, owner, .. }) = next {
         let (properties, links) = order.sorted(usize::from(place));
-        push_bounds(slots, properties, (HAS, LACKS), owner, &mut rows);
-        push_bounds(slots, links, (AT_LEAST, AT_MOST), owner, &mut rows);
-        push_every(slots, links, owner, &mut rows, &mut queue);
+        push_bounds(slots, properties, (HAS, LACKS), owner, rows);
+        push_bounds(slots, links, (AT_LEAST, AT_MOST), owner, rows);
+        push_every(slots, links, owner, rows, &mut queue);
         next = queue.pop();
     }
-    rows.write(out)
 }
 
 /// The entries of a class that ask for at least so many, and then those that ask for at most so many.

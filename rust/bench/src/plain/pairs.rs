@@ -58,7 +58,7 @@ impl Pairs {
 
     /// The properties that exclude this one.
     #[inline]
-    fn partners(&self, property: u16) -> impl Iterator<Item = u16> + '_ {
+    pub fn partners(&self, property: u16) -> impl Iterator<Item = u16> + '_ {
         let mut next = self.last[low_byte(property)];
         let each = std::iter::from_fn(move || {
             let number = usize::from(next);

@@ -41,6 +41,11 @@ impl<const N: usize> Rows<N> {
         self.used
     }
 
+    /// The bytes of the blocks of all.
+    pub fn bytes(&self) -> usize {
+        self.used.div_ceil(PER_BLOCK).max(1) * BLOCK
+    }
+
     /// Adds entries again that stand after so many, so that those which these own are owned alike and the others by this one.
     #[inline]
     pub fn repeat(&mut self, after: usize, count: usize, owner: u16) {

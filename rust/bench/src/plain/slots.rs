@@ -57,7 +57,7 @@ impl Key {
     }
 
     #[inline]
-    fn is_property(self) -> bool {
+    pub fn is_property(self) -> bool {
         self.0 & 1 << 16 == 0
     }
 
@@ -139,7 +139,7 @@ impl<const N: usize> Slots<N> {
 
     /// The slot of a key, made where there is none.
     #[inline]
-    fn find_or_make(&mut self, key: Key) -> usize {
+    pub fn find_or_make(&mut self, key: Key) -> usize {
         let (slot, cell) = self.cell(key);
         if slot != 0 {
             return slot;

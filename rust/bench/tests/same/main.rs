@@ -4,6 +4,7 @@ mod catalogue;
 mod desk;
 mod earning;
 mod excluding;
+mod failing;
 mod hierarchy;
 mod items;
 mod missing;
