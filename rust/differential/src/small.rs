@@ -66,6 +66,40 @@ impl Pool {
         }
     }
 
+    /// All records of up to three items with so many properties and links that keep the rule and the list, as the first item sees them:
+    /// each item is reached from it, and of two that differ by exchanging the other two items there is one. What the first item fits in
+    /// another record of up to three items it fits in one of these.
+    pub fn seen_from_first(names: Names, properties: u16, links: u16, pairs: &[u8]) -> Pool {
+        let sizes = (1..=3).map(|items| Size {
+            items,
+            properties,
+            links,
+            names,
+        });
+        let all = sizes.flat_map(|size| {
+            let patterns = 0..1u64 << size.bits().min(16);
+            let first = patterns.filter(move |&pattern| pattern <= exchanged(size, pattern));
+            first.map(move |pattern| record(size, pattern))
+        });
+        let seen = all.filter(|record| {
+            reaches_all(record) && record.keeps_the_rule() && record.keeps_the_list(pairs)
+        });
+        Pool {
+            records: seen.collect(),
+        }
+    }
+
+    /// For each record whether its first item fits the accepted description, a bit for each.
+    pub fn first_fitting(&self, d: &[Entry]) -> Vec<u64> {
+        let word = |records: &[Record]| {
+            let bits = records
+                .iter()
+                .map(|record| u64::from(fits(record, 0, d, 0)));
+            bits.fold(0, |word, bit| word << 1 | bit)
+        };
+        self.records.chunks(64).map(word).collect()
+    }
+
     /// Those of these records that keep the list.
     pub fn keeping(&self, pairs: &[u8]) -> Pool {
         let records = self.records.iter();
@@ -104,6 +138,42 @@ impl Pool {
             items.all(|item| !fits(record, item, c, 0) || fits(record, item, d, 0))
         })
     }
+}
+
+/// Whether the first item leads to each, at once or by others.
+fn reaches_all(record: &Record) -> bool {
+    let mut reached = BTreeSet::from([0]);
+    for _ in 0..record.items {
+        let linked = |&item| {
+            record
+                .links
+                .keys()
+                .flat_map(move |&link| record.linked(item, link))
+        };
+        let further: Vec<usize> = reached.iter().flat_map(linked).collect();
+        reached.extend(further);
+    }
+    reached.len() == record.items
+}
+
+/// The pattern of the record of this size in which the second and the third item, if there is one, are exchanged.
+fn exchanged(size: Size, pattern: u64) -> u64 {
+    if size.items != 3 {
+        return pattern;
+    }
+    let (properties, links) = (usize::from(size.properties), usize::from(size.links));
+    let stride = properties + 3 * links;
+    let mut whole = 0;
+    for (item, to) in [(0, 0), (1, 2), (2, 1)] {
+        let of_item = pattern >> (stride * item);
+        let mut bits = of_item & ((1 << properties) - 1);
+        for at in (0..links).map(|link| properties + 3 * link) {
+            let linked = of_item >> at & 7;
+            bits |= (linked & 1 | (linked & 2) << 1 | (linked & 4) >> 1) << at;
+        }
+        whole |= bits << (stride * to);
+    }
+    whole
 }
 
 /// The record without the pairs that break the rule.

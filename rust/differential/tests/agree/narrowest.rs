@@ -1,5 +1,7 @@
 //! The narrowest description of two: drawn pairs, all small ones, and sweeps over lengths, bytes and the order of refusals.
 
+use std::collections::BTreeMap;
+
 use super::sweeps::each_byte;
 use super::*;
 use differential::excluding::list;
@@ -67,6 +69,112 @@ fn all_tiny_pairs() {
                 let answer = narrowest(of_pairs(&pairs), a, b, 2 * BLOCK);
                 assert!(matches!(answer, Answer::Count(_)));
             }
+        }
+    }
+}
+
+/// All descriptions of at most two entries over two properties and a link, and all records of at most three items as their first item sees
+/// them, under a list.
+struct Small {
+    pairs: Vec<u8>,
+    all: Vec<Vec<Entry>>,
+    records: Pool,
+    /// For each description the records that fit it.
+    fitting: Vec<Vec<u64>>,
+    /// For each two whether the first is contained in the second, by the library's comparison.
+    contained: Vec<Vec<bool>>,
+}
+
+/// Each of the first is one of the second.
+fn within(first: &[u64], second: &[u64]) -> bool {
+    let each = first.iter().zip(second);
+    each.fold(0, |left, (one, other)| left | one & !other) == 0
+}
+
+impl Small {
+    fn of(names: Names, pairs: &[(u16, u16)]) -> Small {
+        let pairs = list(pairs);
+        let all = tiny_descriptions(names, 2, 1);
+        let records = Pool::seen_from_first(names, 2, 1, &pairs);
+        let fitting = all.iter().map(|d| records.first_fitting(d)).collect();
+        let mut small = Small {
+            pairs,
+            records,
+            fitting,
+            contained: Vec::new(),
+            all,
+        };
+        let rows = small.all.iter().map(|c| small.contained_in(c));
+        small.contained = rows.collect();
+        small
+    }
+
+    /// In which of the descriptions this one is contained.
+    fn contained_in(&self, c: &[Entry]) -> Vec<bool> {
+        let c = encode(c);
+        let contained = |d: &Vec<Entry>| {
+            let (d, mut out) = (encode(d), [0; 32 * BLOCK]);
+            let answer = of_pairs(&self.pairs).compare(&c, &d, &mut out);
+            answer == Ok(goltximen::Comparison::Contained)
+        };
+        self.all.iter().map(contained).collect()
+    }
+
+    /// 'Contained' holds in the records; and where numbers are so small that three items show each case, so does 'not contained'.
+    fn confirm_comparisons(&self) {
+        let few = |d: &[Entry]| d.iter().all(|e| e.number <= u16::from(e.kind == 3) + 1);
+        for (c, row) in self.contained.iter().enumerate() {
+            for (d, &contained) in row.iter().enumerate() {
+                let seen = within(&self.fitting[c], &self.fitting[d]);
+                let small = few(&self.all[c]) && few(&self.all[d]);
+                let (c, d) = (&self.all[c], &self.all[d]);
+                assert!(!contained || seen, "{c:?} {d:?}");
+                assert!(contained || !seen || !small, "{c:?} {d:?}");
+            }
+        }
+    }
+
+    /// The narrowest of each two is fitted by each record that fits one of them, and is contained in exactly the descriptions that contain
+    /// both; which the records confirm. How many different ones there are.
+    fn is_the_least(&self) -> usize {
+        let mut found: BTreeMap<Vec<u8>, (Vec<u64>, Vec<bool>)> = BTreeMap::new();
+        for (one, other) in (0..self.all.len()).flat_map(|a| (0..=a).map(move |b| (a, b))) {
+            let [a, b] = [one, other].map(|at| encode(&self.all[at]));
+            let mut out = [0; 2 * BLOCK];
+            let answer = narrowest(of_pairs(&self.pairs), &a, &b, out.len());
+            let entries = of_pairs(&self.pairs).narrowest(&a, &b, &mut out);
+            assert_eq!(entries.map(usize::from).map(Answer::Count), Ok(answer));
+            let (fitting, above) = found.entry(out[..BLOCK].to_vec()).or_insert_with(|| {
+                let result = reference::decode(&out[..BLOCK]);
+                (
+                    self.records.first_fitting(&result),
+                    self.contained_in(&result),
+                )
+            });
+            for at in [one, other] {
+                assert!(within(&self.fitting[at], fitting), "{:?}", self.all[at]);
+            }
+            for (d, &above) in above.iter().enumerate() {
+                let both = self.contained[one][d] && self.contained[other][d];
+                let seen = within(fitting, &self.fitting[d]);
+                let shown = [one, other, d].map(|at| &self.all[at]);
+                assert!(above == both && (!above || seen), "{shown:?}");
+            }
+        }
+        found.len()
+    }
+}
+
+/// Links that lead to one item only and others, with a pair and without.
+#[test]
+fn the_least_of_all_small_descriptions() {
+    for (names, counts) in [(Names::Low, [8456, 3606]), (Names::High, [312, 141])] {
+        let pair = [(names.name(1), names.name(2))];
+        for (pairs, records) in [(&[][..], counts[0]), (&pair, counts[1])] {
+            let small = Small::of(names, pairs);
+            assert_eq!((small.all.len(), small.records.count()), (169, records));
+            small.confirm_comparisons();
+            assert!(small.is_the_least() > 10);
         }
     }
 }
