@@ -37,7 +37,7 @@ ul ul{margin-left:.55rem;padding-left:.9rem;border-left:1px solid var(--rule)}
 .w{flex:1;min-width:0;overflow-wrap:anywhere}
 .w b{font-weight:600}
 .c{color:var(--soft);font-size:.85rem;margin-left:.35rem;white-space:nowrap}
-.c.t{white-space:normal}
+.c.t{display:inline-block;white-space:normal}
 summary{cursor:pointer;border-radius:.2rem;list-style:none}
 summary::-webkit-details-marker{display:none}
 summary .e::before{content:\"\\25B8\";flex:none;width:.8rem;margin-right:-.4rem;color:var(--soft)}
