@@ -1,12 +1,14 @@
 // Reads vectors from standard input, at most 3,000, makes the call of each, and prints a line for each: the vector's
-// number, the call, the answer, and for a call with an output a digest of all the output's bytes [K8]. The vectors,
-// and the lines to be printed, are made by the version of other hands (rust/reference), which `make vectors` runs.
+// number, the call, the answer, and for a call with an output a digest of all the output's bytes [K8]. The vectors, and
+// the lines to be printed, are made by the version of other hands (rust/reference), which `make vectors` runs.
 //
-// A vector is a header of eight words, low byte first, and then the bytes of its list of pairs, its dictionary and its two inputs. The words: the
-// call (1 read a description, 2 read a specimen, 3 fit, 4 normal form, 5 compare, 6 unfold, 7 catalogue, 8 hierarchy, 9 read a field sheet, 10 the
-// items of a delivered record, 11 to the stored form, 12 from it, 13 what earns a yes, 14 calls on an empty desk, 16 what is missing), the lengths
-// of these four, the length of the output, and the number of items in two words, 0 for the other calls. No dictionary and no second input is longer
-// than 33,792 bytes, 66 blocks, and nothing else than 17,408, 34 blocks. Each byte of the output is 165 before the call.
+// A vector is a header of eight words, low byte first, and then the bytes of its list of pairs, its dictionary and its
+// two inputs. The words: the call (1 read a description, 2 read a specimen, 3 fit, 4 normal form, 5 compare, 6 unfold,
+// 7 catalogue, 8 hierarchy, 9 read a field sheet, 10 the items of a delivered record, 11 to the stored form, 12 from
+// it, 13 what earns a yes, 14 calls on an empty desk, 15 what fails, 16 what is missing, 17 the narrowest), the lengths
+// of these four, the length of the output, and the number of items in two words, 0 for the other calls. No dictionary
+// and no second input is longer than 33,792 bytes, 66 blocks, and nothing else than 17,408, 34 blocks. Each byte of the
+// output is 165 before the call.
 #![tactic(auto)]
 
 use blocks::{Entry, Refusal, byte, word};
@@ -26,8 +28,9 @@ struct Vector<'a> {
     total: usize,
 }
 
-// No `Display` is plainer than the functions below: `Result` is the library's own and can be given none here, so each answer would need a struct
-// about it, with the same `match`; and two of them print an output too, which stands beside the answer.
+// No `Display` is plainer than the functions below: `Result` is the library's own and can be given none here, so each
+// answer would need a struct about it, with the same `match`; and two of them print an output too, which stands beside
+// the answer.
 
 // Prints what reading answers.
 fn print_reading(rt: &impl Print, call: &str, answer: Result<u16, Refusal>) -> io::Result<()> {
@@ -46,13 +49,25 @@ fn print_yes(rt: &impl Print, call: &str, answer: Result<bool, Refusal>) -> io::
     }
 }
 
-// Prints the digest of an output: the bytes as the digits of a number to the base 257, modulo the largest prime below 2 to the 32nd.
+// Prints the digest of an output: the bytes as the digits of a number to the base 257, modulo the largest prime below 2
+// to the 32nd.
 fn print_digest(rt: &impl Print, out: &[u8]) -> io::Result<()> {
     let mut digest: u64 = 0;
     for byte in out {
         digest = (digest * 257 + u64::from(*byte)) % 4294967291;
     }
     print!(rt; " output {digest}")
+}
+
+// Prints a yes or a no, and the digest of the output, in which entries are marked.
+fn print_marked(
+    rt: &impl Print,
+    call: &str,
+    answer: Result<bool, Refusal>,
+    out: &[u8],
+) -> io::Result<()> {
+    print_yes(rt, call, answer)?;
+    print_digest(rt, out)
 }
 
 // Prints how many entries or bytes a call has written, and the digest of the output.
@@ -97,8 +112,9 @@ fn print_lack(rt: &impl Print, answer: Result<Lack, Refusal>, out: &[u8]) -> io:
     print_digest(rt, out)
 }
 
-// Makes the call of a desk that these 9 bytes say: what it is (1 add, 2 take off, 3 name, 4 go back, 5 drop, else write out), and then the entry,
-// or the stand, or how much of the output there is, low byte first. A byte that is not there is 0.
+// Makes the call of a desk that these 9 bytes say: what it is (1 add, 2 take off, 3 name, 4 go back, 5 drop, else write
+// out), and then the entry, or the stand, or how much of the output there is, low byte first. A byte that is not there
+// is 0.
 fn act(buffer: &mut [u8], row: &[u8], out: &mut [u8]) -> Result<u16, Refusal> {
     let n = word(row, 1);
     let call = match byte(row, 0) {
@@ -121,7 +137,8 @@ fn act(buffer: &mut [u8], row: &[u8], out: &mut [u8]) -> Result<u16, Refusal> {
     desk::buffer::act(buffer, call)
 }
 
-// Makes calls on an empty desk, and prints the answer of each and the digest of the output, which each writing out begins anew.
+// Makes calls on an empty desk, and prints the answer of each and the digest of the output, which each writing out
+// begins anew.
 fn print_desk(rt: &impl Print, calls: &[u8], out: &mut [u8]) -> io::Result<()> {
     let mut buffer = [0u8; 40340];
     print!(rt; " desk")?;
@@ -134,23 +151,22 @@ fn print_desk(rt: &impl Print, calls: &[u8], out: &mut [u8]) -> io::Result<()> {
     print_digest(rt, out)
 }
 
-// Makes the call of a vector and prints its answer. The readers take neither a list nor a dictionary. The calls go by the number in the header,
-// which the head of this file explains and only this `match` reads: by an enum they would be listed twice more, and then matched as here.
-fn run_call(rt: &impl Print, v: &Vector, out: &mut [u8]) -> io::Result<()> {
+// Reads the first input, as a description, a specimen or a field sheet. The readers take neither a list nor a
+// dictionary.
+fn run_reader(rt: &impl Print, v: &Vector) -> io::Result<()> {
     match v.call {
         1 => print_reading(rt, "description", reading::read_description(v.first)),
         2 => print_reading(rt, "specimen", reading::read_specimen(v.first)),
-        3 => {
-            let answer = named::fit(v.pairs, v.dictionary, v.first, v.second);
-            print_yes(rt, "fit", answer)
-        }
+        _ => print_reading(rt, "sheet", sheets::read_sheet(v.first)),
+    }
+}
+
+// Makes a call that answers how many entries it has written, or how many bytes it has filled.
+fn run_writing(rt: &impl Print, v: &Vector, out: &mut [u8]) -> io::Result<()> {
+    match v.call {
         4 => {
             let answer = named::normalise(v.pairs, v.dictionary, v.first, out);
             print_written(rt, "normal form", answer, out)
-        }
-        5 => {
-            let answer = named::compare(v.pairs, v.dictionary, v.first, v.second, out);
-            print_comparison(rt, answer, out)
         }
         6 => {
             let answer = unfolding::unfold(v.dictionary, v.first, out);
@@ -164,7 +180,6 @@ fn run_call(rt: &impl Print, v: &Vector, out: &mut [u8]) -> io::Result<()> {
             let answer = hierarchy::hierarchy(v.pairs, v.second, out);
             print_written(rt, "hierarchy", answer, out)
         }
-        9 => print_reading(rt, "sheet", sheets::read_sheet(v.first)),
         10 => {
             let answer = items::fit_items(v.pairs, v.dictionary, v.total, v.first, v.second, out);
             print_written(rt, "fit all", answer, out)
@@ -177,19 +192,41 @@ fn run_call(rt: &impl Print, v: &Vector, out: &mut [u8]) -> io::Result<()> {
             let answer = stored::from_stored(v.first, out);
             print_written(rt, "from stored", answer, out)
         }
+        _ => {
+            let answer = named::narrowest(v.pairs, v.dictionary, v.first, v.second, out);
+            print_written(rt, "narrowest", answer, out)
+        }
+    }
+}
+
+// Makes the call of a vector and prints its answer. The calls go by the number in the header, which the head of this
+// file explains and only these three functions read: by an enum they would be listed twice more, and then matched as
+// here.
+fn run_call(rt: &impl Print, v: &Vector, out: &mut [u8]) -> io::Result<()> {
+    match v.call {
+        1 | 2 | 9 => run_reader(rt, v),
+        3 => {
+            let answer = named::fit(v.pairs, v.dictionary, v.first, v.second);
+            print_yes(rt, "fit", answer)
+        }
+        5 => {
+            let answer = named::compare(v.pairs, v.dictionary, v.first, v.second, out);
+            print_comparison(rt, answer, out)
+        }
         13 => {
-            print_yes(
-                rt,
-                "earning",
-                earning::earning(v.pairs, v.first, v.second, out),
-            )?;
-            print_digest(rt, out)
+            let answer = earning::earning(v.pairs, v.first, v.second, out);
+            print_marked(rt, "earning", answer, out)
+        }
+        14 => print_desk(rt, v.first, out),
+        15 => {
+            let answer = failings::failing(v.pairs, v.first, v.second, out);
+            print_marked(rt, "failing", answer, out)
         }
         16 => {
             let answer = missing::missing(v.pairs, v.first, v.second, out);
             print_lack(rt, answer, out)
         }
-        _ => print_desk(rt, v.first, out),
+        _ => run_writing(rt, v, out),
     }
 }
 

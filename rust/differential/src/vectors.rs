@@ -13,10 +13,10 @@
 //! | 12-15 | the number of items of a delivered record, low byte first; 0 for the other calls |
 //!
 //! After byte 15 come the list, the dictionary, input 1 and input 2, with nothing between them and nothing before the next header. The
-//! fit answer, the normal form, the comparison, the catalogue and the call on delivered items are always made with the list and the
-//! dictionary, which may be empty; the unfolding is made with the dictionary, and its list has length 0; the hierarchy and what earns a
-//! yes or lacks for one are made with the list, and their dictionary has length 0, as has the hierarchy's input 1; the three readers,
-//! the stored form's two calls and the desk take neither. A call without pairs is one with a list of length 0, and one without a
+//! fit answer, the normal form, the comparison, the narrowest, the catalogue and the call on delivered items are always made with the
+//! list and the dictionary, which may be empty; the unfolding is made with the dictionary, and its list has length 0; the hierarchy and
+//! what earns a yes, fails or lacks for one are made with the list, and their dictionary has length 0, as has the hierarchy's input 1;
+//! the three readers, the stored form's two calls and the desk take neither. A call without pairs is one with a list of length 0, and one without a
 //! dictionary one with a dictionary of length 0. No length of a dictionary is above [`MOST_DICTIONARY`], none of a list of services
 //! above [`MOST_LIST`], and no other above [`MOST_LENGTH`]. Each byte of the output is [`FILL`] before the call.
 //!
@@ -75,8 +75,12 @@ pub enum Call {
     Earning = 13,
     /// The calls in input 1, on an empty desk.
     Desk = 14,
+    /// Which entries of input 2 fail for input 1, under the list.
+    Failing = 15,
     /// What input 1 lacks for input 2, under the list.
     Missing = 16,
+    /// The narrowest description that contains input 1 and input 2, under the list and the dictionary.
+    Narrowest = 17,
 }
 
 impl Call {
@@ -106,7 +110,9 @@ impl fmt::Display for Call {
             Call::FromStored => "from stored",
             Call::Earning => "earning",
             Call::Desk => "desk",
+            Call::Failing => "failing",
             Call::Missing => "missing",
+            Call::Narrowest => "narrowest",
         })
     }
 }
@@ -258,9 +264,19 @@ impl Vector {
         Vector::of(Call::Earning, c, d, output)
     }
 
+    /// Which entries fail, with an output of this length.
+    pub fn failing(c: Vec<u8>, d: Vec<u8>, output: usize) -> Vector {
+        Vector::of(Call::Failing, c, d, output)
+    }
+
     /// What is missing, with an output of this length.
     pub fn missing(c: Vec<u8>, d: Vec<u8>, output: usize) -> Vector {
         Vector::of(Call::Missing, c, d, output)
+    }
+
+    /// The narrowest of two, with an output of this length.
+    pub fn narrowest(a: Vec<u8>, b: Vec<u8>, output: usize) -> Vector {
+        Vector::of(Call::Narrowest, a, b, output)
     }
 
     /// Calls on an empty desk, with an output of this length.
@@ -340,7 +356,11 @@ impl Vector {
             Call::ToStored => reference::to_stored(first, &mut out).map(Answer::Wrote),
             Call::FromStored => reference::from_stored(first, &mut out).map(Answer::Wrote),
             Call::Earning => reference::earning(pairs, first, second, &mut out).map(Answer::Fits),
+            Call::Failing => reference::failing(pairs, first, second, &mut out).map(Answer::Fits),
             Call::Missing => reference::missing(pairs, first, second, &mut out).map(Answer::Lacks),
+            Call::Narrowest => {
+                reference::narrowest(pairs, dict, first, second, &mut out).map(Answer::Wrote)
+            }
             Call::Desk => Ok(Answer::Drafted(drafted(first, &mut out))),
         };
         (answer.unwrap_or_else(Answer::Refused), out)
@@ -430,7 +450,9 @@ pub fn all() -> Vec<Vector> {
         named::items::all(),
         named::stored::all(),
         named::earning::all(),
+        named::failing::all(),
         named::missing::all(),
+        named::narrowest::all(),
         named::drafting::all(),
         named::doubles::all(),
         named::desk(),

@@ -5,10 +5,12 @@ pub mod doubles;
 pub mod drafting;
 pub mod earning;
 pub mod excluding;
+pub mod failing;
 pub mod hierarchy;
 pub mod items;
 pub mod missing;
 pub mod naming;
+pub mod narrowest;
 pub mod sheets;
 pub mod stored;
 

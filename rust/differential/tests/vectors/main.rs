@@ -6,10 +6,12 @@ mod doubles;
 mod drafting;
 mod earning;
 mod excluding;
+mod failing;
 mod hierarchy;
 mod items;
 mod missing;
 mod naming;
+mod narrowest;
 mod sheets;
 mod stored;
 
@@ -157,7 +159,9 @@ fn as_many_and_as_long_as_allowed() {
                 | Call::Hierarchy
                 | Call::Items
                 | Call::Earning
+                | Call::Failing
                 | Call::Missing
+                | Call::Narrowest
         );
         assert!(vector.total == 0 || vector.call == Call::Items);
         assert!(vector.second.is_empty() || !one_input);
@@ -166,7 +170,7 @@ fn as_many_and_as_long_as_allowed() {
         assert!(pairs == 0 || vector.call != Call::Unfold);
         // The hierarchy takes a list of services alone.
         assert!(dictionary + first == 0 || vector.call != Call::Hierarchy);
-        let listed = [Call::Earning, Call::Missing].contains(&vector.call);
+        let listed = [Call::Earning, Call::Failing, Call::Missing].contains(&vector.call);
         assert!(dictionary == 0 || !listed);
         // The stored form and the desk take input 1 alone.
         let alone = [Call::ToStored, Call::FromStored, Call::Desk].contains(&vector.call);
@@ -345,9 +349,10 @@ fn the_library_agrees() {
             Call::ToStored => agree::to_stored(&mut chance, first, vector.output),
             Call::FromStored => agree::from_stored(&mut chance, first, vector.output),
             Call::Desk => drafts(first),
-            // The binding has no such call; the program of the vectors makes it.
-            Call::Earning => continue,
+            Call::Earning => agree::earning(&mut chance, under.pairs, first, second, vector.output),
+            Call::Failing => agree::failing(&mut chance, under.pairs, first, second, vector.output),
             Call::Missing => agree::missing(&mut chance, under.pairs, first, second, vector.output),
+            Call::Narrowest => agree::narrowest(&mut chance, under, first, second, vector.output),
         };
         if let Err(difference) = agreed {
             panic!("vector {number}: {difference}");
