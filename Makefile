@@ -30,7 +30,7 @@ run: target/bin/goltximen
 target/bin/%: SHELL := /bin/bash
 target/bin/%: always
 	@mkdir -p target/bin
-	@[ -e $@ ] || echo "Proving $* and all that it uses: 27 minutes of processor time from nothing, shared by $$(nproc) processors." >&2
+	@[ -e $@ ] || echo "Proving $* and all that it uses: 30 to 40 minutes of processor time from nothing, shared by $$(nproc) processors." >&2
 	@[ -e target/$*.proved ] && [ -z "$$(find crates.txt crates -type f \( -name '*.rt' -o -name '*.antt' -o -name crates.txt \) \
 		-newer target/$*.proved -print -quit)" ] || tools/prove $* >&2
 	@cd crates/$* && rt run < stdin > ../../target/$*.log 2>&1 || \
