@@ -1,5 +1,5 @@
-//! The rows of the entries that earn a yes: where all is needed of what the service asks, half of it, or none; on one pair, and on several
-//! in turn.
+//! The rows of the entries that earn a yes: where all is needed of what the service asks, half of it, or none; on one
+//! pair, and on several in turn. And the same by first tellers, in plain Rust alone, beside the trials of plain Rust.
 
 use std::hint::black_box;
 
@@ -57,4 +57,38 @@ fn earning_times(pairs: &[Pair], entries: usize) -> (f64, f64) {
         |(c, d), out| goltximen::earning(&[], black_box(c), black_box(d), out).ok(),
         |(c, d), out| plain::earning(&[], black_box(c), black_box(d), out).ok(),
     )
+}
+
+/// The rows of the two ways of plain Rust.
+pub fn teller_rows() {
+    println!();
+    println!(
+        "| Entries | Input | Situation | First tellers, µs | Trials, µs | Trials / first tellers |"
+    );
+    println!("|---:|---|---|---:|---:|---:|");
+    let mut chance = Chance::new(0x7e11);
+    for (sizes, _) in SIZES {
+        for shape in SHAPES {
+            for needed in Needed::ALL {
+                let pair = encoded(asked(sizes, shape, needed, &mut chance));
+                print_ways(sizes, shape, needed.name(), &pair);
+            }
+        }
+    }
+    let chosen = encoded(alternate(1008, &mut chance));
+    print_ways((1008, 1008), Shape::Wide, "chosen", &chosen);
+}
+
+fn print_ways((entries, asked): (usize, usize), shape: Shape, situation: &str, pair: &Pair) {
+    let size = format!("{} and {}", grouped(entries), grouped(asked));
+    let (tellers, trials) = checked_times(
+        std::slice::from_ref(pair),
+        entries,
+        |&answer| answer == Some(true),
+        |(c, d), out| plain::first_tellers(&[], black_box(c), black_box(d), out).ok()?,
+        |(c, d), out| plain::earning(&[], black_box(c), black_box(d), out).ok(),
+    );
+    let (input, ratio) = (shape_name(shape), trials / tellers);
+    let (tellers, trials) = (tellers / 1000.0, trials / 1000.0);
+    println!("| {size} | {input} | {situation} | {tellers:.2} | {trials:.2} | {ratio:.1} |");
 }

@@ -84,6 +84,7 @@ fn main() {
         Some("stored") => return stores::rows(),
         Some("desk") => return desks::rows(),
         Some("earning") => return earned::rows(),
+        Some("tellers") => return earned::teller_rows(),
         Some("failing") => return failings::rows(),
         Some("missing") => return lacking::rows(),
         Some("narrowest") => return narrowed::rows(),
@@ -100,6 +101,7 @@ fn main() {
     failings::rows();
     delivered::rows();
     earned::rows();
+    earned::teller_rows();
     lacking::rows();
     narrowed::rows();
     turns::rows();

@@ -164,7 +164,7 @@ fn is_implied<const N: usize>(pairs: &Pairs, slots: &Slots<N>, state: u16, entry
 }
 
 /// Whether an entry is at most 1 or more of a link that leads to one item only.
-fn is_always_met(entry: Entry) -> bool {
+pub fn is_always_met(entry: Entry) -> bool {
     entry.kind() == AT_MOST && entry.name() >= FIRST_SINGLE && entry.number() > 0
 }
 

@@ -43,13 +43,13 @@ fn sized<const N: usize>(
 }
 
 /// The entries of a description, counted from 1.
-struct Listed<const N: usize> {
-    entries: [Entry; N],
-    count: usize,
+pub struct Listed<const N: usize> {
+    pub entries: [Entry; N],
+    pub count: usize,
 }
 
 impl<const N: usize> Listed<N> {
-    fn read(bytes: &[u8], input: u16) -> Result<Listed<N>, Refusal> {
+    pub fn read(bytes: &[u8], input: u16) -> Result<Listed<N>, Refusal> {
         let mut entries = [Entry(0); N];
         let count = read::<N>(bytes, &DESCRIPTION, input, |number, entry| {
             entries[number] = entry;
@@ -57,7 +57,7 @@ impl<const N: usize> Listed<N> {
         Ok(Listed { entries, count })
     }
 
-    fn numbered(&self) -> impl Iterator<Item = (usize, Entry)> + '_ {
+    pub fn numbered(&self) -> impl Iterator<Item = (usize, Entry)> + '_ {
         (1..).zip(self.entries[1..=self.count].iter().copied())
     }
 
@@ -71,7 +71,7 @@ impl<const N: usize> Listed<N> {
     }
 
     /// Puts the owners of what is kept into the set. Owners stand before what they own.
-    fn mark_owners(&self, kept: &mut [bool; N]) {
+    pub fn mark_owners(&self, kept: &mut [bool; N]) {
         for number in (1..=self.count).rev() {
             kept[self.entries[number].owner()] |= kept[number];
         }

@@ -23,6 +23,9 @@ pub const SAYS: u8 = 2;
 pub struct Key(u32);
 
 impl Key {
+    /// Of a property of no name, which no entry has.
+    pub const NONE: Key = Key(0);
+
     /// The key for what an entry of this kind, not 6, says at a place.
     #[inline]
     pub fn of_kind(place: usize, kind: u16, name: u16) -> Key {
@@ -96,7 +99,7 @@ pub struct Slots<const N: usize> {
     pub slots: [Slot; N],
     /// The number of slots.
     pub used: usize,
-    /// For each 'every' entry the place it owns.
+    /// For each entry its slot, which is the place that an 'every' entry owns.
     places: [u16; N],
     /// The marks of each place.
     pub marks: [u8; N],
@@ -172,6 +175,12 @@ impl<const N: usize> Slots<N> {
         let held = &mut self.slots[slot];
         held.least = held.least.max(least);
         held.most = held.most.min(most);
+    }
+
+    /// The slot of an entry that was taken in, 0 for one of kind 6.
+    #[inline]
+    pub fn slot_of(&self, number: usize) -> usize {
+        usize::from(self.places[number])
     }
 
     /// Whether a place has a property.

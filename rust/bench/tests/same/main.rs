@@ -5,6 +5,7 @@ mod desk;
 mod earning;
 mod excluding;
 mod failing;
+mod first_tellers;
 mod hierarchy;
 mod items;
 mod missing;
