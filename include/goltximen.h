@@ -131,7 +131,7 @@
  *     gx_fit_with             68,904 bytes
  *     gx_normal_with          84,216 bytes
  *     gx_compare_with         97,976 bytes
- *     gx_narrowest           100,616 bytes
+ *     gx_narrowest           104,712 bytes
  *     gx_catalogue            95,232 bytes
  *     gx_hierarchy            50,840 bytes
  *     gx_earning              71,576 bytes
