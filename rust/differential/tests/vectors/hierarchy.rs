@@ -1,4 +1,4 @@
-//! The vectors of the catalogue as a hierarchy, with their answers from the request's sentences.
+//! The vectors of the catalogue as a hierarchy, with their answers from the clauses' sentences.
 
 use super::*;
 use differential::named::hierarchy;

@@ -1,4 +1,4 @@
-//! The vectors of field sheets, with their answers from the request's sentences.
+//! The vectors of field sheets, with their answers from the clauses' sentences.
 
 use super::*;
 use differential::named::sheets;
