@@ -185,8 +185,8 @@ extern "C" {
 uint64_t gx_read_description(const uint8_t *d, size_t d_len);
 
 /*
- * Reads the specimen s: a count, its number of entries; or refused. Only specimens are refused with 9, here and in the fit calls.
- * Reading takes no list, so it never refuses with 12.
+ * Reads the specimen s: a count, its number of entries; or refused. Only specimens, here and in the fit calls, and
+ * delivered records, in gx_fit_all, are refused with 9. Reading takes no list, so it never refuses with 12.
  */
 uint64_t gx_read_specimen(const uint8_t *s, size_t s_len);
 
