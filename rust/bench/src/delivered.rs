@@ -34,6 +34,19 @@ pub fn rows() {
         let case = (record.clone(), encode(&description));
         row(1008, "2,016 facts of one link", situation, &[case]);
     }
+    let record = of_one_item();
+    for (situation, kind, number) in [("at least, chosen", 3, 1), ("every, chosen", 5, 0)] {
+        let description = vec![entry(kind, 0, 1, number); 1008];
+        let case = (record.clone(), encode(&description));
+        row(1008, "2,016 facts of one item", situation, &[case]);
+    }
+}
+
+/// 2,016 facts of one item and one link, which leads to each of 256 items seven or eight times. Each is counted into the number of the
+/// one before it, and left in the mark of the one before it, so each waits for that one.
+fn of_one_item() -> Vec<u8> {
+    let facts = (0..2016).map(|n| entry(8, 1, 1, 1 + (n % MOST_ITEMS) as u16));
+    encode(&facts.collect::<Vec<Entry>>())
 }
 
 /// So many facts of 256 items, a fourth of them properties.

@@ -114,6 +114,14 @@ pub fn asked_again(has: u16) -> (Vec<Entry>, Vec<Entry>) {
     (have.collect(), vec![entry(2, 0, HUB, 0); 1008])
 }
 
+/// A service of 1,008 entries that has the property which the hub's pairs exclude, and asks for the hub's lack 1,007 times. It is
+/// contained in itself, and each of those lacks is looked for in the list.
+pub fn asked_of_itself(has: u16) -> Vec<Entry> {
+    let mut service = vec![entry(2, 0, HUB, 0); 1008];
+    service[0] = entry(1, 0, has, 0);
+    service
+}
+
 /// The property beside the hub in the list `again`, and in the list `one_bucket`.
 pub const BESIDE: u16 = HUB + 1;
 pub const FAR_BESIDE: u16 = HUB + 256 * 64;

@@ -77,6 +77,7 @@ fn main() {
     // With a word, the rows of one call alone.
     match std::env::args().nth(1).as_deref() {
         Some("hierarchy") => return ranked::rows(),
+        Some("worst-list") => return ranked::chosen_rows(),
         Some("delivered") => return delivered::rows(),
         Some("names") => return named::rows(),
         Some("links") => return one_link_rows(),

@@ -1,12 +1,15 @@
-//! The rows of the hierarchy: 64 services ranked in one call, on one list and on several in turn; and beside 64 calls of the catalogue.
+//! The rows of the hierarchy: 64 services ranked in one call, on one list and on several in turn; beside 64 calls of the catalogue; and
+//! chosen ones under a list of pairs.
 
 use std::hint::black_box;
 
 use bench::catalogue::MOST_SERVICES;
+use bench::excluding::{asked_of_itself, one_bucket, FAR_BESIDE};
 use bench::hierarchy::{services, Kinship};
 use bench::inputs::{Chance, Shape};
 use bench::plain;
 use goltximen::{hierarchy, hierarchy_bytes, Under};
+use reference::encode;
 
 use crate::{checked_times, grouped, print_heading, print_row, shape_name, shaped};
 
@@ -47,6 +50,44 @@ pub fn rows() {
     println!("\nThe second time is that of 64 calls of the catalogue, one for each service:\n");
     print_heading();
     all.iter().for_each(Lists::beside_catalogues);
+    println!("\nThe worst list of pairs, beside the ordinary rows of its size:\n");
+    chosen_rows();
+}
+
+/// 64 services of 1,008 entries: ordinary ones, all equal, with no pairs and under the worst list, and 64 that are chosen against it.
+pub fn chosen_rows() {
+    print_heading();
+    let mut chance = Chance::new(0x1a1a);
+    let ordinary = services(1008, Shape::Wide, Kinship::Equal, &mut chance).concat();
+    let chosen = encode(&asked_of_itself(FAR_BESIDE)).repeat(MOST_SERVICES);
+    let worst = one_bucket();
+    for (input, situation, pairs, list) in [
+        ("wide", "all equal", &[][..], &ordinary),
+        (
+            "wide, 64 pairs in one bucket",
+            "all equal",
+            &worst,
+            &ordinary,
+        ),
+        ("pairs in one bucket", "chosen", &worst, &chosen),
+    ] {
+        let times = ranking_times(pairs, list);
+        print_row("hierarchy", "64 × 1,008", input, situation, times);
+    }
+}
+
+/// One list of 64 services, ranked under a list of pairs. It is given twice, as two in turn, since these get fewer repetitions.
+fn ranking_times(pairs: &[u8], list: &[u8]) -> (f64, f64) {
+    checked_times(
+        &[list, list],
+        LENGTH,
+        |&count| count == Some(LENGTH),
+        |list, out| {
+            let ranked = hierarchy(black_box(pairs), black_box(list), out).ok();
+            ranked.map(|ranked| ranked.written().len())
+        },
+        |list, out| plain::hierarchy(black_box(pairs), black_box(list), out).ok(),
+    )
 }
 
 impl Lists {
