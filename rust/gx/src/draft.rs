@@ -20,13 +20,32 @@ pub enum Asked {
 /// The first words of a line.
 const WORDS: [&str; 7] = ["add", "take-off", "stand", "back", "drop", "show", "write"];
 
+/// What a line has before a remark, which goes from `//` outside quotes to its end.
+pub fn step(line: &str) -> &str {
+    let (mut quoted, mut before) = (false, ' ');
+    for (at, sign) in line.char_indices() {
+        match (before, sign) {
+            // In quotes this stands for the sign itself.
+            ('\\', '"' | '\\') if quoted => {
+                before = ' ';
+                continue;
+            }
+            (_, '"') => quoted = !quoted,
+            ('/', '/') if !quoted => return line[..at - 1].trim(),
+            _ => (),
+        }
+        before = sign;
+    }
+    line.trim()
+}
+
 /// A line as what it asks for.
 ///
 /// # Errors
 ///
 /// What is wrong with it, in words.
 pub fn asked(line: &str, names: &Names) -> Result<Asked, String> {
-    let line = line.trim();
+    let line = step(line);
     let (word, rest) = line.split_once(char::is_whitespace).unwrap_or((line, ""));
     let rest = rest.trim();
     let step = match word {
@@ -77,7 +96,7 @@ fn entry(rest: &str, names: &Names) -> Result<Entry, String> {
 
 fn number(word: &str, text: &str) -> Result<u16, String> {
     text.parse()
-        .map_err(|_| format!("{word} takes a number from 0 to 65,535, and '{text}' is given"))
+        .map_err(|_| format!("{word} takes a number from 1 to 65,535, and '{text}' is given"))
 }
 
 /// The numbers of the stands of a desk, each with its entries. Only a desk that the library does not refuse is looked at.

@@ -1,44 +1,48 @@
 //! The run of a drafting desk: steps on a file that is its bytes, from the command line or from standard input.
 
-use std::fs::{self, OpenOptions};
-use std::io::{self, BufRead, IsTerminal};
+use std::fs;
+use std::io::{self, BufRead, BufReader, IsTerminal, Stdin};
 use std::path::{Path, PathBuf};
 
-use super::print::{complain, printed};
-use super::store::store;
+use super::lock::lock;
+use super::print::{complain, print, Fields};
+use super::store::{store, with_ending};
 use super::{Run, USAGE};
 use crate::args::To;
 use crate::blocks;
-use crate::commands::Status;
+use crate::commands::{entries_json, Status};
 use crate::dictionary::Naming;
-use crate::draft::{asked, stands, Asked};
+use crate::draft::{self, asked, stands, Asked};
 use crate::entry::{Entry, Sort};
 use crate::input::{named, not_refused, title, unreadable, Input};
 use crate::json::Json;
 use crate::library::{self, Desk, Reason, Refusal, Step, MOST_SERVICES};
 use crate::page::{self, Drafted};
 use crate::refused;
+use crate::shown::file_name;
 use crate::text::{self, Numbers};
 use crate::trouble::{Refused, Trouble};
 use crate::words;
+
+/// How the file ends that has the desk before the last step.
+pub(super) const BEFORE: &str = "~";
+/// The bytes of steps that are read at once.
+const READ: usize = 1 << 16;
 
 /// A desk and the file that keeps it.
 struct Kept<'a> {
     file: &'a Path,
     desk: Desk,
-    /// The services that the draft is compared with after each step.
+    /// The desk before the last step, where that is not stored yet.
+    before: Option<Desk>,
+    /// What the steps answered that are not stored yet.
+    told: Vec<String>,
+    /// The file could not be written, and no more steps are made.
+    unwritten: bool,
+    /// The services that the draft is compared with.
     against: Vec<(String, Vec<u8>)>,
     /// How reading these ended.
     read: Status,
-}
-
-/// The file that is there while a desk is worked at.
-struct Lock(PathBuf);
-
-impl Drop for Lock {
-    fn drop(&mut self) {
-        let _ = fs::remove_file(&self.0);
-    }
 }
 
 impl Run {
@@ -56,7 +60,7 @@ impl Run {
                 return trouble.status().code();
             }
         };
-        let said = match step {
+        let mut said = match step {
             [] => self.desk_lines(&mut kept),
             _ => {
                 let words: Vec<String> =
@@ -64,6 +68,7 @@ impl Run {
                 self.desk_line(&mut kept, &words.join(" "))
             }
         };
+        said = said.max(self.settled(&mut kept));
         let paged = self.paged(&kept).unwrap_or_else(|trouble| {
             self.print_trouble(&trouble, true);
             trouble.status()
@@ -71,19 +76,67 @@ impl Run {
         said.max(paged).max(kept.read).code()
     }
 
-    /// The steps of standard input, line by line.
+    /// The steps of standard input, line by line. The desk is stored before more of them are waited for.
     fn desk_lines(&self, kept: &mut Kept<'_>) -> Status {
         if io::stdin().is_terminal() {
             complain("gx: reads steps, a line each; Ctrl-D ends it, and gx desk --help tells which there are\n");
         }
+        let mut steps = BufReader::with_capacity(READ, io::stdin());
         let mut worst = Status::Yes;
-        for line in io::stdin().lock().lines() {
-            let Ok(line) = line else { break };
-            if !line.trim().is_empty() {
+        while !kept.unwritten {
+            let line = match next_line(&mut steps) {
+                Ok(Some(line)) => line,
+                Ok(None) => break,
+                Err(wrong) => {
+                    worst = worst.max(self.settled(kept)).max(Status::Bad);
+                    self.mistaken_step(kept, &wrong);
+                    continue;
+                }
+            };
+            if !draft::step(&line).is_empty() {
                 worst = worst.max(self.desk_line(kept, &line));
+            }
+            if !steps.buffer().contains(&b'\n') {
+                worst = worst.max(self.settled(kept));
             }
         }
         worst
+    }
+
+    /// Stores the desk where steps altered it, and only then tells what they answered: the desk before the last of them in a file
+    /// beside, and the new one whole or not at all.
+    fn settled(&self, kept: &mut Kept<'_>) -> Status {
+        let told = std::mem::take(&mut kept.told);
+        let Some(before) = kept.before.take() else {
+            return Status::Yes;
+        };
+        let beside = match kept.file.exists() || told.len() > 1 {
+            true => store(&beside(kept.file), before.bytes()),
+            false => Ok(()),
+        };
+        match beside.and_then(|()| store(kept.file, kept.desk.bytes())) {
+            Ok(()) => self.printed(told.concat().as_bytes(), Status::Yes),
+            Err(trouble) => {
+                kept.unwritten = true;
+                self.print_trouble(&trouble, true);
+                trouble.status()
+            }
+        }
+    }
+
+    /// Tells what is wrong with the words of a step.
+    fn mistaken_step(&self, kept: &Kept<'_>, wrong: &str) {
+        match self.options().json {
+            true => {
+                let fields = vec![
+                    ("answer", Json::text("mistake")),
+                    ("of", Json::text(title(kept.file))),
+                    ("words", Json::text(wrong)),
+                ];
+                print(self.object(fields).as_bytes());
+            }
+            false => complain(&format!("gx: {wrong}\n")),
+        }
     }
 
     /// The desk of a file; where there is none, the empty one.
@@ -96,6 +149,9 @@ impl Run {
         let mut kept = Kept {
             file,
             desk,
+            before: None,
+            told: Vec::new(),
+            unwritten: false,
             against: Vec::new(),
             read: Status::Yes,
         };
@@ -124,52 +180,64 @@ impl Run {
     }
 
     fn desk_line(&self, kept: &mut Kept<'_>, line: &str) -> Status {
-        let asked = match asked(line, &self.context.reading.names) {
-            Ok(asked) => asked,
+        let asked = asked(line, &self.context.reading.names);
+        let step = match &asked {
+            Ok(Asked::Step(step)) => self.step(kept, *step),
+            _ => Ok(()),
+        };
+        if matches!((&asked, &step), (Ok(Asked::Step(_)), Ok(()))) {
+            return Status::Yes;
+        }
+        // What is told is told in the order of the steps.
+        let settled = self.settled(kept);
+        let said = step.and_then(|()| match asked {
+            Ok(Asked::Show) => self.shown(kept),
+            Ok(Asked::Write) => self.written(kept),
+            Ok(Asked::Step(_)) => Ok(Status::Yes),
             Err(wrong) => {
-                complain(&format!("gx: {wrong}\n"));
-                return Status::Bad;
+                self.mistaken_step(kept, &wrong);
+                Ok(Status::Bad)
             }
-        };
-        let said = match asked {
-            Asked::Step(step) => self.step(kept, step),
-            Asked::Show => self.shown(kept),
-            Asked::Write => self.written(kept),
-        };
-        said.unwrap_or_else(|trouble| {
+        });
+        settled.max(said.unwrap_or_else(|trouble| {
             self.print_trouble(&trouble, true);
             trouble.status()
-        })
+        }))
     }
 
-    /// A step: the desk before it is kept in a file beside, and the new one written whole or not at all.
-    fn step(&self, kept: &mut Kept<'_>, step: Step) -> Result<Status, Trouble> {
+    /// A step, which is stored and told later.
+    fn step(&self, kept: &mut Kept<'_>, step: Step) -> Result<(), Trouble> {
         let before = kept.desk.clone();
         let left = library::step(&mut kept.desk, step);
-        let left = left.map_err(|refusal| refused_step(kept, step, refusal))?;
-        if kept.file.exists() {
-            store(&beside(kept.file), before.bytes())?;
-        }
-        store(kept.file, kept.desk.bytes())?;
+        let left = left.map_err(|refusal| self.refused_step(kept, step, refusal))?;
+        kept.before = Some(before);
         let mut text = format!("{} on the desk\n", words::entries(left));
         let mut fields = vec![
             ("answer", Json::text("drafted")),
             ("entries", Json::number(left)),
         ];
-        if !kept.against.is_empty() {
-            let contained = self.compared(kept)?;
-            let told = contained.iter().map(|(name, is)| {
-                format!(
-                    "    {name}: {}\n",
-                    if *is { "contained" } else { "not contained" }
-                )
-            });
-            text.extend(told);
-            let names = contained.iter().filter(|(_, is)| *is);
-            let names = names.map(|(name, _)| Json::text(name.as_str()));
-            fields.push(("contained_in", Json::List(names.collect())));
+        let (lines, contained) = self.told_against(kept)?;
+        text.extend(lines.iter().map(|line| format!("    {line}\n")));
+        fields.extend(contained);
+        let told = self.worded(text, fields);
+        kept.told.push(told);
+        Ok(())
+    }
+
+    /// Where services are given, which of them contain what the desk holds: a line for each, and a field for programs.
+    fn told_against(&self, kept: &Kept<'_>) -> Result<(Vec<String>, Fields), Trouble> {
+        if kept.against.is_empty() {
+            return Ok(Default::default());
         }
-        Ok(self.said(text, fields))
+        let contained = self.compared(kept)?;
+        let line = |(name, is): &(String, bool)| {
+            let says = if *is { "contained" } else { "not contained" };
+            format!("{}: {says}", file_name(name))
+        };
+        let names = contained.iter().filter(|(_, is)| *is);
+        let names = names.map(|(name, _)| Json::text(name.as_str()));
+        let field = ("contained_in", Json::List(names.collect()));
+        Ok((contained.iter().map(line).collect(), vec![field]))
     }
 
     /// Which of the services contain what the desk holds.
@@ -239,13 +307,16 @@ impl Run {
         for (stand, count) in &stands {
             text.push_str(&format!("// stand {stand}: {}\n", words::entries(*count)));
         }
+        let (lines, contained) = self.told_against(kept)?;
+        text.extend(lines.iter().map(|line| format!("// {line}\n")));
         let numbers = stands.iter().map(|&(stand, _)| Json::number(stand.into()));
-        let fields = vec![
+        let mut fields = vec![
             ("answer", Json::text("drafted")),
-            ("entries", crate::commands::entries_json(&entries, names)),
+            ("entries", entries_json(&entries, names)),
             ("stands", Json::List(numbers.collect())),
         ];
-        Ok(self.said(text, fields))
+        fields.extend(contained);
+        Ok(self.printed(self.worded(text, fields).as_bytes(), Status::Yes))
     }
 
     /// The description in the form that the options ask for.
@@ -262,18 +333,57 @@ impl Run {
                 To::Stored => library::to_stored(&blocks)
                     .map_err(|refusal| not_refused(kept.file, refusal))?,
             };
-        match &self.options().out {
-            Some(out) => store(out, &bytes).map(|()| Status::Yes),
-            None => Ok(self.printed(&bytes, Status::Yes)),
+        if let Some(out) = &self.options().out {
+            store(out, &bytes)?;
+        }
+        let fields = vec![
+            ("answer", Json::text("drafted")),
+            ("sort", Json::text("description")),
+            ("entries", entries_json(&entries, names)),
+        ];
+        Ok(match (self.options().json, &self.options().out) {
+            (true, _) => self.printed(self.object(fields).as_bytes(), Status::Yes),
+            (false, None) => self.printed(&bytes, Status::Yes),
+            (false, Some(_)) => Status::Yes,
+        })
+    }
+
+    /// An answer in words, or for programs.
+    fn worded(&self, text: String, fields: Fields) -> String {
+        match self.options().json {
+            true => self.object(fields),
+            false => text,
         }
     }
 
-    fn said(&self, text: String, fields: Vec<(&'static str, Json)>) -> Status {
-        match (self.options().json, self.options().quiet) {
-            (_, true) => Status::Yes,
-            (true, _) => printed(self.object(fields).as_bytes(), Status::Yes),
-            _ => printed(text.as_bytes(), Status::Yes),
+    /// Why a step is refused, in words.
+    fn refused_step(&self, kept: &Kept<'_>, step: Step, refusal: Refusal) -> Trouble {
+        let Step::Add(Entry { kind: 9, .. }) = step else {
+            return refused_step(kept, step, refusal);
+        };
+        if refusal.reason != Reason::Form {
+            return refused_step(kept, step, refusal);
         }
+        let number = library::entries(&library::held(&kept.desk).unwrap_or_default()).len() + 1;
+        let given = match self.options().dictionary {
+            Some(_) => "; --dictionary is for the services of --against",
+            None => "",
+        };
+        let why = format!(
+            "entry {number}: its kind is 9, which names a description, and a desk takes none{given}"
+        );
+        Refused::new(named(kept.file), refusal, why).into()
+    }
+}
+
+/// The next step of standard input; none where it ends.
+fn next_line(steps: &mut BufReader<Stdin>) -> Result<Option<String>, String> {
+    let mut line = Vec::new();
+    match steps.read_until(b'\n', &mut line) {
+        Ok(0) | Err(_) => Ok(None),
+        Ok(_) => String::from_utf8(line)
+            .map(Some)
+            .map_err(|_| "standard input: a line is no text in UTF-8".into()),
     }
 }
 
@@ -329,27 +439,5 @@ fn with(kept: &Kept<'_>, entry: Entry) -> Vec<u8> {
 
 /// The file that has the desk before the last step.
 fn beside(file: &Path) -> PathBuf {
-    with_ending(file, "~")
-}
-
-fn with_ending(file: &Path, ending: &str) -> PathBuf {
-    let mut name = file.as_os_str().to_os_string();
-    name.push(ending);
-    name.into()
-}
-
-/// Nobody else works at the desk while this lives.
-fn lock(file: &Path) -> Result<Lock, Trouble> {
-    let lock = with_ending(file, ".lock");
-    match OpenOptions::new().write(true).create_new(true).open(&lock) {
-        Ok(_) => Ok(Lock(lock)),
-        Err(error) if error.kind() == io::ErrorKind::AlreadyExists => Err(Trouble::File {
-            file: named(file),
-            why: format!(
-                "somebody works at this desk; if nobody does, take away {}",
-                named(&lock)
-            ),
-        }),
-        Err(error) => Err(unreadable(&lock, &error)),
-    }
+    with_ending(file, BEFORE)
 }

@@ -5,6 +5,7 @@ mod desk;
 mod doubles;
 mod folders;
 mod hierarchy;
+mod lock;
 mod outputs;
 mod print;
 mod store;

@@ -4,8 +4,8 @@ use std::collections::{BTreeMap, BTreeSet};
 use std::path::{Path, PathBuf};
 
 use super::folders::Job;
-use super::store::{identity, Identity};
-use super::Run;
+use super::store::{identity, place, with_ending, Identity};
+use super::{desk, lock, Run};
 use crate::args::Command;
 use crate::input::named;
 use crate::shown::file_name;
@@ -36,6 +36,11 @@ impl Run {
 
     /// What is wrong with the outputs of one answer: one is a file that is read, or two are one file.
     pub(super) fn wrong_outputs(&self, files: &[PathBuf]) -> Option<String> {
+        let files = match self.command {
+            // The other words are a step.
+            Command::Desk => files.get(..1).unwrap_or_default(),
+            _ => files,
+        };
         let read: BTreeMap<Identity, &PathBuf> = self
             .read(files)
             .filter_map(|file| Some((identity(file)?, file)))
@@ -45,6 +50,9 @@ impl Run {
             if let Some(input) = identity(path).and_then(|of| read.get(&of)) {
                 return Some(replaced(option, path, input));
             }
+        }
+        if let Some(wrong) = self.wrong_at_desk(files) {
+            return Some(wrong);
         }
         let same = |(one, path): &(&'static str, &PathBuf)| {
             let other = outputs
@@ -57,6 +65,26 @@ impl Run {
         let folders = many && !matches!(self.command, Command::Hierarchy | Command::Doubles);
         let (one, other, file) = outputs.iter().find_map(same).filter(|_| !folders)?;
         Some(format!("{one} and {other} would both write {file}"))
+    }
+
+    /// An output that is a file of the desk: the desk, which may not be there yet, the one before it, and its lock.
+    fn wrong_at_desk(&self, files: &[PathBuf]) -> Option<String> {
+        let desk = files.first().filter(|_| self.command == Command::Desk)?;
+        let told = [
+            ("", "is the desk"),
+            (desk::BEFORE, "has the desk before"),
+            (lock::ENDING, "keeps others from the desk"),
+        ];
+        self.outputs().into_iter().find_map(|(option, path)| {
+            let is = |ending: &&(&str, &str)| {
+                let own = with_ending(desk, ending.0);
+                let same = |one: Option<Identity>| one.is_some() && one == identity(path);
+                same(identity(&own)) || place(&own).is_some_and(|at| Some(at) == place(path))
+            };
+            let (_, what) = told.iter().find(is)?;
+            let path = file_name(&named(path));
+            Some(format!("{option} would replace {path}, which {what}"))
+        })
     }
 
     /// A name that two answers have, where answers are written into files called by their names.

@@ -2,6 +2,7 @@
 
 use std::io::{ErrorKind, IsTerminal, Write};
 
+use super::lock;
 use crate::commands::Status;
 use crate::input::why;
 use crate::json::Json;
@@ -15,7 +16,10 @@ pub(super) fn print(bytes: &[u8]) -> bool {
     let mut out = std::io::stdout().lock();
     match out.write_all(bytes).and_then(|()| out.flush()) {
         Ok(()) => true,
-        Err(error) if error.kind() == ErrorKind::BrokenPipe => std::process::exit(CLOSED),
+        Err(error) if error.kind() == ErrorKind::BrokenPipe => {
+            lock::release();
+            std::process::exit(CLOSED)
+        }
         Err(error) => {
             let why = why(&error);
             complain(&format!("gx: standard output cannot be written: {why}\n"));

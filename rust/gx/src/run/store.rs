@@ -1,5 +1,6 @@
 //! Files that are written: each whole or not at all, and none of those that are read.
 
+use std::ffi::OsString;
 use std::fs::{self, OpenOptions};
 use std::io::{self, Write};
 use std::os::unix::fs::MetadataExt;
@@ -20,6 +21,20 @@ pub(super) fn identity(path: &Path) -> Option<Identity> {
     };
     let file = fs::metadata(path).ok().filter(fs::Metadata::is_file)?;
     Some((file.dev(), file.ino()))
+}
+
+/// The file of this name with an ending more.
+pub(super) fn with_ending(file: &Path, ending: &str) -> PathBuf {
+    let mut name = file.as_os_str().to_os_string();
+    name.push(ending);
+    name.into()
+}
+
+/// Where a file stands, also one that is not there: its folder, as the system names it, and its name in it.
+pub(super) fn place(path: &Path) -> Option<(PathBuf, OsString)> {
+    let folder = path.parent().filter(|folder| !folder.as_os_str().is_empty());
+    let folder = fs::canonicalize(folder.unwrap_or(Path::new("."))).ok()?;
+    Some((folder, path.file_name()?.into()))
 }
 
 /// Writes a file.

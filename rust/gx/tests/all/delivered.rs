@@ -171,7 +171,7 @@ fn refused_and_mistaken() {
             "expected 'has' or 'link', found 'owns'",
         ),
     ] {
-        let ran = folder.gx_with(&["check", "-"], text.as_bytes());
+        let ran = folder.gx_with(&["check", "-", "--sort", "record"], text.as_bytes());
         assert!(
             ran.status == 2 && ran.text().contains(due),
             "{text}: {}",

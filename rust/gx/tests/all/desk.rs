@@ -1,5 +1,8 @@
 //! The drafting desk: steps from the command line and from standard input, the file before, and what is refused.
 
+use std::io::{Read, Write};
+use std::process::{Child, Command, Stdio};
+
 use crate::support::{Folder, Ran};
 
 fn is(ran: &Ran, status: i32, out: &str) {
@@ -87,16 +90,155 @@ fn the_file() {
         "gx: d: refused 20: the file holds no desk that steps could give; d~ has the one before\n";
     assert_eq!((ran.status, ran.err.as_str()), (2, due));
     assert_eq!(folder.get("d"), &before[..100]);
-    folder.put("e.lock", "");
-    let ran = folder.gx(&["desk", "e", "show"]);
-    assert_eq!(ran.status, 2);
-    assert!(
-        ran.err
-            .contains("somebody works at this desk; if nobody does, take away e.lock"),
-        "{}",
-        ran.err
-    );
     assert!(!folder.path().join("d.lock").exists());
+}
+
+/// While one run works at a desk no other does; the system frees its lock when it is killed, and the file is no hindrance.
+#[test]
+fn one_at_a_time() {
+    let folder = Folder::new("desk-lock");
+    let mut first = begun(&folder, &["desk", "d"]);
+    let mut steps = first.stdin.take().unwrap();
+    steps.write_all(b"add 1,7\n").unwrap();
+    let mut told = [0; 20];
+    first
+        .stdout
+        .as_mut()
+        .unwrap()
+        .read_exact(&mut told)
+        .unwrap();
+    assert_eq!(&told, b"1 entry on the desk\n");
+    let ran = folder.gx(&["desk", "d", "add", "1,8"]);
+    let due = "gx: d: cannot be read: somebody works at this desk, and has d.lock\n";
+    assert_eq!((ran.status, ran.err.as_str()), (2, due));
+    first.kill().unwrap();
+    first.wait().unwrap();
+    assert!(folder.path().join("d.lock").exists());
+    let due = "2 entries on the desk\n";
+    is(&folder.gx(&["desk", "d", "add", "1,8"]), 0, due);
+    assert!(!folder.path().join("d.lock").exists());
+}
+
+/// Where nobody reads on, the work stops, its steps so far are kept, and others may work at the desk.
+#[test]
+fn nobody_reads_on() {
+    let folder = Folder::new("desk-unread");
+    folder.gx(&["desk", "d", "add", "1,7"]);
+    let mut left = begun(&folder, &["desk", "d"]);
+    drop(left.stdout.take());
+    let mut steps = left.stdin.take().unwrap();
+    steps.write_all(b"add 1,8\nadd 1,9\n").unwrap();
+    drop(steps);
+    assert_eq!(left.wait().unwrap().code(), Some(141));
+    assert!(!folder.path().join("d.lock").exists());
+    let mut shown = begun(&folder, &["desk", "d", "show"]);
+    drop(shown.stdout.take());
+    assert!(matches!(shown.wait().unwrap().code(), Some(0 | 141)));
+    let due = "1,7; 1,8; 1,9\n";
+    is(&folder.gx(&["desk", "d", "write", "--to", "desk"]), 0, due);
+}
+
+/// The program at work in the folder.
+fn begun(folder: &Folder, args: &[&str]) -> Child {
+    Command::new(env!("CARGO_BIN_EXE_gx"))
+        .args(args)
+        .current_dir(folder.path())
+        .stdin(Stdio::piped())
+        .stdout(Stdio::piped())
+        .stderr(Stdio::piped())
+        .spawn()
+        .unwrap()
+}
+
+/// Many steps that are there at once are stored once; the desk before the last of them is beside, and what is told keeps its order.
+#[test]
+fn many_steps() {
+    let folder = Folder::new("desk-many");
+    let steps: String = (1..=1008).map(|name| format!("add 1,{name}\n")).collect();
+    let ran = folder.gx_with(&["desk", "d"], (steps + "add 1,7\nshow").as_bytes());
+    assert_eq!((ran.status, ran.text().lines().count()), (2, 1008 + 1008));
+    assert!(ran
+        .text()
+        .contains("\n1,008 entries on the desk\n#1 has property 1\n"));
+    let mut desk = goltximen::Desk::new();
+    for name in 1..=1007_u16 {
+        let [low, high] = name.to_le_bytes();
+        desk.add([1, 0, 0, 0, low, high, 0, 0]).unwrap();
+    }
+    assert_eq!(folder.get("d~"), desk.bytes());
+    // A line that is no text stops none of the others.
+    let ran = folder.gx_with(&["desk", "e"], b"add 1,7\nadd \xff\nadd 1,8\n");
+    let due = "gx: standard input: a line is no text in UTF-8\n";
+    assert_eq!((ran.status, ran.err.as_str()), (2, due));
+    assert_eq!(ran.text(), "1 entry on the desk\n2 entries on the desk\n");
+}
+
+/// A remark after any step, and on a line of its own.
+#[test]
+fn remarks() {
+    let folder = Folder::new("desk-remarks");
+    let lines = "// a draft\nadd has property 7 \"a//b \\\" c\" // sealed\nstand 1 // \"\ntake-off// none\nback 1 // again\nshow // it\n";
+    let due = "\
+1 entry on the desk
+1 entry on the desk
+0 entries on the desk
+1 entry on the desk
+#1 has property 7
+// stand 1: 1 entry
+";
+    is(&folder.gx_with(&["desk", "d"], lines.as_bytes()), 0, due);
+    is(
+        &folder.gx(&["desk", "d", "drop", "1", "// over"]),
+        0,
+        "1 entry on the desk\n",
+    );
+}
+
+/// What is written is for programs too, also beside a file; and so is what is wrong with a step.
+#[test]
+fn for_programs() {
+    let folder = Folder::new("desk-programs");
+    let due = "\
+{\"answer\":\"drafted\",\"entries\":1}
+{\"answer\":\"mistake\",\"of\":\"d\",\"words\":\"stand takes a number from 1 to 65,535, and 'x' is given\"}
+{\"answer\":\"drafted\",\"sort\":\"description\",\"entries\":[{\"entry\":1,\"kind\":1,\"owner\":0,\"property\":7,\"word\":null}]}
+";
+    let ran = folder.gx_with(
+        &["desk", "d", "--json", "-o", "out"],
+        b"add 1,7\nstand x\nwrite\n",
+    );
+    is(&ran, 2, due);
+    assert_eq!(folder.get("out"), b"has property 7\n");
+    let written = due.lines().next_back().unwrap().to_string() + "\n";
+    is(&folder.gx(&["desk", "d", "write", "--json"]), 0, &written);
+}
+
+/// No output replaces a file of the desk, whether that is there or not.
+#[test]
+fn its_own_files() {
+    let folder = Folder::new("desk-own");
+    for (out, due) in [
+        ("d", "which is the desk"),
+        ("./d~", "which has the desk before"),
+        ("d.lock", "which keeps others from the desk"),
+    ] {
+        for option in ["-o", "--html"] {
+            let ran = folder.gx(&["desk", "d", "write", option, out]);
+            assert_eq!((ran.status, ran.out.len()), (64, 0));
+            assert!(
+                ran.err.ends_with(&format!(" would replace {out}, {due}\n")),
+                "{}",
+                ran.err
+            );
+        }
+    }
+    is(
+        &folder.gx(&["desk", "d", "add", "1,7", "--html", "add"]),
+        0,
+        "1 entry on the desk\n",
+    );
+    let ran = folder.gx(&["desk", "d", "write", "-o", "d"]);
+    assert_eq!(ran.err, "gx: --out would replace d, which is read\n");
 }
 
 /// At most four stands, and 1,008 entries.
@@ -126,8 +268,9 @@ fn limits() {
         ),
         (
             &["back", "x"],
-            "gx: back takes a number from 0 to 65,535, and 'x' is given\n",
+            "gx: back takes a number from 1 to 65,535, and 'x' is given\n",
         ),
+
         (
             &["take-off", "2"],
             "gx: take-off takes nothing after it, and '2' is given\n",
@@ -195,6 +338,30 @@ fn against_a_folder() {
         0,
         "1 entry on the desk\n    a.txt: contained\n    b.txt: not contained\n",
     );
+    let ran = folder.gx(&["desk", "d", "show", "--against", "services"]);
+    let due = "#1 has property 7\n// a.txt: contained\n// b.txt: not contained\n";
+    is(&ran, 0, due);
+    let ran = folder.gx(&["desk", "d", "show", "--against", "services", "--json"]);
+    let due = "{\"answer\":\"drafted\",\"entries\":[{\"entry\":1,\"kind\":1,\"owner\":0,\"property\":7,\"word\":null}],\"stands\":[],\"contained_in\":[\"a.txt\"]}\n";
+    is(&ran, 0, due);
+    folder
+        .put("f", "dictionary\ndescription 1 [has property 7]\n")
+        .put("services/c.txt", "named 1");
+    let with = ["desk", "d", "--dictionary", "f", "--against", "services"];
+    let ran = folder.gx(&[&with[..], &["take-off"]].concat());
+    assert!(
+        ran.text().contains("    c.txt: not contained\n"),
+        "{}",
+        ran.text()
+    );
+    let ran = folder.gx(&[&with[..], &["add", "named", "1"]].concat());
+    let due = "gx: d: refused 4: entry 1: its kind is 9, which names a description, and a desk takes none\n";
+    let plain = folder.gx(&["desk", "d", "add", "named", "1"]);
+    assert_eq!((plain.status, plain.err.as_str()), (2, due));
+    let due = "gx: d: refused 4: entry 1: its kind is 9, which names a description, and a desk takes none; --dictionary is for the services of --against\n";
+    assert_eq!((ran.status, ran.err.as_str()), (2, due));
+    std::fs::remove_file(folder.path().join("services/c.txt")).unwrap();
+    folder.gx(&["desk", "d", "add", "1,7"]);
     folder.put("p", "pairs: 7,8");
     let ran = folder.gx(&[
         "desk",
