@@ -71,7 +71,7 @@ fn zsh() -> String {
     for command in Command::ALL {
         out.push_str(&format!("        {}) _arguments", command.word()));
         for option in command.options() {
-            out.push_str(&format!(" \\\n            {}", zsh_option(option)));
+            out.push_str(&format!(" \\\n            {}", zsh_option(command, option)));
         }
         out.push_str(" \\\n            '(-h --help)'{-h,--help}'[this help]'");
         out.push_str(" \\\n            '*:file:_files' ;;\n");
@@ -82,8 +82,8 @@ fn zsh() -> String {
 }
 
 /// An option with its letter, its help, and its value: one of its words, or a file.
-fn zsh_option(option: &Opt) -> String {
-    let (name, about) = (option.name, in_zsh(option.about));
+fn zsh_option(command: Command, option: &Opt) -> String {
+    let (name, about) = (option.name, in_zsh(option.about_of(command)));
     let names = match option.short {
         Some(letter) => format!("'(-{letter} {name})'{{-{letter},{name}}}'"),
         None => format!("'{name}"),

@@ -31,6 +31,7 @@ impl Services {
             title: self.title.clone(),
             sort: Sort::Description,
             sent: entries.len(),
+            stored: None,
             entries,
             bytes,
             names: self.names.clone(),

@@ -245,6 +245,8 @@ pub enum Shell {
 pub enum Args {
     /// The help of a command, or of all.
     Help(Option<Command>),
+    /// The help of the completions.
+    HelpOfCompletions,
     /// The version.
     Version,
     /// The completions for a shell.

@@ -29,6 +29,19 @@ impl Opt {
         OPTIONS.iter().find(|option| option.name == name)
     }
 
+    /// The help of it for this command: one answer about all files is written into one file.
+    pub fn about_of(&self, command: Command) -> &'static str {
+        match (self.name, command) {
+            ("--html", Hierarchy | Doubles | Desk) => "write a page with the answer into this file",
+            ("--svg", Hierarchy) => "draw the classes into this file",
+            ("--out", Hierarchy | Doubles | Desk) => "write into this file",
+            ("--dictionary", Desk) => {
+                "the dictionary of the descriptions that services of --against name; a desk takes none"
+            }
+            _ => self.about,
+        }
+    }
+
     /// The option that this letter stands for.
     pub fn of_letter(letter: char) -> Option<&'static Opt> {
         OPTIONS.iter().find(|option| option.short == Some(letter))
@@ -148,12 +161,12 @@ pub const OPTIONS: &[Opt] = &[
     ),
     file(
         "--against",
-        "after each step at the desk, tell which services of this folder contain the draft",
+        "after each step at the desk, and where it is shown, tell which services of this folder contain the draft",
         &[Desk],
     ),
     Opt {
         value: Some("N"),
-        ..flag("--items", "how many items a record has that is given as blocks", &[Show, Write, Check, Delivered])
+        ..flag("--items", "how many items a record has that is given as blocks; blocks of which this is said are a record's", &[Show, Write, Check, Delivered])
     },
     flag("--all", "tell all entries that fail, not only the first", &[Compare]),
     flag("--why", "tell of each no which entry fails first", &[Catalogue]),

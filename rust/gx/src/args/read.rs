@@ -42,6 +42,7 @@ fn command(word: &OsStr) -> Result<Command, String> {
 fn help(rest: &[OsString]) -> Result<Args, String> {
     match rest {
         [] => Ok(Args::Help(None)),
+        [word] if word == "completions" => Ok(Args::HelpOfCompletions),
         [word] => Ok(Args::Help(Some(command(word)?))),
         _ => Err("help takes one command".into()),
     }
@@ -51,6 +52,9 @@ fn completions(rest: &[OsString]) -> Result<Args, String> {
     let [shell] = rest else {
         return Err("completions takes one of bash, zsh and fish".into());
     };
+    if shell == "--help" || shell == "-h" {
+        return Ok(Args::HelpOfCompletions);
+    }
     let shells = [
         ("bash", Shell::Bash),
         ("zsh", Shell::Zsh),

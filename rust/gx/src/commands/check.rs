@@ -32,7 +32,8 @@ pub(super) fn check(context: &Context, file: &Path) -> Result<Answer, Trouble> {
 
 /// What is told of an accepted input.
 fn accepted(input: &Input, sort: &str) -> Answer {
-    let (entries, blocks) = (input.sent, input.bytes.len() / BLOCK);
+    let blocks = input.stored.unwrap_or(input.bytes.len() / BLOCK);
+    let entries = input.sent;
     let unfolded = input.entries.len();
     let mut line = format!(
         "accepted: a {sort} of {} in {}",
@@ -45,6 +46,10 @@ fn accepted(input: &Input, sort: &str) -> Answer {
         ("entries", Json::number(entries)),
         ("blocks", Json::number(blocks)),
     ];
+    if input.stored.is_some() {
+        line.push_str(" in the stored form");
+        json.push(("form", Json::text("stored")));
+    }
     if input.is_unfolded() {
         line.push_str(&format!(", {unfolded} once unfolded"));
         json.push(("unfolded", Json::number(unfolded)));

@@ -79,7 +79,11 @@ pub(super) fn keep(context: &Context, c: &Path, d: &Path) -> Result<Answer, Trou
 fn earning(marks: &[bool], supplier: &Input, shown: &str) -> Answer {
     let count = marked(marks).len();
     let of = words::entries(supplier.entries.len());
-    let line = format!("contained; {count} of {of} earn it");
+    let earn = if count == 1 { "earns" } else { "earn" };
+    let line = format!(
+        "contained; {} of {of} {earn} it",
+        words::grouped(count as u32)
+    );
     Answer {
         status: Status::Yes,
         full: format!("{line}\n\n{shown}\n{ONE_SET}\n").into_bytes(),

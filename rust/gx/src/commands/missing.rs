@@ -140,6 +140,7 @@ fn on_page(context: &Context, of: &Lacks, file: &Path) -> Result<String, Trouble
     let whole = Input {
         bytes: encode(&entries),
         sent: of.supplier.sent + behind.len(),
+        stored: None,
         entries,
         ..of.supplier.clone()
     };

@@ -189,7 +189,10 @@ impl Context {
             .sheet
             .then_some(Content::Entries(Sort::Description));
         let said = sheet.or(self.options.sort);
-        let sort = match said.or_else(|| self.told(file, &bytes)) {
+        let said = said.or_else(|| self.told(file, &bytes));
+        // Only of a record is it said how many items its blocks have.
+        let counted = self.options.items.is_some() && reading.form_of(&bytes) != Form::Text;
+        let sort = match said.or(counted.then_some(Content::Record)) {
             Some(Content::Pairs) => return reading.list_of(file, bytes).map(Alone::held),
             Some(Content::Dictionary) => {
                 let read = reading.dictionary_of(file, bytes);

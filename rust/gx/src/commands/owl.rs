@@ -92,6 +92,7 @@ pub(super) fn from_owl(context: &Context, file: &Path) -> Result<Answer, Trouble
         sort: Sort::Description,
         bytes: encode(&found.entries),
         sent: found.entries.len(),
+        stored: None,
         entries: found.entries,
         names,
         positions: found.positions,

@@ -3,6 +3,8 @@
 use std::path::Path;
 
 use super::{entries_json, held, Alone, Answer, Context, Extra, Status, Written};
+use crate::args::To;
+use crate::blocks::BLOCK;
 use crate::dictionary::Naming;
 use crate::entry::Sort;
 use crate::input::Input;
@@ -57,18 +59,21 @@ pub(super) fn write(context: &Context, file: &Path) -> Result<Answer, Trouble> {
         Alone::Entries(input) => input,
         Alone::Held(of) => return Ok(held::write(&*of)),
     };
-    let blocks = input.bytes.len() / crate::blocks::BLOCK;
     let (full, ending) = match context.options.to {
         Some(_) => context.written(Written::of(&input))?,
         None => (input.bytes.clone(), "blocks"),
     };
+    let stored = match context.options.to {
+        Some(To::Stored) => " in the stored form",
+        _ => "",
+    };
     Ok(Answer {
         status: Status::Yes,
         line: format!(
-            "a {} of {} in {}",
+            "a {} of {} in {}{stored}",
             input.sort.word(),
             words::entries(input.entries.len()),
-            words::blocks(blocks)
+            words::blocks(full.len() / BLOCK)
         ),
         json: fields(&input),
         full,

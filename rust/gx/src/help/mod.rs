@@ -3,7 +3,7 @@
 mod texts;
 
 use crate::args::{Command, Opt};
-use texts::{detail, ALL};
+use texts::{detail, ALL, COMPLETIONS};
 
 /// A few lines for wrong usage.
 pub fn usage() -> String {
@@ -43,7 +43,7 @@ pub fn of(command: Command) -> String {
     out.push_str(&wrapped(detail(command)));
     out.push_str("\nOptions:\n");
     for option in command.options() {
-        out.push_str(&columns(&left(option), 20, option.about));
+        out.push_str(&columns(&left(option), 20, option.about_of(command)));
     }
     out.push_str(&columns("--help, -h", 20, "this help"));
     let status = match command {
@@ -58,6 +58,17 @@ pub fn of(command: Command) -> String {
         "\nExit status: {status}, 2 refused or a mistake in an input, 64 wrong usage, 70 an error of gx.\n\
          gx --help tells how inputs, texts and names files are written.\n"
     )));
+    out
+}
+
+/// The help of the completions.
+pub fn of_completions() -> String {
+    let mut out = String::from("gx completions SHELL - completions for bash, zsh or fish\n\n");
+    out.push_str("usage: gx completions bash|zsh|fish\n\n");
+    out.push_str(&wrapped(COMPLETIONS));
+    out.push_str("\nOptions:\n");
+    out.push_str(&columns("--help, -h", 20, "this help"));
+    out.push_str("\nExit status: 0 done, 64 wrong usage.\n");
     out
 }
 

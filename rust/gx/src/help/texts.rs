@@ -164,10 +164,13 @@ A drafting desk: the file is its bytes, and where there is none the desk is empt
     drop N               drops stand N
     show                 the entries with their numbers, and the stands
     write                the description, in the form of --to, into --out
-Without one, steps are read from standard input, a line each. Each is one call of the library; what it refuses alters nothing (16 full, 17
-none to take off, 18 no such stand, 4, 5 and 6 as of any entry). The file is written whole or not at all, FILE~ has the desk before, and
-while somebody works at it FILE.lock is there. --against tells after each step which services of a folder contain the draft. --html writes
-a page with the draft, these services, and what each stand keeps. A file that holds no desk is refused (20).
+and after it may stand a remark, which begins with //. Without one, steps are read from standard input, a line each. Each is one call of
+the library; what it refuses alters nothing (16 full, 17 none to take off, 18 no such stand, 4, 5 and 6 as of any entry; a desk takes no
+dictionary, so 'named 2' is 4). The file is written whole or not at all, before more steps are waited for and before what they answer is
+told; FILE~ has the desk before the last step. While somebody works at it FILE.lock is there, which the system frees with the program.
+--against tells after each step, and where it is shown, which services of a folder contain the draft; --dictionary has the descriptions
+that these name. --html writes a page with the draft, these services, and what each stand keeps. A file that holds no desk is refused
+(20).
 ";
 
 const DOUBLES: &str = "\
@@ -177,6 +180,17 @@ in every record, or of both the same items in every record that keeps the list o
 it is contained in the other. Descriptions are files, folders of files, or lists of services. With --dictionary named entries are
 unfolded first. One that is refused is told, and stops none of the others. --html writes a page with what each meaning is, in normal
 form.
+";
+
+pub(super) const COMPLETIONS: &str = "\
+Prints what a shell reads to complete the command lines of gx: the commands, and of each its options and their words. For one session
+    eval \"$(gx completions bash)\"
+    eval \"$(gx completions zsh)\"
+    gx completions fish | source
+and for all of them in a file where the shell looks:
+    gx completions bash > ~/.local/share/bash-completion/completions/gx
+    gx completions fish > ~/.config/fish/completions/gx.fish
+and for zsh as _gx in a folder of its fpath.
 ";
 
 const FROM_OWL: &str = "\
@@ -260,8 +274,8 @@ in at that place. A name that the dictionary does not have is refused (13), so i
 or goes deeper than 32 once unfolded (14), and so is a dictionary with more than 64 descriptions (8). A refusal of the dictionary
 has input 100, one of its n-th description input 100 + n.
 
-A list of pairs or of services or a dictionary that is shown, written or checked is known by its heading, by the ending of its
-file, .pairs, .services or .dictionary, or by --sort. After --pairs and --dictionary either may be text or bytes.
+A list of pairs or of services, a dictionary or a delivered record that is shown, written or checked is known by its heading, by the
+ending of its file, .pairs, .services, .dictionary or .record, or by --sort; blocks of a record also by --items. After --pairs and --dictionary either may be text or bytes.
 
 A list of services, for gx catalogue and gx hierarchy, is the blocks of up to 64 descriptions laid end to end, where each block
 numbered 1 begins one, or a text like

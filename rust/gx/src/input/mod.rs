@@ -44,6 +44,8 @@ pub struct Input {
     pub origins: Vec<Origin>,
     /// The number of entries as they were sent.
     pub sent: usize,
+    /// How many blocks of the stored form they were sent in, where they were.
+    pub stored: Option<usize>,
 }
 
 impl Input {

@@ -58,11 +58,13 @@ impl Reading {
         naming: Naming<'_>,
     ) -> Result<Input, Trouble> {
         let draft = match self.form_at(path, &bytes) {
-            Form::Blocks if self.form.is_none() && is_stored(&bytes, sort) => {
-                self.blocks(path, unstored(path, &bytes, input, &self.names)?, sort)
+            Form::Blocks if self.form.is_some() || !is_stored(&bytes, sort) => {
+                self.blocks(path, bytes, sort)
             }
-            Form::Blocks => self.blocks(path, bytes, sort),
-            Form::Stored => self.blocks(path, unstored(path, &bytes, input, &self.names)?, sort),
+            Form::Blocks | Form::Stored => Input {
+                stored: Some(bytes.len() / blocks::BLOCK),
+                ..self.blocks(path, unstored(path, &bytes, input, &self.names)?, sort)
+            },
             Form::Text => self.text(path, &bytes, sort)?,
         };
         accepted(path, draft, input, naming)
@@ -273,6 +275,7 @@ impl Reading {
         let entries = blocks::decode(&bytes);
         Input {
             sent: entries.len(),
+            stored: None,
             origins: Vec::new(),
             title: title(path),
             sort: sort.unwrap_or_else(|| Sort::guess(&entries)),
@@ -300,6 +303,7 @@ impl Reading {
         join(&mut names, parsed.words, path, text)?;
         Ok(Input {
             sent: parsed.entries.len(),
+            stored: None,
             origins: Vec::new(),
             title: title(path),
             sort: sort

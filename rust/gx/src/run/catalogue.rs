@@ -3,7 +3,7 @@
 use std::io::IsTerminal;
 use std::path::PathBuf;
 
-use super::folders::{noted, Told};
+use super::folders::{noted, told_apart, Told};
 use super::print::{complain, end_progress, said_of, show_progress, Said};
 use super::{Run, USAGE};
 use crate::commands::{Contained, Service, Status};
@@ -81,8 +81,9 @@ impl Run {
             }
         }
         let (sides, mut worst) = self.sides(given);
+        let told = told_apart(sides.into_iter().flatten().collect());
         let mut services = Vec::new();
-        for told in sides.into_iter().flatten() {
+        for told in told {
             match self.services_of(told) {
                 Ok(found) => services.extend(found),
                 Err(trouble) => worst = worst.max(self.passed_over(&trouble)),

@@ -290,6 +290,7 @@ impl Run {
             title: title(kept.file),
             sort: Sort::Description,
             sent: entries.len(),
+            stored: None,
             entries,
             bytes: blocks,
             names: self.context.reading.names.clone(),

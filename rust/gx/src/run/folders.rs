@@ -1,7 +1,9 @@
 //! Many inputs: a line for each.
 
+use std::collections::{BTreeMap, BTreeSet};
+use std::fs::canonicalize;
 use std::io::IsTerminal;
-use std::path::{Path, PathBuf};
+use std::path::{Component, Path, PathBuf};
 
 use super::print::{complain, end_progress, painted, said_of, show_progress, Fields, Said};
 use super::store::store_in;
@@ -184,6 +186,49 @@ impl Run {
             complain(&format!("gx: {}", self.context.given.line()));
         }
     }
+}
+
+/// The files, those of one name with as much of the way to them as tells them apart.
+pub(super) fn told_apart(mut all: Vec<Told>) -> Vec<Told> {
+    let mut alike: BTreeMap<String, Vec<usize>> = BTreeMap::new();
+    for (at, told) in all.iter().enumerate() {
+        alike.entry(told.name.clone()).or_default().push(at);
+    }
+    for (name, of) in alike.into_iter().filter(|(_, of)| of.len() > 1) {
+        let given = |at: &usize| parts(&all[*at].path);
+        let system = |at: &usize| parts(&canonicalize(&all[*at].path).unwrap_or_default());
+        let ways: [Vec<Vec<String>>; 2] = [
+            of.iter().map(given).collect(),
+            of.iter().map(system).collect(),
+        ];
+        let names = ways
+            .iter()
+            .find_map(|ways| apart(ways, parts(Path::new(&name)).len()));
+        for (at, name) in of.into_iter().zip(names.unwrap_or_default()) {
+            all[at].name = name;
+        }
+    }
+    all
+}
+
+/// The names on the way to a file, and its own.
+fn parts(path: &Path) -> Vec<String> {
+    let normal = path.components().filter_map(|part| match part {
+        Component::Normal(name) => Some(name.to_string_lossy().into_owned()),
+        _ => None,
+    });
+    normal.collect()
+}
+
+/// The ends of these ways, of more than so many names, that are all different, where there are such.
+fn apart(ways: &[Vec<String>], than: usize) -> Option<Vec<String>> {
+    let longest = ways.iter().map(Vec::len).max().unwrap_or(0);
+    let ends = |count: usize| -> Vec<String> {
+        let end = |way: &Vec<String>| way[way.len().saturating_sub(count)..].join("/");
+        ways.iter().map(end).collect()
+    };
+    let mut ends = (than + 1..=longest).map(ends);
+    ends.find(|ends| ends.iter().collect::<BTreeSet<&String>>().len() == ends.len())
 }
 
 /// What is said, with the words that the names file settles.

@@ -36,6 +36,7 @@ pub fn run(args: &[OsString]) -> u8 {
     let shown = |text: String| printed(text.as_bytes(), Status::Yes).code();
     match args::read(args) {
         Ok(Args::Help(command)) => shown(command.map_or(help::all(), help::of)),
+        Ok(Args::HelpOfCompletions) => shown(help::of_completions()),
         Ok(Args::Version) => shown(format!("{}\n", given::versions().replacen(", ", "\n", 1))),
         Ok(Args::Completions(shell)) => shown(completions::of(shell)),
         Ok(Args::Do(command, files, options)) => done(command, &files, *options),

@@ -32,7 +32,9 @@ pub(super) fn with_ending(file: &Path, ending: &str) -> PathBuf {
 
 /// Where a file stands, also one that is not there: its folder, as the system names it, and its name in it.
 pub(super) fn place(path: &Path) -> Option<(PathBuf, OsString)> {
-    let folder = path.parent().filter(|folder| !folder.as_os_str().is_empty());
+    let folder = path
+        .parent()
+        .filter(|folder| !folder.as_os_str().is_empty());
     let folder = fs::canonicalize(folder.unwrap_or(Path::new("."))).ok()?;
     Some((folder, path.file_name()?.into()))
 }

@@ -19,6 +19,7 @@ fn input(entries: Vec<Entry>) -> Input {
         sort: Sort::Description,
         bytes: encode(&entries),
         sent: entries.len(),
+        stored: None,
         entries,
         names: Names::default(),
         positions: Vec::new(),

@@ -180,6 +180,7 @@ fn input(entries: &[reference::Entry]) -> Input {
         sort: Sort::Description,
         bytes: encode(&entries),
         sent: entries.len(),
+        stored: None,
         entries,
         names: Names::default(),
         positions: Vec::new(),

@@ -109,6 +109,32 @@ fn help_keeps_to_80_columns() {
 }
 
 #[test]
+fn completions_have_help() {
+    let folder = Folder::new("completions-help");
+    let help = folder.gx(&["completions", "--help"]);
+    assert_eq!((help.status, help.err.as_str()), (0, ""));
+    assert!(help
+        .text()
+        .contains("usage: gx completions bash|zsh|fish\n"));
+    assert!(help.text().lines().all(|line| line.chars().count() <= 80));
+    assert_eq!(help, folder.gx(&["help", "completions"]));
+    assert_eq!(help, folder.gx(&["completions", "-h"]));
+}
+
+/// What is one answer about many files is written into one file, and the help says so.
+#[test]
+fn one_answer_in_one_file() {
+    let folder = Folder::new("help-one");
+    for command in ["hierarchy", "doubles", "desk"] {
+        let help = folder.gx(&[command, "--help"]).text();
+        assert!(help.contains("--html FILE"), "{help}");
+        assert!(!help.contains("into this folder"), "{help}");
+    }
+    let help = folder.gx(&["catalogue", "--help"]).text();
+    assert!(help.contains("into this folder"), "{help}");
+}
+
+#[test]
 fn completions_have_each_command_and_option() {
     let folder = Folder::new("completions");
     for shell in ["bash", "zsh", "fish"] {

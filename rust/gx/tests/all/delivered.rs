@@ -180,6 +180,26 @@ fn refused_and_mistaken() {
     }
 }
 
+/// Blocks of which it is said how many items they have are a record's, and so are those of a file that ends so.
+#[test]
+fn in_blocks() {
+    let folder = Folder::new("delivered-blocks");
+    folder.put("r.txt", "record of 6 items\nitem 1 link 1 item 6");
+    folder.gx(&["write", "r.txt", "-o", "r.blocks"]);
+    folder.put("r.record", folder.get("r.blocks"));
+    let due = "accepted: a record of 6 items, 1 entry in 1 block\n";
+    for file in ["r.blocks", "r.record"] {
+        is(&folder.gx(&["check", file, "--items", "6"]), 0, due);
+        let shown = folder.gx(&["show", file, "--items", "6"]);
+        is(&shown, 0, "record of 6 items\nitem 1 link 1 item 6\n");
+        let written = folder.gx(&["write", file, "--items", "6"]);
+        assert_eq!((written.status, &written.out), (0, &folder.get("r.blocks")));
+    }
+    let ran = folder.gx(&["check", "r.record"]);
+    assert!(ran.err.contains("--items N does"), "{}", ran.err);
+    assert!(folder.gx(&["--help"]).text().contains(".record"));
+}
+
 /// A drawn record of so many items.
 fn drawn(chance: &mut Chance, items: usize) -> Vec<Entry> {
     let count = 1 + chance.below(40);

@@ -270,7 +270,6 @@ fn limits() {
             &["back", "x"],
             "gx: back takes a number from 1 to 65,535, and 'x' is given\n",
         ),
-
         (
             &["take-off", "2"],
             "gx: take-off takes nothing after it, and '2' is given\n",

@@ -1,5 +1,7 @@
 //! Services from general to special: files, folders and lists, good and bad, what programs get, and the drawing.
 
+use std::process::Command;
+
 use differential::chance::Chance;
 use differential::derived::{missed, weaker};
 use gx::library::{self, Compared};
@@ -355,4 +357,45 @@ sealed.blocks
 with-core.blocks
 ";
     is(&ran, 0, due);
+}
+
+/// Files of one name are told apart by as much of the way to them as is needed, and files of other names by their names.
+#[test]
+fn of_one_name() {
+    let folder = Folder::new("hierarchy-alike");
+    for at in ["old/a", "new/a", "old/b"] {
+        std::fs::create_dir_all(folder.path().join(at)).unwrap();
+    }
+    folder
+        .put("c", "1,7")
+        .put("old/a/any.txt", "1,7")
+        .put("new/a/any.txt", "1,7")
+        .put("old/b/other.txt", "1,8");
+    let files = ["old/a", "new/a", "old/b"];
+    let ran = folder.gx(&[&["hierarchy"], &files[..]].concat());
+    let due = "3 services in 2 classes\n\nold/a/any.txt = new/a/any.txt\nother.txt\n";
+    is(&ran, 0, due);
+    let ran = folder.gx(&[&["doubles"], &files[..]].concat());
+    let due = "3 descriptions, 2 meanings\n\nold/a/any.txt = new/a/any.txt\nno double: other.txt\n";
+    is(&ran, 0, due);
+    let ran = folder.gx(&[&["catalogue", "c"], &files[..], &["--html", "out"]].concat());
+    let due = "old/a/any.txt: contained\nnew/a/any.txt: contained\nother.txt: not contained\n";
+    is(&ran, 1, due);
+    assert!(folder.path().join("out/new/a/any.txt.html").exists());
+    // Where the ways that are given do not tell them apart, those of the system do.
+    let script = "cd new && mkdir -p a/b && cp a/any.txt a/b && exec \"$0\" hierarchy a/any.txt ../old/a/any.txt ../new/a/b/any.txt";
+    let within = |script: &str| {
+        let ran = Command::new("bash")
+            .args(["-c", script, env!("CARGO_BIN_EXE_gx")])
+            .current_dir(folder.path())
+            .output();
+        String::from_utf8(ran.unwrap().stdout).unwrap()
+    };
+    let due = "\na/any.txt = old/a/any.txt = a/b/any.txt\n";
+    assert!(within(script).contains(due), "{}", within(script));
+    let script = "cd new && exec \"$0\" hierarchy a/any.txt ../a/any.txt";
+    std::fs::create_dir_all(folder.path().join("a")).unwrap();
+    folder.put("a/any.txt", "1,7");
+    let due = "\nnew/a/any.txt = hierarchy-alike/a/any.txt\n";
+    assert!(within(script).contains(due), "{}", within(script));
 }

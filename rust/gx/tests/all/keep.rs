@@ -79,7 +79,7 @@ fn pairs_a_dictionary_and_folders() {
         .put("services/c.txt", "1,9");
     let with = ["--pairs", "lab.pairs", "--dictionary", "lab.dictionary"];
     let ran = folder.gx(&[&["keep", "named", "services"], &with[..]].concat());
-    let due = "a.txt: contained; 1 of 2 entries earn it\nb.txt: contained; 1 of 2 entries earn it\nc.txt: not contained: no entry earns a yes\n";
+    let due = "a.txt: contained; 1 of 2 entries earns it\nb.txt: contained; 1 of 2 entries earns it\nc.txt: not contained: no entry earns a yes\n";
     is(&ran, 1, due);
 }
 
@@ -135,4 +135,16 @@ fn as_the_reference() {
             assert!(contained(&folder.get("kept"), &d));
         }
     }
+}
+
+#[test]
+fn one_entry() {
+    let folder = Folder::new("keep-one");
+    let full: Vec<String> = (1..=1008).map(|name| format!("1,{name}")).collect();
+    folder.put("one", "1,7").put("full", full.join("; "));
+    let ran = folder.gx(&["keep", "one", "one"]);
+    assert!(ran.text().starts_with("contained; 1 of 1 entry earns it\n"));
+    let ran = folder.gx(&["keep", "full", "full"]);
+    let due = "contained; 1,008 of 1,008 entries earn it\n";
+    assert!(ran.text().starts_with(due), "{}", ran.text());
 }

@@ -27,6 +27,7 @@ fn unreadable() -> Input {
         sort: Sort::Description,
         bytes: blocks::encode(&entries),
         sent: 1,
+        stored: None,
         entries,
         names,
         positions: Vec::new(),

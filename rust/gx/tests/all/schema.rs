@@ -149,6 +149,9 @@ fn each_answer_for_programs_is_one_of_the_schema() {
         .put("p.pairs", "sealed excludes property 8")
         .put("l", "services: [1,7]; []")
         .put("x.dictionary", "[1,7]; [9,1; 3,1,1]");
+    folder.gx(&[
+        "write", "t", "--names", "n", "--to", "stored", "-o", "d.stored",
+    ]);
     let with = ["--names", "n", "--dictionary", "x.dictionary", "--json"];
     let mut answers = Vec::new();
     for args in [
@@ -181,7 +184,11 @@ fn each_answer_for_programs_is_one_of_the_schema() {
         &["delivered", "record", "d"],
         &["check", "record"],
         &["desk", "desk", "add", "1,7", "--against", "services"],
-        &["desk", "desk", "show"],
+        &["desk", "desk", "show", "--against", "services"],
+        &["desk", "desk", "write"],
+        &["desk", "desk", "stand", "x"],
+        &["desk", "desk", "stand", "0"],
+        &["check", "d.stored"],
         &["doubles", "c", "d", "c"],
         &["catalogue", "c", "d", "e", "refused", "--why"],
         &["hierarchy", "c", "d", "c"],

@@ -41,6 +41,38 @@ fn there_and_back() {
     assert_eq!((ran.status, ran.out.len()), (0, 512));
 }
 
+/// What is checked is told by the blocks that were read, and what is written by those that were written.
+#[test]
+fn counted() {
+    let folder = Folder::new("stored-counted");
+    let full: Vec<String> = (1..=1008).map(|name| format!("1,{name}")).collect();
+    folder.put("d.txt", full.join("; "));
+    folder.gx(&["write", "d.txt", "--to", "stored", "-o", "d.stored"]);
+    folder.gx(&["write", "d.txt", "-o", "d.blocks"]);
+    let ran = folder.gx(&["check", "d.txt", "d.blocks", "d.stored"]);
+    let due = "\
+d.txt: accepted: a description of 1,008 entries in 16 blocks
+d.blocks: accepted: a description of 1,008 entries in 16 blocks
+d.stored: accepted: a description of 1,008 entries in 12 blocks in the stored form
+";
+    is(&ran, 0, due);
+    let ran = folder.gx(&["check", "d.stored", "--json"]);
+    let due = "{\"answer\":\"accepted\",\"sort\":\"description\",\"entries\":1008,\"blocks\":12,\"form\":\"stored\"}\n";
+    is(&ran, 0, due);
+    let ran = folder.gx(&["write", "d.txt", "d.blocks", "--to", "stored", "-o", "out"]);
+    let due = "\
+d.txt: a description of 1,008 entries in 12 blocks in the stored form
+d.blocks: a description of 1,008 entries in 12 blocks in the stored form
+";
+    is(&ran, 0, due);
+    let ran = folder.gx(&["write", "d.stored", "d.txt", "-o", "out"]);
+    let due = "\
+d.stored: a description of 1,008 entries in 16 blocks
+d.txt: a description of 1,008 entries in 16 blocks
+";
+    is(&ran, 0, due);
+}
+
 /// Drawn ones: as the reference stores them, and the same blocks where entries stand in walking order.
 #[test]
 fn as_the_reference() {

@@ -82,6 +82,7 @@ fn asked(context: &Context, files: [&Path; 2]) -> Result<Narrowest, Trouble> {
         title: "the narrowest description".into(),
         sort: Sort::Description,
         sent: entries.len(),
+        stored: None,
         entries,
         bytes: blocks,
         names,
