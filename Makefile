@@ -98,6 +98,14 @@ outside: lib gx $(PROGRAM)
 	test "$$(target/c/delivered | paste -s -d,)" = "item 1 fits,item 2 does not fit,item 3 does not fit"
 	$(CC) $(CFLAGS) examples/failing.c target/staticlib/libcapi.a -o target/c/failing
 	test "$$(cd examples && ../target/c/failing supplier.blocks services/sealed.blocks | paste -s -d,)" = "entry 2 fails"
+	$(CC) $(CFLAGS) examples/earning.c target/staticlib/libcapi.a -o target/c/earning
+	test "$$(cd examples && ../target/c/earning supplier.blocks services/*.blocks pair.blocks | paste -s -d,)" = \
+		"services/few-cores.blocks: contained, by 1 3,services/sealed.blocks: not contained,services/with-core.blocks: contained, by 1 2,pair.blocks: refused 3 input 2 place 1"
+	$(CC) $(CFLAGS) examples/stored.c target/staticlib/libcapi.a -o target/c/stored
+	test "$$(cd target/c && { ./stored to ../../examples/supplier.blocks supplier.stored; ./stored from supplier.stored supplier.back; \
+		./stored from ../../examples/supplier.blocks refused; } | paste -s -d,)" = \
+		"3 entries: 1 blocks, 1 stored,3 entries: 1 blocks, 1 stored,refused 3 place 1"
+	cmp target/c/supplier.back examples/supplier.blocks
 	$(CC) $(CFLAGS) examples/sheet.c target/staticlib/libcapi.a -o target/c/sheet
 	test "$$(cd examples && ../target/c/sheet supplier.blocks pair.blocks | paste -s -d,)" = \
 		"supplier.blocks: field sheet of 3 entries,pair.blocks: refused 3 place 1"
