@@ -224,6 +224,7 @@ fn counted(unmet: &[Option<Unmet>]) -> String {
         (1, 1) => "the item fits".into(),
         (0, 1) => "the item does not fit".into(),
         (fit, all) if fit == all => format!("all {all} items fit"),
+        (1, all) => format!("1 of {all} items fits"),
         (fit, all) => format!("{fit} of {all} items fit"),
     }
 }

@@ -37,12 +37,14 @@ pub(super) fn earned(supplier: &Input, marks: &[bool]) -> String {
     let count = words::entries(supplier.entries.len());
     match numbers.len() {
         0 => "\nNone of the supplier's entries is needed for it.\n".into(),
+        1 if supplier.entries.len() == 1 => "\nIts one entry is needed for it.\n".into(),
         _ if numbers.len() == supplier.entries.len() => {
             format!("\nAll its {count} are needed for it.\n")
         }
         1 => format!("\nOf its {count} one earns it: {}.\n", numbers[0]),
         some => format!(
-            "\nOf its {count} {some} earn it: {}. {ONE_SET}\n",
+            "\nOf its {count} {} earn it: {}. {ONE_SET}\n",
+            words::grouped(some as u32),
             words::listed(&numbers)
         ),
     }

@@ -95,7 +95,7 @@ const CATALOGUE: &str = "\
 Answers for each service whether every item that fits the supplier's description fits the service's: a line with its file name, and
 'contained' or 'not contained'. 'gx compare' explains a no. Services are files, folders of files, or one file that is a list: the
 blocks of up to 64 services laid end to end, where each block numbered 1 begins one, or a text of them. A service that is refused stops none of the
-others. The library is asked once for 64 services. With --pairs and --dictionary the answers are those of 'gx compare' with them.
+others. Files of one name are told apart by as much of the way to them as is needed. The library is asked once for 64 services. With --pairs and --dictionary the answers are those of 'gx compare' with them.
 --why tells of each no which entry fails first; --only contained tells the services alone that contain the description; with --any
 one such service is enough for a yes. --html writes a page with a table, index.html in that folder, in which each service leads to a
 page of its own.

@@ -96,6 +96,7 @@ fn headed(sheet: Checked<'_>) -> (String, String) {
     );
     let (class, sign, says) = match fit == all {
         true => ("yes", "✓", format!("All {all} fit")),
+        false if fit == 1 => ("no", "✕", format!("1 of {all} fits")),
         false => ("no", "✕", format!("{fit} of {all} fit")),
     };
     let head = answer(class, sign, &says, &sentence);

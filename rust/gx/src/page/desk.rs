@@ -95,9 +95,10 @@ fn against(of: Drafted<'_>) -> String {
         )
     };
     let contain = of.against.iter().filter(|(_, is)| *is).count();
+    let says = if contain == 1 { "contains" } else { "contain" };
     let rows: String = of.against.iter().map(row).collect();
     format!(
-        "<section class=\"card\" id=\"against\">\n<h2>{contain} of {} contain it</h2>\n<table class=\"index\">\n\
+        "<section class=\"card\" id=\"against\">\n<h2>{contain} of {} {says} it</h2>\n<table class=\"index\">\n\
          <thead><tr><th></th><th>Service</th><th>Answer</th></tr></thead>\n<tbody>\n{rows}</tbody>\n</table>\n</section>\n",
         words::services(of.against.len())
     )

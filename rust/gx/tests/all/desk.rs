@@ -306,7 +306,7 @@ fn on_a_page() {
     for due in [
         "<h1 id=\"answer\">2 entries on the desk</h1>",
         "with stand 4 to return to.",
-        "<h2>1 of 2 services contain it</h2>",
+        "<h2>1 of 2 services contains it</h2>",
         "<td><bdi>b.txt</bdi></td><td>does not contain it</td>",
         "<li id=\"draft-2\">",
         "<h2 id=\"stand-4\">",

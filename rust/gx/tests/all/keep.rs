@@ -144,6 +144,8 @@ fn one_entry() {
     folder.put("one", "1,7").put("full", full.join("; "));
     let ran = folder.gx(&["keep", "one", "one"]);
     assert!(ran.text().starts_with("contained; 1 of 1 entry earns it\n"));
+    let ran = folder.gx(&["compare", "one", "one"]);
+    assert!(ran.text().ends_with("\nIts one entry is needed for it.\n"));
     let ran = folder.gx(&["keep", "full", "full"]);
     let due = "contained; 1,008 of 1,008 entries earn it\n";
     assert!(ran.text().starts_with(due), "{}", ran.text());
