@@ -164,10 +164,10 @@ A drafting desk: the file is its bytes, and where there is none the desk is empt
     drop N               drops stand N
     show                 the entries with their numbers, and the stands
     write                the description, in the form of --to, into --out
-and after it may stand a remark, which begins with //. Without one, steps are read from standard input, a line each. Each is one call of
+and after it may stand a remark, which begins with //. Where no step is given, they are read from standard input, a line each. Each is one call of
 the library; what it refuses alters nothing (16 full, 17 none to take off, 18 no such stand, 4, 5 and 6 as of any entry; a desk takes no
 dictionary, so 'named 2' is 4). The file is written whole or not at all, before more steps are waited for and before what they answer is
-told; FILE~ has the desk before the last step. While somebody works at it FILE.lock is there, which the system frees with the program.
+told; FILE~ has the desk before the last step. While somebody works at it FILE.lock is there and locked; the system frees it when the program ends, however that is.
 --against tells after each step, and where it is shown, which services of a folder contain the draft; --dictionary has the descriptions
 that these name. --html writes a page with the draft, these services, and what each stand keeps. A file that holds no desk is refused
 (20).

@@ -69,6 +69,10 @@ impl Run {
             }
         };
         said = said.max(self.settled(&mut kept));
+        if kept.unwritten {
+            // A page would show what no file has.
+            return said.code();
+        }
         let paged = self.paged(&kept).unwrap_or_else(|trouble| {
             self.print_trouble(&trouble, true);
             trouble.status()

@@ -110,6 +110,22 @@ fn on_a_full_disk_the_old_file_stands_whole() {
 }
 
 #[test]
+fn on_a_full_disk_the_desk_stands_whole() {
+    let folder = Folder::new("full-desk");
+    folder.gx(&["desk", "d", "add", "1,7"]);
+    let before = folder.get("d");
+    for (step, due) in [(&["add", "1,8"][..], "d~"), (&["show"], "page")] {
+        let step = [&["desk", "d"], step, &["--html", "page"]].concat();
+        let due = format!("gx: {due}: cannot be written: file too large\n");
+        assert_eq!(with_room(&folder, 1, &step), (2, due));
+        assert_eq!(folder.get("d"), before);
+        for none in ["d~", "d.lock", "page"] {
+            assert!(!folder.path().join(none).exists(), "{none}");
+        }
+    }
+}
+
+#[test]
 fn links_modes_and_devices_stay() {
     let folder = Folder::new("stay");
     folder.put("c", "1,7").put("target", "old");
