@@ -131,20 +131,20 @@
  *     gx_fit_with             68,904 bytes
  *     gx_normal_with          84,216 bytes
  *     gx_compare_with         97,976 bytes
- *     gx_narrowest           104,712 bytes
+ *     gx_narrowest           128,776 bytes
  *     gx_catalogue            95,232 bytes
  *     gx_hierarchy            50,840 bytes
- *     gx_earning              71,576 bytes
+ *     gx_earning              61,272 bytes
  *     gx_failing              46,680 bytes
- *     gx_missing             104,728 bytes
+ *     gx_missing              78,712 bytes
  *     gx_fit_all              66,712 bytes
  *     gx_to_stored            22,600 bytes
- *     gx_from_stored           8,264 bytes
- *     gx_desk_write            9,280 bytes
- *     other desk calls        1,296 bytes
+ *     gx_from_stored           8,280 bytes
+ *     gx_desk_write            9,272 bytes
+ *     other desk calls        1,288 bytes
  *
  * The library calls memset, memcpy and memmove; a program that binds them at their first call took up to 1,072 bytes more there. A
- * thread with 128 KiB of stack has room for each call.
+ * thread with 128 KiB of stack has room for each call but gx_narrowest, which wants one with 160 KiB.
  */
 #ifndef GOLTXIMEN_H
 #define GOLTXIMEN_H

@@ -24,7 +24,8 @@
 //! `k` entries take `512 * k.div_ceil(63).max(1)` bytes, `GX_BYTES(k)` of the C header: a call that writes `k` entries writes
 //! just those bytes, from the start of the output.
 //!
-//! A thread with 128 KiB of stack has room for each call; `include/goltximen.h` has what was measured.
+//! A thread with 128 KiB of stack has room for each call but the narrowest, which wants 160 KiB;
+//! `include/goltximen.h` has what was measured.
 //!
 //! ```
 //! use goltximen::{compare, Comparison};
